@@ -1,5 +1,5 @@
 #!/usr/bin/env python3
-"""Compares the program dwz_looks with a model of the tool that was written independently.
+"""Compares the program dwz_show_classes with a model of the tool that was written independently.
 
     tools/compare_looks.py MODEL [--sets N] [--changes K] [--first N] [PROGRAM]
 
@@ -77,7 +77,7 @@ def sets_of(random_files, options):
 def main():
     parser = argparse.ArgumentParser(description=__doc__, formatter_class=argparse.RawDescriptionHelpFormatter)
     parser.add_argument("model")
-    parser.add_argument("program", nargs="?", default=os.path.join(os.path.dirname(__file__), "../crates/dwz_looks/out/dwz_looks"))
+    parser.add_argument("program", nargs="?", default=os.path.join(os.path.dirname(__file__), "../crates/dwz_show_classes/out/dwz_show_classes"))
     parser.add_argument("--sets", type=int, default=4000)
     parser.add_argument("--changes", type=int, default=1)
     parser.add_argument("--first", type=int, default=0)

@@ -1,5 +1,5 @@
 #!/usr/bin/env python3
-"""Compares the program dwz_walk with a model of the tool that was written independently, over abbreviation tables inside one another.
+"""Compares the program dwz_show_entries with a model of the tool that was written independently, over abbreviation tables inside one another.
 
     tools/compare_tables.py MODEL [--files N] [--first N] [PROGRAM]
 
@@ -148,7 +148,7 @@ def random_file(seed):
 def main():
     parser = argparse.ArgumentParser(description=__doc__, formatter_class=argparse.RawDescriptionHelpFormatter)
     parser.add_argument("model")
-    parser.add_argument("program", nargs="?", default=os.path.join(os.path.dirname(__file__), "../crates/dwz_walk/out/dwz_walk"))
+    parser.add_argument("program", nargs="?", default=os.path.join(os.path.dirname(__file__), "../crates/dwz_show_entries/out/dwz_show_entries"))
     parser.add_argument("--files", type=int, default=20000)
     parser.add_argument("--first", type=int, default=0)
     options = parser.parse_args()

@@ -5,7 +5,8 @@
 
 N times two runs at once write to one OUT, each another file: afterwards OUT is as one of them writes it, nothing else is there, and each run ended with
 status 0, or with 4 where the other's temporary file was in its way. Then a file, and a link to a file, stand at the name of the temporary file: the run
-ends with status 4, and both are untouched. The last line is `wrong N`, and the status is 1 where N isn't 0. It belongs to no gate.
+ends with status 4, and both are untouched. Runs whose words, files or console are wrong end with the status of that. A new OUT has the mode of its FILE, a
+new COMMON the mode of any new file, and a FILE keeps its own. The last line is `wrong N`, and the status is 1 where N isn't 0. It belongs to no gate.
 """
 
 import argparse
@@ -68,6 +69,40 @@ def in_the_way(program, folder, place_it):
     return is_well
 
 
+def statuses(program, folder):
+    """For each run what it is, the status that it has to end with, and that with which it ended."""
+    put(os.path.join(folder, "text"), b"no ELF file")
+    runs = (
+        ("a demonstration", ["--demo", "2"], os.devnull, 0),
+        ("a file that isn't handled", ["text"], os.devnull, 1),
+        ("no words", [], os.devnull, 2),
+        ("a file that isn't there", ["three"], os.devnull, 3),
+        ("OUT in no folder", ["-o", "none/out", "one"], os.devnull, 4),
+        ("a console that is full", ["--demo", "2"], "/dev/full", 6),
+    )
+    for what, words, console, expected in runs:
+        with open(console, "wb") as out:
+            yield what, expected, subprocess.run([program, *words], cwd=folder, stdout=out, check=False).returncode
+    os.remove(os.path.join(folder, "text"))
+
+
+def modes(program, folder):
+    """For each file that is written what it is, the mode that it has to have, and its mode."""
+    def mode_of(name):
+        return os.stat(os.path.join(folder, name)).st_mode & 0o777
+
+    put(os.path.join(folder, "any"), b"")
+    for name in ("one", "two"):
+        os.chmod(os.path.join(folder, name), 0o751)
+    for words in (["-o", "new", "one"], ["-m", "common", "one", "two"]):
+        subprocess.run([program, "-q", *words], cwd=folder, check=True)
+    return (
+        ("a new OUT", 0o751, mode_of("new")),
+        ("a new COMMON", mode_of("any"), mode_of("common")),
+        ("a FILE with COMMON", 0o751, mode_of("one")),
+    )
+
+
 def main():
     parser = argparse.ArgumentParser(description=__doc__, formatter_class=argparse.RawDescriptionHelpFormatter)
     parser.add_argument("--program", default=os.path.join(os.path.dirname(__file__), "../crates/dwz/out/dwz"))
@@ -84,6 +119,12 @@ def main():
             is_well = in_the_way(program, folder, place_it)
             print("%s at the name of the temporary file: %s" % (what, "untouched, status 4" if is_well else "WRONG"))
             wrong += not is_well
+        for what, expected, status in statuses(program, folder):
+            print("%s: status %d%s" % (what, status, "" if status == expected else ", WRONG"))
+            wrong += status != expected
+        for what, expected, mode in modes(program, folder):
+            print("%s: mode %o%s" % (what, mode, "" if mode == expected else ", WRONG"))
+            wrong += mode != expected
     print("wrong %d" % wrong)
     return 1 if wrong else 0
 

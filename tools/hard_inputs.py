@@ -22,7 +22,7 @@ SIBLING, NAME, BYTE_SIZE, ENCODING, FIRST_USER_NAME = 0x01, 0x03, 0x0B, 0x3E, 0x
 ADDR, STRING, DATA1, IMPLICIT_CONST = 0x01, 0x08, 0x0B, 0x21
 COMPILE_UNIT, BASE_TYPE, VARIABLE, FIRST_USER_TAG = 0x11, 0x24, 0x34, 0x4080
 
-# How a shape is hashed (dwz_tables): from 0 on, for each word the exclusive or with it, times this, of which 64 bits stay.
+# How a shape is hashed (dwz_layout): from 0 on, for each word the exclusive or with it, times this, of which 64 bits stay.
 STEP, MASK = 0x9E3779B97F4A7C15, (1 << 64) - 1
 
 

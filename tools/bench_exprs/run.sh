@@ -6,14 +6,14 @@ top=$(cd "$here/../.." && pwd)
 copy=${1:-$(mktemp -d)}
 mkdir -p "$copy/crates"
 cp "$top/HANDLES" "$copy/"
-for crate in dwz_model dwz_bytes dwz_codes dwz_docs dwz_meanings dwz_expr; do
+for crate in dwz_model dwz_bytes dwz_codes dwz_def_reading dwz_expr; do
     (cd "$top/crates" && tar cf - --exclude=out "$crate") | tar xf - -C "$copy/crates"
     grep "^$crate[ :]" "$top/crates.txt"
 done > "$copy/crates.txt"
 bench=$copy/crates/bench_exprs
 mkdir -p "$bench/src"
 cp "$here/main.rt.txt" "$bench/src/main.rt"
-echo "bench_exprs: dwz_model dwz_meanings dwz_expr" >> "$copy/crates.txt"
+echo "bench_exprs: dwz_model dwz_def_reading dwz_expr" >> "$copy/crates.txt"
 python3 "$here/make.py" 1000000 "$bench"
 cd "$copy"
 [ -d .git ] || git init -q

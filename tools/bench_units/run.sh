@@ -6,7 +6,7 @@ top=$(cd "$here/../.." && pwd)
 copy=${1:-$(mktemp -d)}
 mkdir -p "$copy/crates"
 cp "$top/HANDLES" "$copy/"
-for crate in dwz_model dwz_bytes dwz_codes dwz_docs dwz_forms dwz_abbrev dwz_unit; do
+for crate in dwz_model dwz_bytes dwz_codes dwz_def_reading dwz_forms dwz_abbrev dwz_unit; do
     (cd "$top/crates" && tar cf - --exclude=out "$crate") | tar xf - -C "$copy/crates"
     grep "^$crate[ :]" "$top/crates.txt"
 done > "$copy/crates.txt"

@@ -4,7 +4,7 @@ use Rattle.std.specs.Prelude.{All}
 use Rattle.std.proofs.lemmas.List.Elements.{All-push}
 use Rattle.std.proofs.lemmas.List.Quantifiers.{all_pairs_push}
 use Rattle.dwz_model.specs.declared.place.Pair.{Pair}
-use Rattle.dwz_docs.specs.Abbrevs.{Declaration, FitsDeclaration, FitsPair, FitsTable, IsCounted, IsPlainPair}
+use Rattle.dwz_def_reading.specs.Abbrevs.{Declaration, FitsDeclaration, FitsPair, FitsTable, IsCounted, IsPlainPair}
 use Rattle.dwz_abbrev.specs.Ranges.{IsInRange}
 
 -- the next code is above the others

@@ -7,10 +7,10 @@ use Rattle.std.specs.Ordering.{nat_cmp}
 use Rattle.std.specs.BTreeMap.{BTreeMap, get}
 use Rattle.std.proofs.lemmas.Bool.{eq-eqb, eqb-true, ltb-true, ltb-false, ne_eqb}
 use Rattle.std.proofs.lemmas.Option.{get_or_from_slice_get, slice_get_within}
-use Rattle.dwz_docs.specs.Abbrevs.{Declaration, find_decl}
-use Rattle.dwz_docs.proofs.FitLemmas.{none_found}
-use Rattle.dwz_docs.proofs.ListFacts.{got_map}
-use Rattle.dwz_docs.proofs.OrderLemmas.{AllPairs-behind, AllPairs-first}
+use Rattle.dwz_def_reading.specs.Abbrevs.{Declaration, find_decl}
+use Rattle.dwz_def_reading.proofs.FitLemmas.{none_found}
+use Rattle.dwz_def_reading.proofs.ListFacts.{got_map}
+use Rattle.dwz_def_reading.proofs.OrderLemmas.{AllPairs-behind, AllPairs-first}
 use Rattle.dwz_abbrev.specs.declared.decl.Decl.{Decl}
 use Rattle.dwz_abbrev.specs.Places.{IsIndexed, or_else, place_behind, stored_decl, stored_decl_behind}
 use Rattle.dwz_abbrev.specs.Views.{decl_view, views}

@@ -10,16 +10,16 @@ use Rattle.std.proofs.lemmas.Option.{slice_get_within}
 use Rattle.dwz_model.specs.declared.fault.Fault.{Fault}
 use Rattle.dwz_bytes.specs.Input.{Input, input}
 use Rattle.dwz_bytes.specs.Reading.{◌>>=◌}
-use Rattle.dwz_docs.specs.Abbrevs.{Declaration, EndsTable, FitsDeclaration, FitsTable, IsDeclared, declaration_at, declarations_at, find_decl, table_at}
-use Rattle.dwz_docs.specs.Abbrevs.{table_of}
-use Rattle.dwz_docs.specs.Faults.{bad_abbrev}
-use Rattle.dwz_docs.specs.Lists.{SpellsItems}
-use Rattle.dwz_docs.proofs.AbbrevLemmas.{decl_laws}
-use Rattle.dwz_docs.proofs.FindLemmas.{found_behind}
-use Rattle.dwz_docs.proofs.FitLemmas.{decl_fits, none_has}
-use Rattle.dwz_docs.proofs.ListLemmas.{Input_at, items_again}
-use Rattle.dwz_docs.proofs.PartLemmas.{bind_ok}
-use Rattle.dwz_docs.proofs.TableLemmas.{table_found}
+use Rattle.dwz_def_reading.specs.Abbrevs.{Declaration, EndsTable, FitsDeclaration, FitsTable, IsDeclared, declaration_at, declarations_at, find_decl, table_at}
+use Rattle.dwz_def_reading.specs.Abbrevs.{declarations_read}
+use Rattle.dwz_def_reading.specs.Faults.{bad_abbrev}
+use Rattle.dwz_def_reading.specs.Items.{SpellsItems}
+use Rattle.dwz_def_reading.proofs.AbbrevLemmas.{decl_laws}
+use Rattle.dwz_def_reading.proofs.FindLemmas.{found_behind}
+use Rattle.dwz_def_reading.proofs.FitLemmas.{decl_fits, none_has}
+use Rattle.dwz_def_reading.proofs.ListLemmas.{Input_at, items_again}
+use Rattle.dwz_def_reading.proofs.PartLemmas.{bind_ok}
+use Rattle.dwz_def_reading.proofs.TableLemmas.{table_found}
 use Rattle.dwz_abbrev.specs.Starts.{HaveOtherCodes, Reach}
 use Rattle.dwz_abbrev.specs.Written.{Differ}
 
@@ -81,7 +81,7 @@ read_behind : (section : List ℕ) (place : ℕ) (own others : List Declaration)
     → (j : Input) × (declarations_at own (input section place) ≡ Ok (own ++ others, j))
 unfolding table_at
 read_behind section place own others read apart =
-    let b = bind_ok (declarations_at [] (input section place)) table_of others read in
+    let b = bind_ok (declarations_at [] (input section place)) declarations_read others read in
     let r = table_found (input section place) b.0.1 b.0.0 b.1 in
     let same : b.0.0 ≡ others = cc in
     let spelled : SpellsItems IsDeclared EndsTable [] others r.front = subst (λ (t : List Declaration). SpellsItems IsDeclared EndsTable [] t r.front) same r.spelled in
@@ -98,7 +98,7 @@ pub followed : (section : List ℕ) (at place : ℕ) (own others : List Declarat
 unfolding table_at
 followed section at place own others same read apart =
     let behind = read_behind section place own others read apart in
-    ap (λ (r : Result (List Declaration × Input) Fault). r >>= table_of) (sym same ∙ behind.1)
+    ap (λ (r : Result (List Declaration × Input) Fault). r >>= declarations_read) (sym same ∙ behind.1)
 
 -- from each of its places on, it is what stands behind
 pub each_followed : (section : List ℕ) (place : ℕ) (own others : List Declaration) (starts : List ℕ) → Reach section own starts (input section place) → table_at section place ≡ Ok others

@@ -6,9 +6,9 @@ use Rattle.std.specs.Ordering.{nat_cmp}
 use Rattle.std.specs.BTreeMap.{BTreeMap, get}
 use Rattle.std.proofs.lemmas.Bool.{cases_eq, eq-eqb, ne_eqb}
 use Rattle.std.proofs.lemmas.List.{map_push}
-use Rattle.dwz_docs.proofs.FindLemmas.{last_found}
-use Rattle.dwz_docs.specs.Abbrevs.{Declaration, find_decl}
-use Rattle.dwz_docs.proofs.ListFacts.{get_last}
+use Rattle.dwz_def_reading.proofs.FindLemmas.{last_found}
+use Rattle.dwz_def_reading.specs.Abbrevs.{Declaration, find_decl}
+use Rattle.dwz_def_reading.proofs.ListFacts.{get_last}
 use Rattle.dwz_abbrev.specs.declared.decl.Decl.{Decl}
 use Rattle.dwz_abbrev.specs.Places.{IsIndexed, Stores, decl_in, or_else, stored_decl}
 use Rattle.dwz_abbrev.specs.Views.{decl_view, views}

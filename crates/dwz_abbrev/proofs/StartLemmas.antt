@@ -7,12 +7,12 @@ use Rattle.std.proofs.lemmas.List.{drop-append-le, drop-drop, length_push}
 use Rattle.std.proofs.lemmas.Option.{slice_get_within}
 use Rattle.dwz_bytes.specs.Input.{Input, input}
 use Rattle.dwz_bytes.proofs.LebLemmas.{drop-front}
-use Rattle.dwz_docs.specs.Abbrevs.{Declaration, EndsTable, IsDeclared, declaration_at, declarations_at, find_decl}
-use Rattle.dwz_docs.specs.Faults.{bad_abbrev}
-use Rattle.dwz_docs.proofs.AbbrevLemmas.{decl_laws}
-use Rattle.dwz_docs.proofs.ListFacts.{get_last}
-use Rattle.dwz_docs.proofs.ListLemmas.{Input_at, step_some}
-use Rattle.dwz_docs.proofs.TableLemmas.{table_end}
+use Rattle.dwz_def_reading.specs.Abbrevs.{Declaration, EndsTable, IsDeclared, declaration_at, declarations_at, find_decl}
+use Rattle.dwz_def_reading.specs.Faults.{bad_abbrev}
+use Rattle.dwz_def_reading.proofs.AbbrevLemmas.{decl_laws}
+use Rattle.dwz_def_reading.proofs.ListFacts.{get_last}
+use Rattle.dwz_def_reading.proofs.ListLemmas.{Input_at, step_some}
+use Rattle.dwz_def_reading.proofs.TableLemmas.{table_end}
 use Rattle.dwz_abbrev.specs.Starts.{AreStarts, Reach}
 use Rattle.dwz_abbrev.proofs.PlaceLemmas.{slice_get_old}
 

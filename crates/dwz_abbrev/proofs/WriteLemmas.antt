@@ -13,8 +13,8 @@ use Rattle.std.proofs.lemmas.List.Elements.{All-cons, All-head, All-nil, All-tai
 use Rattle.std.proofs.lemmas.Bool.{le-ltb, lt-ltb}
 use Rattle.std.proofs.lemmas.List.{at_drop_all, at_drop_more, drop-map, drop_all, drop_more, length-take, take-take}
 use Rattle.dwz_model.specs.declared.place.Pair.{Pair}
-use Rattle.dwz_docs.specs.Abbrevs.{Declaration, by_code, declaration_bytes, insert_decl, pair_bytes, pairs_bytes, table_bytes}
-use Rattle.dwz_docs.proofs.OrderLemmas.{All-by_code, AllPairs-behind, AllPairs-first}
+use Rattle.dwz_def_reading.specs.Abbrevs.{Declaration, by_code, declaration_bytes, insert_decl, pair_bytes, pairs_bytes, table_bytes}
+use Rattle.dwz_def_reading.proofs.OrderLemmas.{All-by_code, AllPairs-behind, AllPairs-first}
 use Rattle.dwz_abbrev.specs.declared.decl.Decl.{Decl}
 use Rattle.dwz_abbrev.specs.Views.{decl_view, lent_views, views}
 use Rattle.dwz_abbrev.specs.Written.{Begins, Differ}

@@ -3,7 +3,7 @@ use Rattle.std.specs.Prelude.{◌≡◌, ◌≢◌, ◌⊎◌, ℕ, ◌+◌, ◌
 use Rattle.std.specs.Option.{option_and_then, option_map}
 use Rattle.std.specs.Ordering.{nat_cmp}
 use Rattle.std.specs.BTreeMap.{BTreeMap, get}
-use Rattle.dwz_docs.specs.Abbrevs.{find_decl}
+use Rattle.dwz_def_reading.specs.Abbrevs.{find_decl}
 use Rattle.dwz_abbrev.specs.declared.decl.Decl.{Decl}
 use Rattle.dwz_abbrev.specs.Views.{decl_view, views}
 

@@ -2,7 +2,7 @@
 use Rattle.std.specs.Prelude.{◌≡◌, ℕ, All, List, [], length, drop, Option, Some, None, Ok, slice_get}
 use Rattle.std.specs.Borrow.{Bor}
 use Rattle.dwz_bytes.specs.Input.{Input, input}
-use Rattle.dwz_docs.specs.Abbrevs.{Declaration, declarations_at, find_decl, table_at}
+use Rattle.dwz_def_reading.specs.Abbrevs.{Declaration, declarations_at, find_decl, table_at}
 
 -- each declaration begins at its place, and the table there is the declaration and those behind it
 pub record AreStarts (section : List ℕ) (table : List Declaration) (starts : List ℕ) : Type 0 where

@@ -1,7 +1,7 @@
 -- Declarations in memory.
 use Rattle.std.specs.Prelude.{List, map}
 use Rattle.std.specs.Borrow.{Bor}
-use Rattle.dwz_docs.specs.Abbrevs.{Declaration}
+use Rattle.dwz_def_reading.specs.Abbrevs.{Declaration}
 use Rattle.dwz_abbrev.specs.declared.decl.Decl.{Decl}
 
 -- what a declaration says

@@ -1,6 +1,6 @@
 -- What is written so far.
 use Rattle.std.specs.Prelude.{◌≡◌, ◌≢◌, ℕ, List, length, take}
-use Rattle.dwz_docs.specs.Abbrevs.{Declaration}
+use Rattle.dwz_def_reading.specs.Abbrevs.{Declaration}
 
 -- the first bytes are those that were there
 abbrev pub Begins : List ℕ → List ℕ → Type 0

@@ -2,8 +2,8 @@
 
 ghost use Rattle.std.specs.Prelude.{◌≡◌, [], IfErr, IfOk, IfSome, true};
 ghost use Rattle.std.specs.Option.{option_map};
-ghost use Rattle.dwz_docs.specs.Abbrevs.{FitsTable, constant_at, declaration_at, pair_at, pairs_at, table_at};
-ghost use Rattle.dwz_docs.specs.Faults.{Answers, AnswersAt, Fails, bad_abbrev};
+ghost use Rattle.dwz_def_reading.specs.Abbrevs.{FitsTable, constant_at, declaration_at, pair_at, pairs_at, table_at};
+ghost use Rattle.dwz_def_reading.specs.Faults.{Answers, AnswersAt, Fails, bad_abbrev};
 ghost use Rattle.dwz_model.specs.declared.fault.ReadErr.TheVariants.{Refused};
 ghost use Rattle.dwz_abbrev.specs.Starts.{IsReadUpTo, IsStop};
 ghost use Rattle.dwz_abbrev.specs.Views.{decl_view};
@@ -12,11 +12,8 @@ use crate::decl::{Decl, IMPLICIT_CONST};
 use crate::rows::Rows;
 use crate::table::{ReadTable, Table};
 use dwz_bytes::Cursor;
-use dwz_model::{Fault, Pair, Pairs, ReadErr, Reason};
+use dwz_model::{DEBUG_ABBREV, Fault, Pair, Pairs, ReadErr, Reason};
 use std::alloc::Global;
-
-// The section `.debug_abbrev` in faults.
-const ABBREV: u8 = 2;
 
 // The declaration at a place is bad.
 #[inline(always)]
@@ -24,7 +21,7 @@ fn bad(start: usize) -> ReadErr
     ensures { result ≡ Refused (bad_abbrev start) }
 {
     ReadErr::Refused(Fault {
-        section: ABBREV,
+        section: DEBUG_ABBREV,
         at: start as u64,
         reason: Reason::BadAbbrev,
     })
@@ -44,7 +41,7 @@ fn constant(start: usize, form: u64, cursor: &mut Cursor) -> Result<i64, ReadErr
 
 // A pair, or their end, in the declaration at `start`.
 #[inline(always)]
-#[tactic(auto, unfolding(dwz_docs::specs::Abbrevs::pair_at))]
+#[tactic(auto, unfolding(dwz_def_reading::specs::Abbrevs::pair_at))]
 fn pair(start: usize, cursor: &mut Cursor) -> Result<Option<Pair>, ReadErr>
     ensures { AnswersAt (λ x. x) cursor.new result (pair_at start cursor.old) }
 {
@@ -77,7 +74,7 @@ fn pairs(alloc: Global, start: usize, cursor: &mut Cursor) -> Result<Pairs, Read
 }
 
 // A declaration behind the earlier ones, or the end of the table.
-#[tactic(auto, unfolding(dwz_docs::specs::Abbrevs::declaration_at))]
+#[tactic(auto, unfolding(dwz_def_reading::specs::Abbrevs::declaration_at))]
 fn declaration(alloc: Global, earlier: &Rows, cursor: &mut Cursor) -> Result<Option<Decl>, ReadErr>
     ensures { AnswersAt (option_map decl_view) cursor.new result (declaration_at earlier.now cursor.old) }
 {

@@ -1,9 +1,12 @@
 //! The declarations of a table, in memory, and where each code leads.
+//!
+//! A declaration stands at the place that is its code less 1, counted from 0, or a map has its place: so the map is empty for the tables
+//! that compilers write. Whatever is found is compared by its code, so a place that a failed call left in the map does no harm.
 
 ghost use Rattle.std.specs.Prelude.{◌≡◌, ◌<◌, ◌^◌, ◌++◌, ◌∷◌, [], None, AllPairs, OnErr, OnOk, drop, length};
 ghost use Rattle.std.specs.BTreeMap.{IsUnchanged};
 ghost use Rattle.std.specs.Option.{option_copied, option_map};
-ghost use Rattle.dwz_docs.specs.Abbrevs.{find_decl};
+ghost use Rattle.dwz_def_reading.specs.Abbrevs.{find_decl};
 ghost use Rattle.dwz_abbrev.specs.Views.{decl_view, views};
 ghost use Rattle.dwz_abbrev.specs.Places.{Stores, or_else, stored_decl, stored_decl_behind};
 ghost use Rattle.dwz_abbrev.specs.Written.{Differ};
@@ -24,7 +27,7 @@ pub(crate) struct Rows {
 
 impl Model for Rows {
     ghost use Rattle.std.specs.Prelude.{List};
-    ghost use Rattle.dwz_docs.specs.Abbrevs.{Declaration};
+    ghost use Rattle.dwz_def_reading.specs.Abbrevs.{Declaration};
 
     ghost Value = { List Declaration };
 

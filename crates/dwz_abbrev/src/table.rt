@@ -2,7 +2,7 @@
 
 ghost use Rattle.std.specs.Prelude.{◌≡◌, ◌==◌, ◌<◌, ◌^◌, ◌+◌, ◌++◌, ◌∷◌, [], All, IfOk, OnErr, OnOk, drop, length};
 ghost use Rattle.std.specs.Option.{option_copied, option_map};
-ghost use Rattle.dwz_docs.specs.Abbrevs.{IsCounted, IsPlainPair, find_decl, with_code};
+ghost use Rattle.dwz_def_reading.specs.Abbrevs.{IsCounted, IsPlainPair, find_decl, with_code};
 ghost use Rattle.dwz_abbrev.specs.Ranges.{IsInRange};
 ghost use Rattle.dwz_abbrev.specs.Views.{decl_view, views};
 
@@ -29,7 +29,7 @@ pub struct ReadTable {
 
 impl Model for Table {
     ghost use Rattle.std.specs.Prelude.{List};
-    ghost use Rattle.dwz_docs.specs.Abbrevs.{Declaration, FitsTable};
+    ghost use Rattle.dwz_def_reading.specs.Abbrevs.{Declaration, FitsTable};
 
     ghost Value = { List Declaration };
 

@@ -1,9 +1,11 @@
 //! Tables that are written.
+//!
+//! Declarations are sorted only where their codes don't ascend, and only then memory is taken besides that of `out`.
 
 ghost use Rattle.std.specs.Prelude.{◌≡◌, ◌≢◌, ◌++◌, ◌∷◌, [], AllPairs, IfOk, OnErr, OnOk, length, take, vec_len};
 ghost use Rattle.std.specs.Bool.{OnTrue};
 ghost use Rattle.std.specs.BTreeMap.{values};
-ghost use Rattle.dwz_docs.specs.Abbrevs.{SpellsTable, by_code, declaration_bytes, pair_bytes, pairs_bytes, table_bytes};
+ghost use Rattle.dwz_def_reading.specs.Abbrevs.{SpellsTable, by_code, declaration_bytes, pair_bytes, pairs_bytes, table_bytes};
 ghost use Rattle.dwz_abbrev.specs.Views.{decl_view, lent_views, views};
 ghost use Rattle.dwz_abbrev.specs.Written.{Begins, Differ};
 

@@ -8,11 +8,11 @@ use Rattle.dwz_bytes.specs.Input.{Input, input}
 use Rattle.dwz_bytes.specs.Reading.{◌>>=◌}
 use Rattle.dwz_bytes.specs.Spelling.{le_bytes}
 use Rattle.dwz_bytes.proofs.LowBytes.{low_first}
-use Rattle.dwz_meanings.specs.Patching.{with_units, written_at}
-use Rattle.dwz_meanings.specs.Ranges.{RangeSet, set_at, sets_at}
-use Rattle.dwz_meanings.specs.Sequences.{after_one, with_item}
-use Rattle.dwz_meanings.proofs.RangeLemmas.{set_reads}
-use Rattle.dwz_meanings.proofs.WriteOver.{written_len}
+use Rattle.dwz_def_reading.specs.Patching.{with_units, written_at}
+use Rattle.dwz_def_reading.specs.Ranges.{RangeSet, set_at, sets_at}
+use Rattle.dwz_def_reading.specs.Sequences.{after_one, with_item}
+use Rattle.dwz_def_reading.proofs.RangeLemmas.{set_reads}
+use Rattle.dwz_def_reading.proofs.WriteOver.{written_len}
 use Rattle.dwz_aranges.specs.Patching.{IsPatched}
 use Rattle.dwz_aranges.specs.Views.{any_unit}
 use Rattle.dwz_aranges.proofs.WholeLemmas.{left_of, sets_begin, sets_end}

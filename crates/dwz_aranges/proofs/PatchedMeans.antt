@@ -2,10 +2,10 @@
 use Rattle.std.proofs.Common.{◌≡◌, ℕ, ◌+◌, Bool, List, [], ◌∷◌, length, Result, Ok, IfOk, refl, sym, subst}
 use Rattle.dwz_model.specs.declared.fault.Fault.{Fault}
 use Rattle.dwz_bytes.specs.Input.{input}
-use Rattle.dwz_meanings.specs.Patching.{AreUnits, of_units, with_units}
-use Rattle.dwz_meanings.specs.Ranges.{RangeSet, SpellsSets, sets_at}
-use Rattle.dwz_meanings.proofs.PatchedSets.{sets_patched}
-use Rattle.dwz_meanings.proofs.RangeLemmas.{sets_agree}
+use Rattle.dwz_def_reading.specs.Patching.{AreUnits, of_units, with_units}
+use Rattle.dwz_def_reading.specs.Ranges.{RangeSet, SpellsSets, sets_at}
+use Rattle.dwz_def_reading.proofs.PatchedSets.{sets_patched}
+use Rattle.dwz_def_reading.proofs.RangeLemmas.{sets_agree}
 use Rattle.dwz_aranges.specs.Patching.{IsPatched}
 use Rattle.dwz_aranges.specs.Views.{any_unit}
 

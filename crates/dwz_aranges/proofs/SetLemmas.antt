@@ -3,9 +3,9 @@ use Rattle.std.proofs.Common.{◌≡◌, ℕ, ◌+◌, ◌-◌, ◌<◌, ◌≤�
 use Rattle.std.proofs.lemmas.List.{drop-drop, length-drop, take_all}
 use Rattle.dwz_bytes.specs.Input.{Input, input, past}
 use Rattle.dwz_bytes.specs.Reading.{◌>>=◌}
-use Rattle.dwz_docs.specs.Entries.{unless_so}
-use Rattle.dwz_meanings.specs.Ranges.{IsBadSet, RangeSet, bad_ranges, is_bad_set, set_at, set_length, set_of, set_unit, set_version}
-use Rattle.dwz_meanings.proofs.RangeLemmas.{bad_decides, set_reads}
+use Rattle.dwz_def_reading.specs.Entries.{unless_so}
+use Rattle.dwz_def_reading.specs.Ranges.{IsBadSet, RangeSet, bad_ranges, is_bad_set, set_at, set_length, set_of, set_unit, set_version}
+use Rattle.dwz_def_reading.proofs.RangeLemmas.{bad_decides, set_reads}
 use Rattle.dwz_aranges.specs.Views.{any_unit}
 
 pub set_fails : (i : Input) → IsBadSet any_unit i.rest → set_at any_unit i ≡ Err (bad_ranges i.at)

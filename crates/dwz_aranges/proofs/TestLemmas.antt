@@ -1,9 +1,9 @@
 -- A set's unit is one of those known, or the set is bad.
 use Rattle.std.proofs.Common.{◌≡◌, ◌+◌, ◌≤◌, length, refl, sym, ap, ◌∙◌, inl, inr, arith}
-use Rattle.dwz_meanings.specs.Ranges.{IsBadSet, bad_ranges, set_unit}
-use Rattle.dwz_docs.specs.Units.{field}
-use Rattle.dwz_docs.proofs.HeaderLemmas.{field-append}
-use Rattle.dwz_meanings.proofs.RangeLemmas.{set_reads}
+use Rattle.dwz_def_reading.specs.Ranges.{IsBadSet, bad_ranges, set_unit}
+use Rattle.dwz_def_reading.specs.Units.{field}
+use Rattle.dwz_def_reading.proofs.HeaderLemmas.{field-append}
+use Rattle.dwz_def_reading.proofs.RangeLemmas.{set_reads}
 use Rattle.dwz_aranges.specs.Views.{Known, NoSet, Unknown, any_unit}
 
 pub known : Known

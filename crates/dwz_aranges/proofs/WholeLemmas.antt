@@ -4,10 +4,10 @@ use Rattle.std.proofs.lemmas.List.{append-nil, length-drop}
 use Rattle.dwz_model.specs.declared.fault.Fault.{Fault}
 use Rattle.dwz_bytes.specs.Input.{Input}
 use Rattle.dwz_bytes.specs.Reading.{◌>>=◌}
-use Rattle.dwz_meanings.specs.Ranges.{IsSetFault, RangeSet, SpellsSet, set_at, sets_at}
-use Rattle.dwz_meanings.specs.Sequences.{after_one, with_item}
-use Rattle.dwz_meanings.proofs.RangeLemmas.{set_reads}
-use Rattle.dwz_meanings.proofs.SequenceLemmas.{all_none, all_step, input_of}
+use Rattle.dwz_def_reading.specs.Ranges.{IsSetFault, RangeSet, SpellsSet, set_at, sets_at}
+use Rattle.dwz_def_reading.specs.Sequences.{after_one, with_item}
+use Rattle.dwz_def_reading.proofs.RangeLemmas.{set_reads}
+use Rattle.dwz_def_reading.proofs.SequenceLemmas.{all_none, all_step, input_of}
 use Rattle.dwz_aranges.specs.declared.sets.Set.{Set}
 use Rattle.dwz_aranges.specs.Views.{any_unit, set_view, set_views}
 

@@ -1,7 +1,7 @@
 -- Sets as the definitions see them, and what is found at a place.
 use Rattle.std.specs.Prelude.{◌≡◌, ◌<◌, ◌≤◌, ℕ, Bool, true, false, List, length, map, Option, Some, None, Ok, Err}
 use Rattle.dwz_bytes.specs.Input.{Input, input}
-use Rattle.dwz_meanings.specs.Ranges.{RangeSet, bad_ranges, set_at}
+use Rattle.dwz_def_reading.specs.Ranges.{RangeSet, bad_ranges, set_at}
 use Rattle.dwz_aranges.specs.declared.sets.Set.{Set}
 
 abbrev pub set_view : Set → RangeSet

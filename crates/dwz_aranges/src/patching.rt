@@ -3,8 +3,8 @@
 ghost use Rattle.std.specs.Prelude.{◌≡◌, ◌+◌, ◌≤◌, IsOkAnd, IfOk, length, vec_len};
 ghost use Rattle.dwz_bytes.specs.Input.{input};
 ghost use Rattle.dwz_bytes.specs.Spelling.{le_bytes};
-ghost use Rattle.dwz_meanings.specs.Patching.{written_at};
-ghost use Rattle.dwz_meanings.specs.Ranges.{sets_at};
+ghost use Rattle.dwz_def_reading.specs.Patching.{written_at};
+ghost use Rattle.dwz_def_reading.specs.Ranges.{sets_at};
 ghost use Rattle.dwz_aranges.specs.Patching.{IsPatched};
 ghost use Rattle.dwz_aranges.specs.Views.{any_unit};
 
@@ -29,7 +29,7 @@ fn put(out: &mut Vec<u8>, at: usize, number: u32)
 
 /// The section with other unit offsets: the i-th number stands in the i-th set in place of its unit's offset, as four bytes,
 /// the lowest first, and all other bytes are as they were. The section reads, and there are as many numbers as sets.
-pub fn patch_sets(alloc: Global, section: &[u8], places: &Numbers) -> Result<Vec<u8>, NoMemory>
+pub fn patched(alloc: Global, section: &[u8], places: &Numbers) -> Result<Vec<u8>, NoMemory>
     requires { IsOkAnd (sets_at any_unit (input section.now 0)) (λ sets. length sets ≡ length places.now) }
     ensures { IfOk result (λ out. IsPatched section.now places.now out.items) }
 {

@@ -2,26 +2,23 @@
 
 ghost use Rattle.std.specs.Prelude.{◌≡◌};
 ghost use Rattle.dwz_bytes.specs.Input.{input};
-ghost use Rattle.dwz_docs.specs.Faults.{Answers};
-ghost use Rattle.dwz_meanings.specs.Ranges.{bad_ranges, sets_at};
+ghost use Rattle.dwz_def_reading.specs.Faults.{Answers};
+ghost use Rattle.dwz_def_reading.specs.Ranges.{bad_ranges, sets_at};
 ghost use Rattle.dwz_aranges.specs.Views.{any_unit, set_views};
 
 use crate::sets::{Set, set_there};
-use dwz_model::{DwzList, Fault, ReadErr, Reason};
+use dwz_model::{DEBUG_ARANGES, DwzList, Fault, ReadErr, Reason};
 use std::alloc::Global;
 
 /// The sets of a section, in order.
 pub type Sets = DwzList<Set>;
-
-// The section `.debug_aranges` in faults.
-const ARANGES: u8 = 8;
 
 // The set at a place is bad.
 fn bad_at(at: usize) -> Fault
     ensures { result ≡ bad_ranges at }
 {
     Fault {
-        section: ARANGES,
+        section: DEBUG_ARANGES,
         at: at as u64,
         reason: Reason::BadAranges,
     }

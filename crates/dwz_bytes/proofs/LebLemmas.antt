@@ -9,7 +9,7 @@ use Rattle.dwz_bytes.specs.declared.error.ByteErr.TheVariants.{Short, Wide}
 use Rattle.dwz_bytes.specs.Input.{Input, input, past}
 use Rattle.dwz_bytes.specs.Spelling.{SpellsLeb, fits_u64, groups_value}
 use Rattle.dwz_bytes.specs.Reading.{groups_at, leb_at, uleb_at}
-use Rattle.dwz_bytes.specs.Laws.{Again, Found, IsCutShort, IsRead, IsShortAt, IsWideAt, One}
+use Rattle.dwz_bytes.specs.Laws.{IsCutShort, IsReadNumber, IsShortAt, IsWideAt, One, ReadNumberIsSpelled, SpelledNumberIsRead}
 use Rattle.dwz_bytes.proofs.GroupLemmas.{AreGroupsOf, bind_ok, bind_err, chosen, groups_again, groups_found, groups_short, groups_wide, short_groups, wide_groups}
 
 pub drop-front : (front rest : List ℕ) → drop (length front) (front ++ rest) ≡ rest
@@ -30,7 +30,7 @@ ok_is a b e = cc
 abbrev made : {X : Type 0} → (List ℕ → X) → (X → Bool) → Input → List ℕ → Result (X × Input) ByteErr
 made worth fits i bytes = cond (fits (worth bytes)) (Ok (worth bytes, past (length bytes) i)) (Err (Wide i.at))
 
-pub leb_again : {X : Type 0} (worth : List ℕ → X) (fits : X → Bool) → Again (SpellsLeb worth fits) (leb_at worth fits)
+pub leb_again : {X : Type 0} (worth : List ℕ → X) (fits : X → Bool) → SpelledNumberIsRead (SpellsLeb worth fits) (leb_at worth fits)
 leb_again {X} worth fits at x front rest is =
     let test : fits (worth front) ≡ true = subst (λ (y : X). fits y ≡ true) is.value is.in_range in
     rw (groups_again at 10 front rest is.groups is.len, test, drop-front front rest) (ap (λ (y : X). Ok (y, record { at = at + length front; rest = rest })) (sym is.value))
@@ -44,7 +44,7 @@ input_or d (Ok p) = p.1
 input_or d (Err e) = d
 
 found_front : {X : Type 0} (worth : List ℕ → X) (fits : X → Bool) (i j : Input) (x : X) (front : List ℕ) → AreGroupsOf 10 i.rest front → made worth fits i front ≡ Ok (x, j)
-    → IsRead (SpellsLeb worth fits) i j x
+    → IsReadNumber (SpellsLeb worth fits) i j x
 found_front {X} worth fits i j x front t e =
     elim (chosen (fits (worth front)) (Ok (worth front, past (length front) i)) (Err (Wide i.at)) (Ok (x, j)) e) [
       | inl p ↦
@@ -60,7 +60,7 @@ found_front {X} worth fits i j x front t e =
       | inr p ↦ absurd cc
     ]
 
-pub leb_found : {X : Type 0} (worth : List ℕ → X) (fits : X → Bool) → Found (SpellsLeb worth fits) (leb_at worth fits)
+pub leb_found : {X : Type 0} (worth : List ℕ → X) (fits : X → Bool) → ReadNumberIsSpelled (SpellsLeb worth fits) (leb_at worth fits)
 leb_found {X} worth fits i j x e =
     let a = bind_ok (groups_at i.at 10 i.rest) (made worth fits i) (x, j) e in
     found_front worth fits i j x a.0 (groups_found i.at 10 i.rest a.0 a.1) a.2

@@ -1,4 +1,4 @@
--- What the code gathers of a LEB128 number.
+-- Inner: what the code gathers of a LEB128 number.
 use Rattle.std.specs.Prelude.{◌≡◌, ℕ, ◌^◌, ◌<◌, ◌≤◌, List, length, take, Result, Ok, Err}
 use Rattle.dwz_bytes.specs.declared.error.ByteErr.{ByteErr}
 use Rattle.dwz_bytes.specs.declared.groups.Groups.{Groups}

@@ -15,8 +15,8 @@ abbrev pub IsCutShort : List ℕ → Type 0
 IsCutShort bytes = (length bytes < 10) × GoOn bytes
 
 -- the first ten bytes all say that more follow
-abbrev pub IsTooLong : List ℕ → Type 0
-IsTooLong bytes = (10 ≤ length bytes) × GoOn (take 10 bytes)
+abbrev pub IsOverlong : List ℕ → Type 0
+IsOverlong bytes = (10 ≤ length bytes) × GoOn (take 10 bytes)
 
 -- groups with an end stand at the front, and their number doesn't fit
 pub record HasTooManyBits {X : Type 0} (worth : List ℕ → X) (fits : X → Bool) (bytes : List ℕ) : Type 0 where
@@ -28,16 +28,20 @@ pub record HasTooManyBits {X : Type 0} (worth : List ℕ → X) (fits : X → Bo
   pub parts : bytes ≡ front ++ rest
 
 -- what was read from i to j is spelled by the bytes between them
-abbrev pub IsRead : {X : Type 0} → (List ℕ → X → Type 0) → Input → Input → X → Type 0
-IsRead Spells i j x = (front : List ℕ) × Spells front x × (i.rest ≡ front ++ j.rest) × (j.at ≡ i.at + length front)
+abbrev pub IsReadNumber : {X : Type 0} → (List ℕ → X → Type 0) → Input → Input → X → Type 0
+IsReadNumber Spells i j x = (front : List ℕ) × Spells front x × (i.rest ≡ front ++ j.rest) × (j.at ≡ i.at + length front)
 
 -- each number that is read is spelled
-abbrev pub Found : {X : Type 0} → (List ℕ → X → Type 0) → (Input → Result (X × Input) ByteErr) → Type 0
-Found {X} Spells read = (i j : Input) (x : X) → read i ≡ Ok (x, j) → IsRead Spells i j x
+abbrev pub ReadNumberIsSpelled : {X : Type 0} → (List ℕ → X → Type 0) → (Input → Result (X × Input) ByteErr) → Type 0
+ReadNumberIsSpelled {X} Spells read = (i j : Input) (x : X) → read i ≡ Ok (x, j) → IsReadNumber Spells i j x
 
 -- each number that is spelled is read, whatever follows it
-abbrev pub Again : {X : Type 0} → (List ℕ → X → Type 0) → (Input → Result (X × Input) ByteErr) → Type 0
-Again {X} Spells read = (at : ℕ) (x : X) (front rest : List ℕ) → Spells front x → read (record { at = at; rest = front ++ rest })
+abbrev pub SpelledNumberIsRead : {X : Type 0} → (List ℕ → X → Type 0) → (Input → Result (X × Input) ByteErr) → Type 0
+SpelledNumberIsRead {X} Spells read = (at : ℕ) (x : X) (front rest : List ℕ) → Spells front x → read (record {
+  at = at;
+  rest = front
+      ++ rest;
+})
     ≡ Ok (x, record { at = at + length front; rest = rest })
 
 -- no spelling begins another, and none spells two numbers
@@ -51,4 +55,4 @@ IsShortAt Cut read = (i : Input) (at : ℕ) → (read i ≡ Err (Short at)) ↔ 
 -- reading meets a number that is too wide exactly where it has more than ten bytes or too many bits
 abbrev pub IsWideAt : {X : Type 0} → (List ℕ → X) → (X → Bool) → (Input → Result (X × Input) ByteErr) → Type 0
 IsWideAt worth fits read = (i : Input) (at : ℕ) → (read i ≡ Err (Wide at)) ↔
-    ((at ≡ i.at) × (IsTooLong i.rest ⊎ HasTooManyBits worth fits i.rest))
+    ((at ≡ i.at) × (IsOverlong i.rest ⊎ HasTooManyBits worth fits i.rest))

@@ -1,5 +1,12 @@
-//! Bytes that are read from the front, and the numbers that they spell: little-endian ones of a fixed width and LEB128
-//! numbers (DWARF 5, 7.6).
+//! Bytes that are read from the front, and the numbers that they spell: of a fixed width, and LEB128 (DWARF 5, 7.6).
+//!
+//! `Cursor` stands in bytes: `u8` to `u64`, `uleb`, `sleb` and `take` answer what stands there and go behind it, or answer `Short` or
+//! `Wide` and stay. `put_fixed`, `put_uleb`, `put_sleb` and `put_padded` append; after want of memory nothing has changed. The laws
+//! (`fixed_laws`, `uleb_laws`, `sleb_laws`): what is read is spelled, what is spelled is read, whatever follows; what is written is the
+//! shortest spelling.
+//!
+//! Read first: `SpellsUleb` and `SpellsSleb` (`specs/Spelling.antt`), then `Input` (`specs/Input.antt`) and `uleb_at`
+//! (`specs/Reading.antt`).
 #![tactic(auto)]
 
 mod cursor;

@@ -2,7 +2,7 @@
 use Rattle.std.proofs.Common.{◌≡◌, ℕ, ◌+◌, ◌≤◌, List, [], ◌∷◌, Some, None, refl, sym, ap, ◌∙◌, ◌⊎◌, cond, ltb, eqb, false, true, Bool, arith}
 use Rattle.std.proofs.lemmas.Bool.{ltb-false, eqb-true, eq-eqb}
 use Rattle.std.proofs.Math.Logic.{inl, inr}
-use Rattle.dwz_codes.specs.Rows.{AreDifferent, IsRow, RowView, ascends, row_of}
+use Rattle.dwz_codes.specs.Rows.{HaveOwnCodes, IsRow, RowView, ascends, row_of}
 
 chosen : {A : Type 0} (b : Bool) (x y z : A) → cond b x y ≡ z → ((b ≡ true) × (x ≡ z)) ⊎ ((b ≡ false) × (y ≡ z))
 chosen true x y z e = inl (refl, e)
@@ -43,7 +43,7 @@ at_least least (s ∷ rows) e r is =
       ]
     ]
 
-different : (least : ℕ) (rows : List RowView) → ascends least rows ≡ true → AreDifferent rows
+different : (least : ℕ) (rows : List RowView) → ascends least rows ≡ true → HaveOwnCodes rows
 different least [] e r s p q same = absurd p
 different least (t ∷ rows) e r s p q same =
     elim (chosen (ltb t.code least) false (ascends (t.code + 1) rows) true e) [
@@ -60,5 +60,5 @@ different least (t ∷ rows) e r s p q same =
       ]
     ]
 
-pub ascending_different : (rows : List RowView) → ascends 0 rows ≡ true → AreDifferent rows
+pub ascending_different : (rows : List RowView) → ascends 0 rows ≡ true → HaveOwnCodes rows
 ascending_different rows e = different 0 rows e

@@ -36,7 +36,7 @@ impl<const N: usize> Codes<N> {
     }
 
     /// The row of a code. None exactly where no row has it.
-    pub fn find(&self, code: u16) -> Option<Row>
+    pub fn find(&self, code: u64) -> Option<Row>
         ensures { option_map view_of result ≡ row_of self.now code }
     {
         row_in(self.rows, code)
@@ -44,7 +44,7 @@ impl<const N: usize> Codes<N> {
 }
 
 // The first row with a code.
-fn row_in(rows: &'static [Row], code: u16) -> Option<Row>
+fn row_in(rows: &'static [Row], code: u64) -> Option<Row>
     ensures { option_map view_of result ≡ row_of (map view_of rows.now) code }
 {
     for row in rows {

@@ -1,4 +1,5 @@
 -- Sections with a given name, one after the other; and the table in which names stand.
+use Rattle.dwz_def_reading.specs.ElfReading.{elf_fault_for, field_fault_for}
 use Rattle.std.proofs.Common.{◌≡◌, ℕ, zero, suc, ◌+◌, ◌*◌, ◌<◌, ◌≤◌, Bool, true, false, ◌&&◌, ◌||◌, List, [], ◌∷◌, length, map, take, drop, get_or, Option, Some, None, refl, sym, ap, subst, ◌∙◌}
 use Rattle.std.proofs.Common.{arith}
 use Rattle.std.specs.Prelude.{◌==◌, nat_lt, not}
@@ -6,13 +7,13 @@ use Rattle.std.specs.List.{list_any}
 use borrow.Author.Tests.{ltb-true}
 use Rattle.dwz_model.specs.declared.fault.Fault.{Fault}
 use Rattle.dwz_model.specs.declared.fault.Reason.TheVariants.{FileType, SectionTable}
-use Rattle.dwz_docs.specs.declared.elf.FileHeader.{FileHeader}
-use Rattle.dwz_docs.specs.declared.elf.Header.{Header}
-use Rattle.dwz_docs.specs.declared.elf.Section.{Section}
-use Rattle.dwz_docs.specs.ElfHeaders.{file_header, header_at, headers_end, headers_from, headers_in, is_there, program_headers_end}
-use Rattle.dwz_docs.specs.ElfNames.{name_at, name_table, names_header, section_named, sections_in}
-use Rattle.dwz_docs.specs.ElfReading.{◌or◌, ElfView, elf_fault, elf_of, fault_if, field_fault, first_in, header_fault, identification_fault, missing_fault, names_fault, unkept_fault}
-use Rattle.dwz_docs.proofs.ElfFaultLemmas.{test_false}
+use Rattle.dwz_def_reading.specs.declared.elf.FileHeader.{FileHeader}
+use Rattle.dwz_def_reading.specs.declared.elf.Header.{Header}
+use Rattle.dwz_def_reading.specs.declared.elf.Section.{Section}
+use Rattle.dwz_def_reading.specs.ElfHeaders.{file_header, header_at, headers_end, headers_from, headers_in, is_there, program_headers_end}
+use Rattle.dwz_def_reading.specs.ElfNames.{name_at, name_table, names_header, section_named, sections_in}
+use Rattle.dwz_def_reading.specs.ElfReading.{◌or◌, ElfView, elf_fault, elf_of, fault_if, field_fault, first_in, header_fault, identification_fault, missing_fault, names_fault, unkept_fault}
+use Rattle.dwz_def_reading.proofs.ElfFaultLemmas.{test_false}
 use Rattle.dwz_elf.specs.Names.{is_called, is_there_called}
 
 -- ---- one section after the other
@@ -114,7 +115,7 @@ named false true e = refl
 named false false e = absurd cc
 
 field_low : (len : ℕ) (file : FileHeader) → field_fault len file ≡ None → file.names < file.headers
-unfolding field_fault
+unfolding field_fault_for
 field_low len file none =
     let test = file.names == 0 || not (nat_lt file.names file.headers) in
     let fault = fifth_none (fault_if (not (file.kind == 2) && not (file.kind == 3)) FileType 16) (fault_if (file.headers_at == 0) SectionTable 40)
@@ -124,7 +125,7 @@ field_low len file none =
     ltb-true file.names file.headers (named (file.names == 0) (nat_lt file.names file.headers) (test_false test SectionTable 62 fault))
 
 names_low : (bytes : List ℕ) → elf_fault bytes ≡ None → (file_header bytes).names < (file_header bytes).headers
-unfolding elf_fault
+unfolding elf_fault_for
 names_low bytes none =
     let file = file_header bytes in
     let sections = sections_in bytes in

@@ -1,7 +1,7 @@
 -- The section headers, one after another.
 use Rattle.std.proofs.Common.{◌≡◌, ℕ, suc, ◌+◌, ◌-◌, ◌*◌, ◌<◌, ◌≤◌, List, [], ◌∷◌, ◌++◌, refl, sym, ap, ◌∙◌, append_assoc, arith}
-use Rattle.dwz_docs.specs.declared.elf.Header.{Header}
-use Rattle.dwz_docs.specs.ElfHeaders.{header_at, headers_from}
+use Rattle.dwz_def_reading.specs.declared.elf.Header.{Header}
+use Rattle.dwz_def_reading.specs.ElfHeaders.{header_at, headers_from}
 
 pub none_left : (bytes : List ℕ) (at n : ℕ) → n ≡ 0 → headers_from bytes at n ≡ []
 unfolding headers_from

@@ -5,12 +5,12 @@ use Rattle.std.specs.Int.{next_multiple_of}
 use Rattle.std.proofs.lemmas.List.{append-nil, drop_all, drop_more}
 use Rattle.std.proofs.lemmas.Grind.{common_steps}
 use Rattle.dwz_model.specs.declared.fault.Reason.TheVariants.{Layout}
-use Rattle.dwz_docs.specs.declared.elf.Moved.{Moved}
-use Rattle.dwz_docs.specs.declared.elf.Section.{Section}
-use Rattle.dwz_docs.specs.ElfFaults.{file_fault}
-use Rattle.dwz_docs.specs.ElfLayout.{Changes, align_at, keep_end, inside_fault, is_inside, is_moving, moving, placed_end, placed_from, too_large}
-use Rattle.dwz_docs.specs.ElfReading.{ElfView}
-use Rattle.dwz_docs.proofs.PlacedLemmas.{placed_end-least}
+use Rattle.dwz_def_reading.specs.declared.elf.Moved.{Moved}
+use Rattle.dwz_def_reading.specs.declared.elf.Section.{Section}
+use Rattle.dwz_def_reading.specs.ElfFaults.{file_fault}
+use Rattle.dwz_def_reading.specs.ElfLayout.{Changes, align_at, keep_end, inside_fault, is_inside, is_moving, moving, placed_end, placed_from, too_large}
+use Rattle.dwz_def_reading.specs.ElfReading.{ElfView}
+use Rattle.dwz_def_reading.proofs.PlacedLemmas.{placed_end-least}
 use Rattle.dwz_elf.specs.Places.{IsPlacedUpTo}
 
 taken : (xs : List Section) (i : ℕ) → i < length xs → length (take i xs) ≡ i

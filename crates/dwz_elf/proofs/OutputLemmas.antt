@@ -4,10 +4,10 @@ use Rattle.std.proofs.Common.{length-append, length-take, arith}
 use Rattle.std.proofs.lemmas.List.{append-nil, drop_all, drop_more, length-replicate}
 use Rattle.std.specs.Prelude.{slice_get}
 use Rattle.dwz_bytes.specs.Spelling.{le_bytes}
-use Rattle.dwz_docs.specs.declared.elf.Moved.{Moved}
-use Rattle.dwz_docs.specs.declared.elf.Section.{Section}
-use Rattle.dwz_docs.specs.ElfLayout.{kept, moved_header, moved_in, names_size, new_headers, numbers, spread, sup_fields, sup_header}
-use Rattle.dwz_docs.specs.ElfReading.{ElfView}
+use Rattle.dwz_def_reading.specs.declared.elf.Moved.{Moved}
+use Rattle.dwz_def_reading.specs.declared.elf.Section.{Section}
+use Rattle.dwz_def_reading.specs.ElfLayout.{kept_bytes, moved_header, moved_in, names_size, new_headers, numbers, spread, sup_fields, sup_header}
+use Rattle.dwz_def_reading.specs.ElfReading.{ElfView}
 use Rattle.dwz_elf.specs.Places.{AreByIndex}
 
 more_digits : (k m n : ℕ) → k ≡ m + 1 → le_bytes k n ≡ n % 256 ∷ le_bytes m (n / 256)
@@ -87,7 +87,7 @@ all_sections contents xs i end old all done so_far =
 pub length_number : (width value : ℕ) (old new : List ℕ) → new ≡ old ++ le_bytes width value → length new ≡ length old + width
 length_number width value old new is = ap length is ∙ (length-append old (le_bytes width value) ∙ ap (λ n. length old + n) (length_of_number width value))
 
-pub length_kept : (keep : ℕ) (input old new : List ℕ) → new ≡ old ++ kept keep input → length new ≡ length old + keep
+pub length_kept : (keep : ℕ) (input old new : List ℕ) → new ≡ old ++ kept_bytes keep input → length new ≡ length old + keep
 length_kept keep input old new is = ap length is ∙ simp (length-append, length-take, length-replicate) (omega arith)
 
 -- ---- numbers

@@ -1,11 +1,12 @@
 -- The faults of the front of a file, and then those of its section headers.
+use Rattle.dwz_def_reading.specs.ElfReading.{elf_fault_for}
 use Rattle.std.proofs.Common.{◌≡◌, ℕ, List, length, Option, Some, None, refl, sym, ◌∙◌}
 use Rattle.dwz_model.specs.declared.fault.Fault.{Fault}
-use Rattle.dwz_docs.specs.declared.elf.FileHeader.{FileHeader}
-use Rattle.dwz_docs.specs.declared.elf.Section.{Section}
-use Rattle.dwz_docs.specs.ElfHeaders.{file_header}
-use Rattle.dwz_docs.specs.ElfNames.{names_header, sections_in}
-use Rattle.dwz_docs.specs.ElfReading.{◌or◌, elf_fault, elf_of, field_fault, identification_fault, names_fault}
+use Rattle.dwz_def_reading.specs.declared.elf.FileHeader.{FileHeader}
+use Rattle.dwz_def_reading.specs.declared.elf.Section.{Section}
+use Rattle.dwz_def_reading.specs.ElfHeaders.{file_header}
+use Rattle.dwz_def_reading.specs.ElfNames.{names_header, sections_in}
+use Rattle.dwz_def_reading.specs.ElfReading.{◌or◌, elf_fault, elf_of, field_fault, identification_fault, names_fault}
 use Rattle.dwz_elf.specs.Reads.{front_fault_of, rest_fault_of}
 
 or_or : (a b c d : Option Fault) → (a or (b or (c or d))) ≡ ((a or (b or c)) or d)
@@ -14,7 +15,7 @@ or_or None (Some f) c d = refl
 or_or None None c d = refl
 
 parts : (bytes : List ℕ) → elf_fault bytes ≡ (front_fault_of bytes or rest_fault_of (length bytes) (file_header bytes).names (sections_in bytes))
-unfolding elf_fault front_fault_of rest_fault_of
+unfolding elf_fault_for front_fault_of rest_fault_of
 parts bytes =
     or_or (identification_fault bytes) (field_fault (length bytes) (file_header bytes)) (names_fault (length bytes) (names_header bytes))
     (rest_fault_of (length bytes) (file_header bytes).names (sections_in bytes))

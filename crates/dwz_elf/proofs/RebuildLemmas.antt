@@ -1,18 +1,18 @@
 -- How long a file is that is made from another.
 use Rattle.std.proofs.Common.{◌≡◌, ℕ, ◌+◌, ◌*◌, ◌≤◌, List, length, Option, Some, None, ap, subst, ◌∙◌, arith}
 use Rattle.std.specs.Int.{next_multiple_of}
-use Rattle.dwz_docs.specs.ElfLayout.{Changes, content_at, file_of, keep_end, new_count, new_headers_at, placed_end, placed_from, placed_of, rebuilt, rebuilt_length, sup_bytes, too_large}
-use Rattle.dwz_docs.specs.ElfReading.{ElfView}
-use Rattle.dwz_docs.proofs.PlacedLemmas.{placed_end-least, up_le}
+use Rattle.dwz_def_reading.specs.ElfLayout.{Changes, added_bytes, content_at, keep_end, laid_file, new_count, new_headers_at, placed_end, placed_from, placed_of, rebuilt, rebuilt_length, too_large}
+use Rattle.dwz_def_reading.specs.ElfReading.{ElfView}
+use Rattle.dwz_def_reading.proofs.PlacedLemmas.{placed_end-least, up_le}
 use Rattle.dwz_elf.specs.declared.layout.Places.{Places}
 use Rattle.dwz_elf.specs.Places.{ArePlaced}
 
 -- the file is at least as long as the place where the sections end
 end_within : (e : ElfView) (changes : Changes) (input : List ℕ) (order : List (ℕ × ℕ)) → placed_end (keep_end e) (placed_of e changes input order)
-    + length (sup_bytes changes) ≤ rebuilt_length e changes input order
+    + length (added_bytes changes) ≤ rebuilt_length e changes input order
 unfolding rebuilt_length
 end_within e changes input order =
-    let up = up_le (placed_end (keep_end e) (placed_of e changes input order) + length (sup_bytes changes)) 8 in
+    let up = up_le (placed_end (keep_end e) (placed_of e changes input order) + length (added_bytes changes)) 8 in
     omega (arith, up)
 
 pub kept_too_long : (e : ElfView) (changes : Changes) (input : List ℕ) (order : List (ℕ × ℕ)) (keep : ℕ) → keep ≡ keep_end e → too_large ≤ keep → too_large ≤ rebuilt_length e changes input order
@@ -45,13 +45,13 @@ the_places e changes input order keep (Some q) p is placed some =
       end = placed.1 ∙ at_keep;
     })
 
-pub sup_too_long : (e : ElfView) (changes : Changes) (input sup : List ℕ) (order : List (ℕ × ℕ)) (p : Places) → IsPlaced e changes input order p → sup ≡ sup_bytes changes
+pub sup_too_long : (e : ElfView) (changes : Changes) (input sup : List ℕ) (order : List (ℕ × ℕ)) (p : Places) → IsPlaced e changes input order p → sup ≡ added_bytes changes
     → too_large ≤ p.end + length sup → too_large ≤ rebuilt_length e changes input order
 sup_too_long e changes input sup order p placed is large =
-    let same : length sup ≡ length (sup_bytes changes) = ap length is in
+    let same : length sup ≡ length (added_bytes changes) = ap length is in
     omega (arith, placed.end, same, large, end_within e changes input order)
 
-pub the_length : (e : ElfView) (changes : Changes) (input sup : List ℕ) (order : List (ℕ × ℕ)) (p : Places) (headers_at count : ℕ) → IsPlaced e changes input order p → sup ≡ sup_bytes changes
+pub the_length : (e : ElfView) (changes : Changes) (input sup : List ℕ) (order : List (ℕ × ℕ)) (p : Places) (headers_at count : ℕ) → IsPlaced e changes input order p → sup ≡ added_bytes changes
     → headers_at ≡ next_multiple_of (p.end + length sup) 8 → count ≡ new_count e changes → headers_at + 64 * count ≡ rebuilt_length e changes input order
 unfolding rebuilt_length
 the_length e changes input sup order p headers_at count placed is at_is count_is =
@@ -61,7 +61,7 @@ the_length e changes input sup order p headers_at count placed is at_is count_is
     let joined : headers_at + 64 * count ≡ new_headers_at changes (placed_end (keep_end e) (placed_of e changes input order)) + 64 * new_count e changes = cc in
     joined
 
-pub the_bytes : (e : ElfView) (changes : Changes) (input out : List ℕ) (order : List (ℕ × ℕ)) (p : Places) → IsPlaced e changes input order p → out ≡ file_of e changes input p.moved.items
+pub the_bytes : (e : ElfView) (changes : Changes) (input out : List ℕ) (order : List (ℕ × ℕ)) (p : Places) → IsPlaced e changes input order p → out ≡ laid_file e changes input p.moved.items
     → out ≡ rebuilt e changes input order
 unfolding rebuilt
-the_bytes e changes input out order p placed is = is ∙ ap (file_of e changes input) placed.moved
+the_bytes e changes input out order p placed is = is ∙ ap (laid_file e changes input) placed.moved

@@ -1,9 +1,9 @@
 -- Where the names of a name table end, and which of them are a given one.
 use Rattle.std.specs.Prelude.{◌≡◌, ℕ, ◌≤◌, List, length, Bool, false, ◌&&◌, Option, Some, None, nat_lt, is_some}
 use Rattle.std.specs.Str.{bytes_eq}
-use Rattle.dwz_docs.specs.declared.elf.Header.{Header}
-use Rattle.dwz_docs.specs.ElfHeaders.{is_there}
-use Rattle.dwz_docs.specs.ElfNames.{name_at}
+use Rattle.dwz_def_reading.specs.declared.elf.Header.{Header}
+use Rattle.dwz_def_reading.specs.ElfHeaders.{is_there}
+use Rattle.dwz_def_reading.specs.ElfNames.{name_at}
 
 -- exactly the names that begin before that place end
 pub record IsNamesEnd (table : List ℕ) (end : ℕ) : Type 0 where

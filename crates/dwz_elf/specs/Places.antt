@@ -1,8 +1,8 @@
 -- Sections that are placed one after another.
 use Rattle.std.specs.Prelude.{◌≡◌, ℕ, ◌<◌, ◌≤◌, List, ◌++◌, Option, Some, None, length, get_or}
-use Rattle.dwz_docs.specs.declared.elf.Moved.{Moved}
-use Rattle.dwz_docs.specs.ElfLayout.{moved_in, placed_end, placed_from, too_large}
-use Rattle.dwz_docs.specs.ElfReading.{ElfView}
+use Rattle.dwz_def_reading.specs.declared.elf.Moved.{Moved}
+use Rattle.dwz_def_reading.specs.ElfLayout.{moved_in, placed_end, placed_from, too_large}
+use Rattle.dwz_def_reading.specs.ElfReading.{ElfView}
 use Rattle.dwz_elf.specs.declared.layout.Places.{Places}
 
 -- some sections have their places and end there, and the others are to follow

@@ -3,11 +3,11 @@ use Rattle.std.specs.Prelude.{◌≡◌, ℕ, ◌<◌, ◌≤◌, List, [], leng
 use Rattle.dwz_model.specs.declared.fault.Fault.{Fault}
 use Rattle.dwz_model.specs.declared.fault.ReadErr.{ReadErr}
 use Rattle.dwz_model.specs.declared.fault.ReadErr.TheVariants.{Refused, NoMemory}
-use Rattle.dwz_docs.specs.declared.elf.Section.{Section}
-use Rattle.dwz_docs.specs.ElfReading.{◌or◌, field_fault, first_in, header_fault, identification_fault, missing_fault, names_fault}
-use Rattle.dwz_docs.specs.ElfReading.{unkept_fault}
-use Rattle.dwz_docs.specs.ElfHeaders.{end_of, file_header, headers_end}
-use Rattle.dwz_docs.specs.ElfNames.{names_header}
+use Rattle.dwz_def_reading.specs.declared.elf.Section.{Section}
+use Rattle.dwz_def_reading.specs.ElfReading.{◌or◌, field_fault, first_in, header_fault, identification_fault, missing_fault, names_fault}
+use Rattle.dwz_def_reading.specs.ElfReading.{unkept_fault}
+use Rattle.dwz_def_reading.specs.ElfHeaders.{end_of, file_header, headers_end}
+use Rattle.dwz_def_reading.specs.ElfNames.{names_header}
 
 -- It was made where there is no fault, and then it is the value. A refusal is the fault. Want of memory is always an answer.
 abbrev pub GivesOrRefuses : {X : Type 0} → Result X ReadErr → Option Fault → X → Type 0

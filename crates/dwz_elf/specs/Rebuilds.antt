@@ -4,9 +4,9 @@ use Rattle.dwz_model.specs.declared.fault.Fault.{Fault}
 use Rattle.dwz_model.specs.declared.fault.Reason.TheVariants.{TooLarge}
 use Rattle.dwz_model.specs.declared.fault.ReadErr.{ReadErr}
 use Rattle.dwz_model.specs.declared.fault.ReadErr.TheVariants.{Refused, NoMemory}
-use Rattle.dwz_docs.specs.ElfFaults.{file_fault}
-use Rattle.dwz_docs.specs.ElfLayout.{Changes, IsOrder, layout_fault, rebuilt, rebuilt_length, too_large}
-use Rattle.dwz_docs.specs.ElfReading.{ElfView}
+use Rattle.dwz_def_reading.specs.ElfFaults.{file_fault}
+use Rattle.dwz_def_reading.specs.ElfLayout.{Changes, IsOrder, layout_fault, rebuilt, rebuilt_length, too_large}
+use Rattle.dwz_def_reading.specs.ElfReading.{ElfView}
 use Rattle.dwz_elf.specs.declared.edits.Edits.{Edits}
 
 -- the sections of the old file, and what is new

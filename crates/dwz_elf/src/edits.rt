@@ -2,10 +2,10 @@
 
 ghost use Rattle.std.specs.Prelude.{◌≡◌};
 ghost use Rattle.std.specs.Option.{option_map};
-ghost use Rattle.dwz_docs.specs.ElfLayout;
+ghost use Rattle.dwz_def_reading.specs.ElfLayout;
 ghost use Rattle.dwz_elf.specs.Rebuilds.{changes_of};
 
-use dwz_docs::{NewContent, Section};
+use dwz_def_reading::{NewContent, Section};
 use dwz_model::Blob;
 
 /// New contents, the newest first, of which the first for a code holds, and the content of `.debug_sup` where it is added.
@@ -40,7 +40,7 @@ pub(crate) fn replacement<'b>(edits: &'b Edits, section: &Section) -> Option<&'b
 
 /// The content of the section that is added, or nothing.
 pub(crate) fn sup_bytes(edits: &Edits) -> &[u8]
-    ensures { result.now ≡ ElfLayout.sup_bytes (changes_of edits.now) }
+    ensures { result.now ≡ ElfLayout.added_bytes (changes_of edits.now) }
 {
     match &edits.sup {
         Some(bytes) => bytes.as_slice(),

@@ -2,10 +2,10 @@
 
 ghost use Rattle.std.specs.Prelude.{◌≡◌, ◌≤◌, ◌<◌, Err, IfNone, IfOk, List, None, Some, length, map, drop, take};
 ghost use Rattle.std.specs.List.{list_any};
-ghost use Rattle.dwz_docs.specs.ElfHeaders;
-ghost use Rattle.dwz_docs.specs.ElfNames;
-ghost use Rattle.dwz_docs.specs.declared.elf.Header.{Header};
-ghost use Rattle.dwz_docs.specs.ElfReading.{bytes_in, elf_fault, elf_of, range_in, section_range};
+ghost use Rattle.dwz_def_reading.specs.ElfHeaders;
+ghost use Rattle.dwz_def_reading.specs.ElfNames;
+ghost use Rattle.dwz_def_reading.specs.declared.elf.Header.{Header};
+ghost use Rattle.dwz_def_reading.specs.ElfReading.{bytes_in, elf_fault, elf_of, range_in, section_range};
 ghost use Rattle.dwz_elf.specs.Names.{is_there_called};
 ghost use Rattle.dwz_elf.specs.Reads.{GivesOrRefuses, IsWhole, front_fault_of, rest_fault_of};
 ghost use Rattle.dwz_model.specs.declared.fault.Fault.{Fault};
@@ -14,7 +14,7 @@ ghost use Rattle.dwz_model.specs.declared.fault.ReadErr.TheVariants.{Refused};
 use crate::fault;
 use crate::header::{file_header, header_at, headers_from, is_there};
 use crate::name::{has_name, names_end, section_of};
-use dwz_docs::{FileHeader, Header, Section};
+use dwz_def_reading::{FileHeader, Header, Section};
 use dwz_model::{Fault, NoMemory, ReadErr};
 use std::alloc::Global;
 use std::marker::Model;
@@ -28,7 +28,7 @@ pub struct Elf {
 }
 
 impl Model for Elf {
-    ghost use Rattle.dwz_docs.specs.ElfReading.{ElfView};
+    ghost use Rattle.dwz_def_reading.specs.ElfReading.{ElfView};
 
     ghost Value = { ElfView };
 
@@ -219,7 +219,7 @@ fn run_of(bytes: &[u8], size: u64) -> &[u8]
 }
 
 // The range of the section with a code.
-#[tactic(auto, unfolding(dwz_docs::specs::ElfReading::section_range))]
+#[tactic(auto, unfolding(dwz_def_reading::specs::ElfReading::section_range))]
 fn range_of(sections: &[Section], code: u8) -> Option<(u64, u64)>
     ensures { result ≡ section_range sections.now code }
 {

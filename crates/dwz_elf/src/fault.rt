@@ -2,13 +2,13 @@
 
 ghost use Rattle.std.specs.Prelude.{◌≡◌, ◌+◌, ◌*◌, ◌≤◌, ◌<◌, [], IfNone, length, slice_get};
 ghost use Rattle.std.specs.List.{list_any};
-ghost use Rattle.dwz_docs.specs.ElfFaults;
-ghost use Rattle.dwz_docs.specs.ElfHeaders;
-ghost use Rattle.dwz_docs.specs.ElfHeaders.{headers_end};
-ghost use Rattle.dwz_docs.specs.ElfReading;
+ghost use Rattle.dwz_def_reading.specs.ElfFaults;
+ghost use Rattle.dwz_def_reading.specs.ElfHeaders;
+ghost use Rattle.dwz_def_reading.specs.ElfHeaders.{headers_end};
+ghost use Rattle.dwz_def_reading.specs.ElfReading;
 
 use crate::header::{end_of, has_relocations, is_compressed, is_there};
-use dwz_docs::{FileHeader, Header, Section};
+use dwz_def_reading::{FileHeader, Header, Section};
 use dwz_model::{Fault, Reason};
 
 // The magic number, class 64, little-endian, version 1.
@@ -51,7 +51,7 @@ fn file_fault(reason: Reason, at: u64) -> Fault
 }
 
 // The place of the first byte that isn't the wanted one, or is missing.
-#[tactic(auto, unfolding(dwz_docs::specs::ElfReading::first_other))]
+#[tactic(auto, unfolding(dwz_def_reading::specs::ElfReading::first_other))]
 fn first_other(wanted: &[u8], bytes: &[u8]) -> Option<usize>
     ensures { result ≡ ElfReading.first_other 0 wanted.now bytes.now }
 {
@@ -67,7 +67,7 @@ fn first_other(wanted: &[u8], bytes: &[u8]) -> Option<usize>
 }
 
 /// The fault of a file that isn't a little-endian ELF64 file with a whole header.
-#[tactic(auto, unfolding(dwz_docs::specs::ElfReading::identification_fault))]
+#[tactic(auto, unfolding(dwz_def_reading::specs::ElfReading::identification_fault))]
 pub(crate) fn identification_fault(bytes: &[u8]) -> Option<Fault>
     ensures fault { result ≡ ElfReading.identification_fault bytes.now }
     ensures room { IfNone result (64 ≤ length bytes.now) }
@@ -82,7 +82,7 @@ pub(crate) fn identification_fault(bytes: &[u8]) -> Option<Fault>
 }
 
 /// The first fault of the file header's fields, in a file of that length.
-#[tactic(auto, unfolding(dwz_docs::specs::ElfReading::field_fault))]
+#[tactic(auto, unfolding(dwz_def_reading::specs::ElfReading::field_fault_for))]
 pub(crate) fn field_fault(len: usize, file: &FileHeader) -> Option<Fault>
     ensures fault { result ≡ ElfReading.field_fault len file.now }
     ensures names { IfNone result (file.now.names < file.now.headers) }
@@ -122,7 +122,7 @@ pub(crate) fn program_headers_end(file: &FileHeader) -> u128
 }
 
 /// The fault of the name table, in a file of that length.
-#[tactic(auto, unfolding(dwz_docs::specs::ElfReading::names_fault))]
+#[tactic(auto, unfolding(dwz_def_reading::specs::ElfReading::names_fault))]
 pub(crate) fn names_fault(len: usize, names: &Header) -> Option<Fault>
     ensures fault { result ≡ ElfReading.names_fault len names.now }
     ensures room { IfNone result (ElfHeaders.end_of names.now ≤ len) }
@@ -206,7 +206,7 @@ fn is_rewritten(sections: &[Section], index: u32) -> bool
 }
 
 // The fault of a section that can't be kept, or read.
-#[tactic(auto, unfolding(dwz_docs::specs::ElfReading::unkept_fault))]
+#[tactic(auto, unfolding(dwz_def_reading::specs::ElfReading::unkept_fault_for))]
 fn unkept_fault(sections: &[Section], section: &Section) -> Option<Fault>
     ensures { result ≡ ElfReading.unkept_fault sections.now section.now }
 {
@@ -237,7 +237,7 @@ pub(crate) fn kept_fault(sections: &[Section]) -> Option<Fault>
 }
 
 /// The fault of a file without debug information.
-#[tactic(auto, unfolding(dwz_docs::specs::ElfReading::missing_fault))]
+#[tactic(auto, unfolding(dwz_def_reading::specs::ElfReading::missing_fault))]
 pub(crate) fn missing_fault(sections: &[Section]) -> Option<Fault>
     ensures { result ≡ ElfReading.missing_fault sections.now }
 {

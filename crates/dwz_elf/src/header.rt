@@ -1,11 +1,11 @@
 //! The file header and the section headers, as they are stored.
 
 ghost use Rattle.std.specs.Prelude.{◌≡◌, ◌≤◌, ◌+◌, ◌*◌, IfOk, length};
-ghost use Rattle.dwz_docs.specs.ElfHeaders;
-ghost use Rattle.dwz_docs.specs.ElfHeaders.{number_at};
+ghost use Rattle.dwz_def_reading.specs.ElfHeaders;
+ghost use Rattle.dwz_def_reading.specs.ElfHeaders.{number_at};
 
 use dwz_bytes::Cursor;
-use dwz_docs::{FileHeader, Header};
+use dwz_def_reading::{FileHeader, Header};
 use dwz_model::NoMemory;
 use std::alloc::Global;
 
@@ -22,7 +22,7 @@ const SHF_ALLOC: u64 = 2;
 const SHF_COMPRESSED: u64 = 0x800;
 
 // The number of two bytes at a place.
-#[tactic(auto, unfolding(dwz_docs::specs::ElfHeaders::number_at))]
+#[tactic(auto, unfolding(dwz_def_reading::specs::ElfHeaders::number_at))]
 fn u16_at(bytes: &[u8], at: usize) -> u16
     requires { at + 2 ≤ length bytes.now }
     ensures { result ≡ number_at bytes.now at 2 }
@@ -35,7 +35,7 @@ fn u16_at(bytes: &[u8], at: usize) -> u16
 }
 
 // The number of four bytes at a place.
-#[tactic(auto, unfolding(dwz_docs::specs::ElfHeaders::number_at))]
+#[tactic(auto, unfolding(dwz_def_reading::specs::ElfHeaders::number_at))]
 fn u32_at(bytes: &[u8], at: usize) -> u32
     requires { at + 4 ≤ length bytes.now }
     ensures { result ≡ number_at bytes.now at 4 }
@@ -48,7 +48,7 @@ fn u32_at(bytes: &[u8], at: usize) -> u32
 }
 
 // The number of eight bytes at a place.
-#[tactic(auto, unfolding(dwz_docs::specs::ElfHeaders::number_at))]
+#[tactic(auto, unfolding(dwz_def_reading::specs::ElfHeaders::number_at))]
 fn u64_at(bytes: &[u8], at: usize) -> u64
     requires { at + 8 ≤ length bytes.now }
     ensures { result ≡ number_at bytes.now at 8 }

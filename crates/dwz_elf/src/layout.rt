@@ -2,8 +2,8 @@
 
 ghost use Rattle.std.specs.Prelude.{◌≡◌, ℕ, ◌+◌, ◌-◌, ◌*◌, ◌^◌, ◌<◌, ◌≤◌, ◌++◌, IfOk, length, drop, take};
 ghost use Rattle.std.specs.Int.{next_multiple_of};
-ghost use Rattle.dwz_docs.specs.ElfHeaders;
-ghost use Rattle.dwz_docs.specs.ElfLayout;
+ghost use Rattle.dwz_def_reading.specs.ElfHeaders;
+ghost use Rattle.dwz_def_reading.specs.ElfLayout;
 ghost use Rattle.dwz_elf.specs.Places.{ArePlaced};
 ghost use Rattle.dwz_elf.specs.Rebuilds.{changes_of};
 
@@ -11,7 +11,7 @@ use crate::edits::{Edits, replacement};
 use crate::elf::Elf;
 use crate::fault::program_headers_end;
 use crate::header::{end_of, is_loaded, is_there};
-use dwz_docs::{Header, Moved, Section};
+use dwz_def_reading::{Header, Moved, Section};
 use dwz_model::{Fault, NoMemory, Reason};
 use std::alloc::Global;
 
@@ -34,7 +34,7 @@ fn loaded_end(sections: &[Section]) -> u128
 }
 
 /// Where the kept bytes end.
-#[tactic(auto, unfolding(dwz_docs::specs::ElfLayout::keep_end))]
+#[tactic(auto, unfolding(dwz_def_reading::specs::ElfLayout::keep_end))]
 pub(crate) fn keep_end(elf: &Elf) -> u128
     ensures { result ≡ ElfLayout.keep_end elf.now }
 {
@@ -67,7 +67,7 @@ fn is_inside(elf: &Elf, edits: &Edits, keep: u128, index: usize, section: &Secti
 }
 
 /// The fault of the first section that can't be laid out around the kept bytes.
-#[tactic(auto, unfolding(dwz_docs::specs::ElfLayout::layout_fault))]
+#[tactic(auto, unfolding(dwz_def_reading::specs::ElfLayout::layout_fault))]
 pub(crate) fn layout_fault(elf: &Elf, edits: &Edits, keep: u128) -> Option<Fault>
     requires { keep ≡ ElfLayout.keep_end elf.now }
     ensures { result ≡ ElfLayout.layout_fault elf.now (changes_of edits.now) }
@@ -141,7 +141,7 @@ fn content<'b>(input: &'b [u8], header: &Header) -> &'b [u8]
 }
 
 /// The content in the new file of the section with an index, in two parts.
-#[tactic(auto, unfolding(dwz_docs::specs::ElfLayout::content_at))]
+#[tactic(auto, unfolding(dwz_def_reading::specs::ElfLayout::content_at))]
 pub(crate) fn content_at<'b>(
     elf: &Elf,
     edits: &'b Edits,
@@ -164,7 +164,7 @@ pub(crate) fn content_at<'b>(
 }
 
 // The alignment of the section with an index.
-#[tactic(auto, unfolding(dwz_docs::specs::ElfLayout::align_at))]
+#[tactic(auto, unfolding(dwz_def_reading::specs::ElfLayout::align_at))]
 fn align_at(elf: &Elf, index: usize) -> u64
     ensures align { result ≡ ElfLayout.align_at elf.now index }
     ensures some { 0 < result }

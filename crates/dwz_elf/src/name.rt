@@ -1,12 +1,15 @@
 //! The names of sections.
+//!
+//! No name is read past 24 bytes. Where the last name of the table ends is looked for once, from the back, and a name that begins before
+//! that place ends: so many sections that name one long text cost no time.
 
 ghost use Rattle.std.specs.Prelude.{◌≡◌, ℕ, ◌+◌, ◌<◌, ◌≤◌, IfSome, length, drop, take, nat_lt, is_some, nat_eq, codes};
 ghost use Rattle.std.specs.List.{list_any, starts_with};
 ghost use Rattle.std.specs.Str.{bytes_eq};
-ghost use Rattle.dwz_docs.specs.ElfNames;
+ghost use Rattle.dwz_def_reading.specs.ElfNames;
 ghost use Rattle.dwz_elf.specs.Names.{IsNamesEnd, is_called};
 
-use dwz_docs::{Header, Name, Section};
+use dwz_def_reading::{Header, Name, Section};
 
 // More bytes than each name has that says something.
 const LONG: usize = 24;
@@ -82,7 +85,7 @@ pub(crate) fn names_end(table: &[u8]) -> usize
 
 // The first bytes of the name at the front, which ends.
 fn front_of(rest: &[u8]) -> &[u8]
-    ensures { IfSome (ElfNames.name_in rest.now) (λ name. result.now ≡ take LONG name) }
+    ensures { IfSome (ElfNames.section_name_in rest.now) (λ name. result.now ≡ take LONG name) }
 {
     for i in 0..LONG {
         if i >= rest.len() {

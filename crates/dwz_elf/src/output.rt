@@ -2,14 +2,14 @@
 
 ghost use Rattle.std.specs.Prelude.{◌≡◌, ℕ, ◌+◌, ◌-◌, ◌*◌, ◌<◌, ◌≤◌, ◌++◌, OnOk, IfOk, Some, length, replicate, drop, take, slice_get};
 ghost use Rattle.dwz_bytes.specs.Spelling.{le_bytes};
-ghost use Rattle.dwz_docs.specs.ElfLayout;
+ghost use Rattle.dwz_def_reading.specs.ElfLayout;
 ghost use Rattle.dwz_elf.specs.Places.{AreByIndex};
 ghost use Rattle.dwz_elf.specs.Rebuilds.{changes_of};
 
 use crate::edits::{Edits, sup_bytes};
 use crate::elf::Elf;
 use crate::layout::{Places, before, behind, content_at};
-use dwz_docs::{Moved, Section};
+use dwz_def_reading::{Moved, Section};
 use dwz_model::NoMemory;
 use std::alloc::Global;
 
@@ -77,7 +77,7 @@ fn over_number(
 
 // Appends the bytes below a place, and zero bytes where the file has ended.
 fn put_kept(out: &mut Vec<u8>, keep: usize, input: &[u8]) -> Result<(), NoMemory>
-    ensures bytes { OnOk result (out.new.items ≡ out.old.items ++ ElfLayout.kept keep input.now) }
+    ensures bytes { OnOk result (out.new.items ≡ out.old.items ++ ElfLayout.kept_bytes keep input.now) }
     ensures len { OnOk result (length out.new.items ≡ length out.old.items + keep) }
 {
     let whole = keep.min(input.len());
@@ -184,7 +184,7 @@ fn names_size(elf: &Elf) -> u64
 }
 
 // Appends the header of the section that is added at a place, if there is one.
-#[tactic(auto, unfolding(dwz_docs::specs::ElfLayout::sup_header))]
+#[tactic(auto, unfolding(dwz_def_reading::specs::ElfLayout::sup_header))]
 fn put_sup_header(out: &mut Vec<u8>, elf: &Elf, edits: &Edits, at: u64) -> Result<(), NoMemory>
     ensures { OnOk result (out.new.items ≡ out.old.items ++ ElfLayout.sup_header elf.now at edits.now.sup) }
 {
@@ -239,7 +239,7 @@ pub(crate) fn file_of(
     requires keep { keep ≡ ElfLayout.keep_end elf.now }
     requires end { places.now.end ≡ ElfLayout.placed_end keep places.now.moved.items }
     requires headers { headers_at ≡ ElfLayout.new_headers_at (changes_of edits.now) places.now.end }
-    ensures { IfOk result (λ out. out.items ≡ ElfLayout.file_of elf.now (changes_of edits.now) input.now places.now.moved.items) }
+    ensures { IfOk result (λ out. out.items ≡ ElfLayout.laid_file elf.now (changes_of edits.now) input.now places.now.moved.items) }
 {
     let sections = elf.sections();
     let sup = sup_bytes(edits);

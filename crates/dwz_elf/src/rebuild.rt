@@ -1,15 +1,18 @@
 //! The same file with some sections replaced.
+//!
+//! A new content for a section that has one already replaces it. Both faults of laying out come before any byte is written, the section
+//! inside loaded bytes before the file that is too large.
 
 ghost use Rattle.std.specs.Prelude.{◌≡◌, ℕ, ◌<◌, ◌≤◌, [], None, Some, IsSome, IsNone, IfOk, OnOk, OnErr};
-ghost use Rattle.dwz_docs.specs.ElfLayout;
-ghost use Rattle.dwz_docs.specs.ElfReading.{section_range};
+ghost use Rattle.dwz_def_reading.specs.ElfLayout;
+ghost use Rattle.dwz_def_reading.specs.ElfReading.{section_range};
 ghost use Rattle.dwz_elf.specs.Rebuilds.{Finishes, IsWritten, changes_of, replaced, with_sup};
 
 use crate::edits::{Edits, sup_bytes};
 use crate::elf::Elf;
 use crate::layout::{self, TOO_LARGE};
 use crate::output::{file_of, new_count};
-use dwz_docs::NewContent;
+use dwz_def_reading::NewContent;
 use dwz_model::{Blob, Fault, NoMemory, ReadErr, Reason};
 use std::alloc::Global;
 use std::marker::Model;

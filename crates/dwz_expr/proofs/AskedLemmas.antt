@@ -4,15 +4,16 @@ use Rattle.dwz_model.specs.declared.fault.Fault.{Fault}
 use Rattle.dwz_bytes.specs.Input.{Input}
 use Rattle.dwz_bytes.specs.Reading.{◌>>=◌}
 use Rattle.dwz_codes.specs.Operators.{operator_rows}
-use Rattle.dwz_meanings.specs.declared.exprs.Operand.{Operand}
-use Rattle.dwz_meanings.specs.Exprs.{ExprContext, Expression, Field, Found, InsideReader, any_operands, bad_expr, expr_within, expression_of, expression_with, fields_at, fields_of, first_unnamed}
-use Rattle.dwz_meanings.specs.Exprs.{joined, named_in, op_at, op_by, op_in, operands_in, unless_unnamed}
-use Rattle.dwz_meanings.specs.Sequences.{after_one, all_at, all_from, with_item}
-use Rattle.dwz_docs.specs.Units.{is_empty}
-use Rattle.dwz_docs.specs.Values.{shape_of}
-use Rattle.dwz_docs.proofs.PartLemmas.{bind_ok}
-use Rattle.dwz_meanings.proofs.SequenceLemmas.{input_of}
-use Rattle.dwz_meanings.proofs.StandLemmas.{operands_both}
+use Rattle.dwz_def_reading.specs.declared.exprs.Operand.{Operand}
+use Rattle.dwz_def_reading.specs.Exprs.{ExprContext, Expression, Field, FieldItem, InsideReader, any_operands, bad_expr, expr_within, expression_of, expression_with, fields_at, fields_of}
+use Rattle.dwz_def_reading.specs.Exprs.{first_unnamed}
+use Rattle.dwz_def_reading.specs.Exprs.{joined_items, op_at, op_by, op_in, operands_in, unless_unnamed, with_named_entries}
+use Rattle.dwz_def_reading.specs.Sequences.{after_one, all_at, all_from, with_item}
+use Rattle.dwz_def_reading.specs.Units.{is_empty}
+use Rattle.dwz_def_reading.specs.Values.{shape_of}
+use Rattle.dwz_def_reading.proofs.PartLemmas.{bind_ok}
+use Rattle.dwz_def_reading.proofs.SequenceLemmas.{input_of}
+use Rattle.dwz_def_reading.proofs.StandLemmas.{operands_both}
 use Rattle.dwz_expr.specs.FirstFault.{asked, unless_one}
 
 -- ---- lookups
@@ -59,22 +60,22 @@ asked_any section operands answer = ap (unless_one (any_operands section) answer
 
 -- ---- operators
 
-pub named_is : (c : ExprContext) (x : List Found × Input) → named_in c x ≡ asked c (operands_in x.0) (Ok x)
+pub named_is : (c : ExprContext) (x : List FieldItem × Input) → with_named_entries c x ≡ asked c (operands_in x.0) (Ok x)
 named_is c x = by (first_unnamed c.names (operands_in x.0)) where
   by : (o : Option Operand) → unless_unnamed c x o ≡ unless_one c (Ok x) o
   by None = refl
   by (Some o) = refl
 
 -- what was read by an operator was looked up
-looked_up : (c : ExprContext) (r : Result (List Found × Input) Fault) (x : List Found × Input) → (r >>= named_in c) ≡ Ok x → first_unnamed c.names (operands_in x.0) ≡ None
-looked_up c r x is = let b = bind_ok r (named_in c) x is in by b.0 (first_unnamed c.names (operands_in b.0.0)) refl b.2 where
-  by : (y : List Found × Input) (o : Option Operand) → first_unnamed c.names (operands_in y.0) ≡ o → unless_unnamed c y o ≡ Ok x → first_unnamed c.names (operands_in x.0) ≡ None
-  by y None none e = let same : y ≡ x = okay_same y x e in ap (λ (w : List Found × Input). first_unnamed c.names (operands_in w.0)) (sym same) ∙ none where
-    okay_same : (a b : List Found × Input) → unless_unnamed c a None ≡ Ok b → a ≡ b
+looked_up : (c : ExprContext) (r : Result (List FieldItem × Input) Fault) (x : List FieldItem × Input) → (r >>= with_named_entries c) ≡ Ok x → first_unnamed c.names (operands_in x.0) ≡ None
+looked_up c r x is = let b = bind_ok r (with_named_entries c) x is in by b.0 (first_unnamed c.names (operands_in b.0.0)) refl b.2 where
+  by : (y : List FieldItem × Input) (o : Option Operand) → first_unnamed c.names (operands_in y.0) ≡ o → unless_unnamed c y o ≡ Ok x → first_unnamed c.names (operands_in x.0) ≡ None
+  by y None none e = let same : y ≡ x = okay_same y x e in ap (λ (w : List FieldItem × Input). first_unnamed c.names (operands_in w.0)) (sym same) ∙ none where
+    okay_same : (a b : List FieldItem × Input) → unless_unnamed c a None ≡ Ok b → a ≡ b
     okay_same a b e = cc
   by y (Some o) some e = absurd cc
 
-op_looked_up : (c : ExprContext) (inner : InsideReader) (i : Input) (x : List Found × Input) → op_at c inner i ≡ Ok x → first_unnamed c.names (operands_in x.0) ≡ None
+op_looked_up : (c : ExprContext) (inner : InsideReader) (i : Input) (x : List FieldItem × Input) → op_at c inner i ≡ Ok x → first_unnamed c.names (operands_in x.0) ≡ None
 unfolding op_at
 op_looked_up c inner i x is = by i.rest is where
   laid_by : (code : ℕ) (rest : List ℕ) (laid : Option (List Field)) → op_by c inner i.at code laid (input_of (i.at + 1) rest) ≡ Ok x → first_unnamed c.names (operands_in x.0) ≡ None
@@ -85,44 +86,46 @@ op_looked_up c inner i x is = by i.rest is where
   by [] e = absurd cc
   by (code ∷ rest) e = laid_by code rest (fields_of (shape_of operator_rows code)) e
 
-first_joined : (c : ExprContext) (founds : List Found) (ops : List (List Found)) → first_unnamed c.names (operands_in founds) ≡ None → first_unnamed c.names (operands_in (joined ops)) ≡ None
-    → first_unnamed c.names (operands_in (joined (founds ∷ ops))) ≡ None
-unfolding joined
+first_joined : (c : ExprContext) (founds : List FieldItem) (ops : List (List FieldItem)) → first_unnamed c.names (operands_in founds) ≡ None
+    → first_unnamed c.names (operands_in (joined_items ops)) ≡ None
+    → first_unnamed c.names (operands_in (joined_items (founds ∷ ops))) ≡ None
+unfolding joined_items
 first_joined c founds ops one others =
-    ap (first_unnamed c.names) (operands_both founds (joined ops))
-    ∙ first_append c.names (operands_in founds) (operands_in (joined ops))
-    ∙ ap (λ (o : Option Operand). first_or o (first_unnamed c.names (operands_in (joined ops)))) one
+    ap (first_unnamed c.names) (operands_both founds (joined_items ops))
+    ∙ first_append c.names (operands_in founds) (operands_in (joined_items ops))
+    ∙ ap (λ (o : Option Operand). first_or o (first_unnamed c.names (operands_in (joined_items ops)))) one
     ∙ others
 
-abbrev okay : List (List Found) → Result (List (List Found)) Fault
+abbrev okay : List (List FieldItem) → Result (List (List FieldItem)) Fault
 okay ops = Ok ops
 
 abbrev okay_expr : Expression → Result Expression Fault
 okay_expr e = Ok e
 
-same_okay : (a b : List (List Found)) → okay a ≡ okay b → a ≡ b
+same_okay : (a b : List (List FieldItem)) → okay a ≡ okay b → a ≡ b
 same_okay a b e = cc
 
-none_unnamed : (c : ExprContext) (ops : List (List Found)) → [] ≡ ops → first_unnamed c.names (operands_in (joined ops)) ≡ None
-unfolding joined operands_in first_unnamed
-none_unnamed c ops same = ap (λ (w : List (List Found)). first_unnamed c.names (operands_in (joined w))) (sym same)
+none_unnamed : (c : ExprContext) (ops : List (List FieldItem)) → [] ≡ ops → first_unnamed c.names (operands_in (joined_items ops)) ≡ None
+unfolding joined_items operands_in first_unnamed
+none_unnamed c ops same = ap (λ (w : List (List FieldItem)). first_unnamed c.names (operands_in (joined_items w))) (sym same)
 
-all_looked_up : (c : ExprContext) (inner : InsideReader) (n : ℕ) (i : Input) (ops : List (List Found)) → all_from (op_at c inner) n i ≡ Ok ops → first_unnamed c.names (operands_in (joined ops)) ≡ None
+all_looked_up : (c : ExprContext) (inner : InsideReader) (n : ℕ) (i : Input) (ops : List (List FieldItem)) → all_from (op_at c inner) n i ≡ Ok ops
+    → first_unnamed c.names (operands_in (joined_items ops)) ≡ None
 unfolding all_from
 all_looked_up c inner zero i ops is = none_unnamed c ops (same_okay [] ops is)
 all_looked_up c inner (suc n) i ops is = by (λ j others e. all_looked_up c inner n j others e) (is_empty i.rest) is where
-  no_operands : okay [] ≡ okay ops → first_unnamed c.names (operands_in (joined ops)) ≡ None
+  no_operands : okay [] ≡ okay ops → first_unnamed c.names (operands_in (joined_items ops)) ≡ None
   no_operands e = none_unnamed c ops (same_okay [] ops e)
 
-  rest_of : ((j : Input) (others : List (List Found)) → all_from (op_at c inner) n j ≡ Ok others → first_unnamed c.names (operands_in (joined others)) ≡ None) → (x : List Found × Input)
-      → op_at c inner i ≡ Ok x → (all_from (op_at c inner) n x.1 >>= with_item x.0) ≡ Ok ops → first_unnamed c.names (operands_in (joined ops)) ≡ None
+  rest_of : ((j : Input) (others : List (List FieldItem)) → all_from (op_at c inner) n j ≡ Ok others → first_unnamed c.names (operands_in (joined_items others)) ≡ None) → (x : List FieldItem × Input)
+      → op_at c inner i ≡ Ok x → (all_from (op_at c inner) n x.1 >>= with_item x.0) ≡ Ok ops → first_unnamed c.names (operands_in (joined_items ops)) ≡ None
   rest_of looked x one e =
       let b = bind_ok (all_from (op_at c inner) n x.1) (with_item x.0) ops e in
       let same = same_okay (x.0 ∷ b.0) ops b.2 in
-      ap (λ (w : List (List Found)). first_unnamed c.names (operands_in (joined w))) (sym same) ∙ first_joined c x.0 b.0 (op_looked_up c inner i x one) (looked x.1 b.0 b.1)
+      ap (λ (w : List (List FieldItem)). first_unnamed c.names (operands_in (joined_items w))) (sym same) ∙ first_joined c x.0 b.0 (op_looked_up c inner i x one) (looked x.1 b.0 b.1)
 
-  by : ((j : Input) (others : List (List Found)) → all_from (op_at c inner) n j ≡ Ok others → first_unnamed c.names (operands_in (joined others)) ≡ None) → (t : Bool)
-      → cond t (Ok []) (op_at c inner i >>= after_one (all_from (op_at c inner) n)) ≡ Ok ops → first_unnamed c.names (operands_in (joined ops)) ≡ None
+  by : ((j : Input) (others : List (List FieldItem)) → all_from (op_at c inner) n j ≡ Ok others → first_unnamed c.names (operands_in (joined_items others)) ≡ None) → (t : Bool)
+      → cond t (Ok []) (op_at c inner i >>= after_one (all_from (op_at c inner) n)) ≡ Ok ops → first_unnamed c.names (operands_in (joined_items ops)) ≡ None
   by looked true e = no_operands e
   by looked false e = let b = bind_ok (op_at c inner i) (after_one (all_from (op_at c inner) n)) ops e in rest_of looked b.0 b.1 b.2
 

@@ -8,14 +8,15 @@ use Rattle.dwz_model.specs.declared.place.Base.TheVariants.{Unit as FromUnit}
 use Rattle.dwz_bytes.specs.declared.error.ByteErr.{ByteErr}
 use Rattle.dwz_bytes.specs.Input.{Input}
 use Rattle.dwz_bytes.specs.Reading.{◌>>=◌, fixed_at, sleb_at, take_at, uleb_at}
-use Rattle.dwz_meanings.specs.declared.exprs.Operand.{Operand}
-use Rattle.dwz_meanings.specs.Exprs.{AnAddress, Counted, Entry4, EntryOrGeneric, EntryUleb, Field, Found, Inside, InsideReader, Located, LocatedBy, Names, Run, Signed, Sized, Unsigned, an_address}
-use Rattle.dwz_meanings.specs.Exprs.{an_operand, an_operand_or_generic, field_at, fields_at, has_address, nothing, operands_in, or_fault, seen_piece}
-use Rattle.dwz_meanings.specs.Sequences.{then_make, then_read}
-use Rattle.dwz_meanings.proofs.FoundLemmas.{address_append}
-use Rattle.dwz_meanings.proofs.StandLemmas.{operands_both}
-use Rattle.dwz_docs.specs.Values.{block_at}
-use Rattle.dwz_docs.proofs.CaseFacts.{or_assoc}
+use Rattle.dwz_def_reading.specs.declared.exprs.Operand.{Operand}
+use Rattle.dwz_def_reading.specs.Exprs.{AnAddress, Counted, Entry4, EntryOrGeneric, EntryUleb, Field, FieldItem, Inside, InsideReader, Located, LocatedBy, Names, Run, Signed, Sized, Unsigned}
+use Rattle.dwz_def_reading.specs.Exprs.{an_address}
+use Rattle.dwz_def_reading.specs.Exprs.{an_operand, an_operand_or_generic, any_address, field_at, fields_at, nothing, operands_in, or_fault, seen_piece}
+use Rattle.dwz_def_reading.specs.Sequences.{then_make, then_read}
+use Rattle.dwz_def_reading.proofs.FoundLemmas.{address_append}
+use Rattle.dwz_def_reading.proofs.StandLemmas.{operands_both}
+use Rattle.dwz_def_reading.specs.Values.{block_at}
+use Rattle.dwz_def_reading.proofs.CaseFacts.{or_assoc}
 use Rattle.dwz_expr.specs.Gathering.{Gathered, field_into, fields_into, gather, located, run_of, unchanged, with_operand, with_some, as_operand, operand_of}
 
 -- ---- what is gathered in turn
@@ -24,16 +25,16 @@ pub or_false : (a : Bool) → (a || false) ≡ a
 or_false true = refl
 or_false false = refl
 
-pub gather_append : (g : Gathered) (a b : List Found) → gather g (a ++ b) ≡ gather (gather g a) b
+pub gather_append : (g : Gathered) (a b : List FieldItem) → gather g (a ++ b) ≡ gather (gather g a) b
 gather_append g a b =
     let operands : g.operands ++ operands_in (a ++ b) ≡ (g.operands ++ operands_in a) ++ operands_in b = ap (λ (w : List Operand). g.operands ++ w) (operands_both a b)
     ∙ sym (append_assoc g.operands (operands_in a) (operands_in b)) in
-    let address : (g.address || has_address (a ++ b)) ≡ ((g.address || has_address a) || has_address b) = ap (λ (t : Bool). g.address || t) (address_append a b)
-    ∙ or_assoc g.address (has_address a) (has_address b) in
+    let address : (g.address || any_address (a ++ b)) ≡ ((g.address || any_address a) || any_address b) = ap (λ (t : Bool). g.address || t) (address_append a b)
+    ∙ or_assoc g.address (any_address a) (any_address b) in
     λ n. record { operands = operands n; address = address n }
 
 pub gather_none : (g : Gathered) → gather g [] ≡ g
-unfolding operands_in has_address
+unfolding operands_in any_address
 gather_none g = let operands = append-nil g.operands in let address = or_false g.address in λ n. record { operands = operands n; address = address n }
 
 -- ---- fields in which no expression stands
@@ -46,7 +47,7 @@ abbrev pub AreFlat : List Field → Type 0
 AreFlat [] = Unit {0}
 AreFlat (field ∷ fields) = IsFlat field × AreFlat fields
 
-abbrev pub into : Gathered → List Found × Input → Result (Gathered × Input) Fault
+abbrev pub into : Gathered → List FieldItem × Input → Result (Gathered × Input) Fault
 into g x = Ok (gather g x.0, x.1)
 
 -- a result that goes on
@@ -59,7 +60,7 @@ bind_assoc (Ok x) f h = refl
 bind_assoc (Err e) f h = refl
 
 -- what reads bytes, and what it holds
-piece_into : {X : Type 0} (r : Result (X × Input) Fault) (seen : ℕ → ℕ → X → List Found) (at : ℕ) (g : Gathered) (h : X × Input → Result (Gathered × Input) Fault)
+piece_into : {X : Type 0} (r : Result (X × Input) Fault) (seen : ℕ → ℕ → X → List FieldItem) (at : ℕ) (g : Gathered) (h : X × Input → Result (Gathered × Input) Fault)
     → ((x : X × Input) → into g (seen at (x.1.at - at) x.0, x.1) ≡ h x) → ((r >>= seen_piece seen at) >>= into g) ≡ (r >>= h)
 piece_into (Ok x) seen at g h same = same x
 piece_into (Err f) seen at g h same = refl
@@ -72,11 +73,11 @@ or_true true = refl
 or_true false = refl
 
 address_held : (g : Gathered) (j : Input) → into g (AnAddress ∷ [], j) ≡ Ok (record { operands = g.operands; address = true }, j)
-unfolding operands_in has_address
+unfolding operands_in any_address
 address_held g j = let operands = append-nil g.operands in let address = or_true g.address in λ n. Ok (record { operands = operands n; address = address n }, j)
 
 operand_held : (g : Gathered) (o : Operand) (j : Input) → into g (Names o ∷ [], j) ≡ Ok (record { operands = g.operands ++ o ∷ []; address = g.address }, j)
-unfolding operands_in has_address
+unfolding operands_in any_address
 operand_held g o j = let address = or_false g.address in λ n. Ok (record { operands = g.operands ++ o ∷ []; address = address n }, j)
 
 operand_into : (uleb : Bool) (base : Base) (r : Result (ℕ × Input) Fault) (at : ℕ) (g : Gathered) → ((r >>= seen_piece (an_operand uleb base) at) >>= into g)
@@ -119,11 +120,11 @@ pub fields_are : (inner : InsideReader) (bad : Fault) (fields : List Field) (g :
 unfolding fields_at fields_into
 fields_are inner bad [] g i flat = none_held g i
 fields_are inner bad (field ∷ fields) g i flat = go (λ h j. fields_are inner bad fields h j flat.1) (field_at inner bad field i) (field_is inner bad field g i flat.0) where
-  behind : (x : List Found × Input) (r : Result (List Found × Input) Fault) → ((r >>= then_make (λ a b. a ++ b) x.0) >>= into g) ≡ (r >>= into (gather g x.0))
+  behind : (x : List FieldItem × Input) (r : Result (List FieldItem × Input) Fault) → ((r >>= then_make (λ a b. a ++ b) x.0) >>= into g) ≡ (r >>= into (gather g x.0))
   behind x (Ok y) = ap (λ (w : Gathered). Ok (w, y.1)) (gather_append g x.0 y.0)
   behind x (Err f) = refl
 
-  go : ((h : Gathered) (j : Input) → (fields_at inner bad fields j >>= into h) ≡ fields_into bad fields h j) → (r : Result (List Found × Input) Fault) → (r >>= into g) ≡ field_into bad field g i
+  go : ((h : Gathered) (j : Input) → (fields_at inner bad fields j >>= into h) ≡ fields_into bad fields h j) → (r : Result (List FieldItem × Input) Fault) → (r >>= into g) ≡ field_into bad field g i
       → ((r >>= then_read (λ _. fields_at inner bad fields) (λ a b. a ++ b)) >>= into g) ≡ (field_into bad field g i >>= λ x. fields_into bad fields x.0 x.1)
   go others (Ok x) is = behind x (fields_at inner bad fields x.1) ∙ others (gather g x.0) x.1 ∙ ap (λ (r : Result (Gathered × Input) Fault). r >>= λ p. fields_into bad fields p.0 p.1) is
   go others (Err f) is = ap (λ (r : Result (Gathered × Input) Fault). r >>= λ p. fields_into bad fields p.0 p.1) is

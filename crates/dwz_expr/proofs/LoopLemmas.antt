@@ -11,7 +11,7 @@ use Rattle.dwz_model.specs.declared.fault.Fault.{Fault}
 use Rattle.dwz_model.specs.declared.fault.ReadErr.{ReadErr}
 use Rattle.dwz_model.specs.declared.fault.ReadErr.TheVariants.{NoMemory, Refused}
 use Rattle.dwz_bytes.specs.Input.{Input}
-use Rattle.dwz_docs.specs.Faults.{Fails}
+use Rattle.dwz_def_reading.specs.Faults.{Fails}
 use Rattle.dwz_bytes.specs.Reading.{◌>>=◌, fixed_at, take_at}
 use Rattle.dwz_bytes.proofs.GroupLemmas.{chosen}
 use Rattle.dwz_codes.specs.Operators.{operator_rows}
@@ -19,18 +19,18 @@ use Rattle.dwz_codes.specs.declared.shape.Shape.{Shape}
 use Rattle.dwz_codes.specs.declared.shape.Shape.TheVariants.{Nothing, Fixed1, Fixed2, Fixed4, Fixed8, Uleb, Sleb, UlebSleb, UlebUleb, BlockUleb, Address, AddressIndex, NestedExpr, UnitEntry4}
 use Rattle.dwz_codes.specs.declared.shape.Shape.TheVariants.{InfoEntry4, InfoEntry4Sleb, UlebEntryConst, RegisterUlebEntry, SizeUlebEntry, UlebEntryOrGeneric, UlebUlebExpr, AddressAddressExpr}
 use Rattle.dwz_codes.specs.declared.shape.Shape.TheVariants.{AddressUlebExpr}
-use Rattle.dwz_meanings.specs.Exprs.{ExprContext, Field, Found, IsFaultWithin, SpellsWithin, any_operands, bad_expr, expr_within, fields_of, op_at, or_fault, unsupported}
-use Rattle.dwz_meanings.specs.declared.exprs.Operand.{Operand}
+use Rattle.dwz_def_reading.specs.Exprs.{ExprContext, Field, FieldItem, IsFaultWithin, SpellsWithin, any_operands, bad_expr, expr_within, fields_of, op_at, or_fault, unsupported}
+use Rattle.dwz_def_reading.specs.declared.exprs.Operand.{Operand}
 use Rattle.dwz_model.specs.declared.fault.Reason.TheVariants.{BadExpr, UnsupportedOp}
 use Rattle.dwz_codes.specs.Rows.{RowView, row_of}
-use Rattle.dwz_docs.specs.Values.{shape_in, shape_of}
-use Rattle.dwz_meanings.proofs.ExprLemmas.{op_reads, op_takes, within_reads}
-use Rattle.dwz_meanings.proofs.FieldLemmas.{bytes_agree}
-use Rattle.dwz_docs.proofs.PartLemmas.{bind_ok}
-use Rattle.dwz_docs.proofs.ReadLemmas.{fixed_reads, run_reads}
-use Rattle.dwz_docs.proofs.AbbrevLemmas.{byte_of}
-use Rattle.dwz_meanings.proofs.SequenceLemmas.{input_of}
-use Rattle.dwz_meanings.proofs.FileLemmas.{or_true}
+use Rattle.dwz_def_reading.specs.Values.{shape_in, shape_of}
+use Rattle.dwz_def_reading.proofs.ExprLemmas.{op_reads, op_takes, within_reads}
+use Rattle.dwz_def_reading.proofs.FieldLemmas.{bytes_agree}
+use Rattle.dwz_def_reading.proofs.PartLemmas.{bind_ok}
+use Rattle.dwz_def_reading.proofs.ReadLemmas.{fixed_reads, run_reads}
+use Rattle.dwz_def_reading.proofs.AbbrevLemmas.{byte_of}
+use Rattle.dwz_def_reading.proofs.SequenceLemmas.{input_of}
+use Rattle.dwz_def_reading.proofs.FileLemmas.{or_true}
 use Rattle.dwz_expr.specs.Flat.{HasNoExpression}
 use Rattle.dwz_expr.specs.FirstFault.{asked}
 use Rattle.dwz_expr.specs.Gathering.{Gathered, Grows, InEach, added, fields_into, gather, gathered, nested_into, op_into, ops_into}
@@ -145,7 +145,7 @@ same_fault e f is = cc
 
 -- one in which no expression stands
 module _ (section k at code : ℕ) (rest : List ℕ) where
-  abbrev op_of : ExprContext → Result (List Found × Input) Fault
+  abbrev op_of : ExprContext → Result (List FieldItem × Input) Fault
   op_of c = op_at c (expr_within c k) (input_of at (code ∷ rest))
 
   pub flat_read : (a : Bool) (laid : Option (List Field)) → fields_of (shape_of operator_rows code) ≡ laid → ((fields : List Field) → laid ≡ Some fields → AreFlat fields)
@@ -229,7 +229,7 @@ module _ (section k : ℕ) (a0 : Bool) (i0 : Input) (pre ops : List Operand) (a 
   behind_is : input_of (i.at + 1) j.rest ≡ j
   behind_is = let at = sym is_code.at in λ n. record { at = at n; rest = j.rest }
 
-  abbrev op_here : ExprContext → Result (List Found × Input) Fault
+  abbrev op_here : ExprContext → Result (List FieldItem × Input) Fault
   op_here c = op_at c (expr_within c k) (input_of i.at (code ∷ j.rest))
 
   -- an operator that answers q, unless one of its operands names no entry

@@ -5,16 +5,18 @@ use Rattle.std.proofs.lemmas.List.{append-nil}
 use Rattle.dwz_model.specs.declared.fault.Fault.{Fault}
 use Rattle.dwz_bytes.specs.Input.{Input}
 use Rattle.dwz_bytes.specs.Reading.{◌>>=◌, take_at, uleb_at}
-use Rattle.dwz_meanings.specs.declared.exprs.Operand.{Operand}
+use Rattle.dwz_def_reading.specs.declared.exprs.Operand.{Operand}
 use Rattle.dwz_codes.specs.Operators.{operator_rows}
-use Rattle.dwz_meanings.specs.Exprs.{ExprContext, Expression, Field, Found, Holds, Inside, IsFaultWithin, IsOpFault, SpellsOp, SpellsWithin, bad_expr, expr_within, expression_of, expression_with}
-use Rattle.dwz_meanings.specs.Exprs.{fields_at, fields_of, first_unnamed, has_address, held, inside_at, inside_of, InsideReader, joined, named_in, op_at, op_by, operands_in, or_fault, unless_unnamed}
-use Rattle.dwz_meanings.specs.Exprs.{unsupported}
-use Rattle.dwz_meanings.specs.Sequences.{after_one, all_at, then_read, with_item}
-use Rattle.dwz_docs.specs.Values.{shape_of}
-use Rattle.dwz_meanings.proofs.ExprLemmas.{op_reads, op_takes, within_reads}
-use Rattle.dwz_meanings.proofs.SequenceLemmas.{all_none, all_step, input_of}
-use Rattle.dwz_docs.proofs.PartLemmas.{same_input, same_value}
+use Rattle.dwz_def_reading.specs.Exprs.{ExprContext, Expression, Field, FieldItem, Holds, Inside, IsFaultWithin, IsOpFault, SpellsOp, SpellsWithin, bad_expr, expr_within, expression_of}
+use Rattle.dwz_def_reading.specs.Exprs.{expression_with}
+use Rattle.dwz_def_reading.specs.Exprs.{fields_at, fields_of, first_unnamed, any_address, held, inside_at, inside_of, InsideReader, joined_items, with_named_entries, op_at, op_by, operands_in}
+use Rattle.dwz_def_reading.specs.Exprs.{or_fault, unless_unnamed}
+use Rattle.dwz_def_reading.specs.Exprs.{unsupported}
+use Rattle.dwz_def_reading.specs.Sequences.{after_one, all_at, then_read, with_item}
+use Rattle.dwz_def_reading.specs.Values.{shape_of}
+use Rattle.dwz_def_reading.proofs.ExprLemmas.{op_reads, op_takes, within_reads}
+use Rattle.dwz_def_reading.proofs.SequenceLemmas.{all_none, all_step, input_of}
+use Rattle.dwz_def_reading.proofs.PartLemmas.{same_input, same_value}
 use Rattle.dwz_expr.specs.FirstFault.{asked}
 use Rattle.dwz_expr.specs.Gathering.{Gathered, behind_content, content_into, counted_into, fields_into, gather, gather_ops, gathered, inside_into, nested_into, ops_into}
 use Rattle.dwz_expr.proofs.AskedLemmas.{asked_bind, asked_twice, expr_looked_up, named_is}
@@ -50,42 +52,42 @@ module _ (c : ExprContext) (k : ℕ) where
   -- operators, the first of which holds this
   pub ops_step : (g : Gathered) (at code : ℕ) (rest : List ℕ) → ops_into c k g (input_of at (code ∷ rest))
       ≡ ((op_at c (expr_within c k) (input_of at (code ∷ rest)) >>= into g) >>= λ p. ops_into c k p.0 p.1)
-  unfolding ops_into joined
-  ops_step g at code rest = ap (λ (r : Result (List (List Found)) Fault). r >>= gather_ops g) (steps at code rest) ∙ go (op_at c (expr_within c k) (input_of at (code ∷ rest))) where
-    behind : (x : List Found × Input) (r : Result (List (List Found)) Fault) → ((r >>= with_item x.0) >>= gather_ops g) ≡ (r >>= gather_ops (gather g x.0))
-    behind x (Ok ops) = ap (λ (w : Gathered). Ok w) (gather_append g x.0 (joined ops))
+  unfolding ops_into joined_items
+  ops_step g at code rest = ap (λ (r : Result (List (List FieldItem)) Fault). r >>= gather_ops g) (steps at code rest) ∙ go (op_at c (expr_within c k) (input_of at (code ∷ rest))) where
+    behind : (x : List FieldItem × Input) (r : Result (List (List FieldItem)) Fault) → ((r >>= with_item x.0) >>= gather_ops g) ≡ (r >>= gather_ops (gather g x.0))
+    behind x (Ok ops) = ap (λ (w : Gathered). Ok w) (gather_append g x.0 (joined_items ops))
     behind x (Err f) = refl
 
-    go : (r : Result (List Found × Input) Fault) → ((r >>= after_one (all_at (op_at c (expr_within c k)))) >>= gather_ops g)
+    go : (r : Result (List FieldItem × Input) Fault) → ((r >>= after_one (all_at (op_at c (expr_within c k)))) >>= gather_ops g)
         ≡ ((r >>= into g) >>= λ p. (all_at (op_at c (expr_within c k)) p.1 >>= gather_ops p.0))
     go (Ok x) = behind x (all_at (op_at c (expr_within c k)) x.1)
     go (Err f) = refl
 
   pub ops_none : (g : Gathered) (at : ℕ) → ops_into c k g (input_of at []) ≡ Ok g
-  unfolding ops_into joined
-  ops_none g at = ap (λ (r : Result (List (List Found)) Fault). r >>= gather_ops g)
+  unfolding ops_into joined_items
+  ops_none g at = ap (λ (r : Result (List (List FieldItem)) Fault). r >>= gather_ops g)
       (all_none (op_at c (expr_within c k)) (SpellsOp c (SpellsWithin c k)) (IsOpFault c (SpellsWithin c k) (IsFaultWithin c k))
       (op_reads c (expr_within c k) (SpellsWithin c k) (IsFaultWithin c k) (λ bad. within_reads c k bad))
       (op_takes c (expr_within c k) (SpellsWithin c k) (IsFaultWithin c k) (λ bad. within_reads c k bad)) at) ∙ ap (λ (w : Gathered). Ok w) (gather_none g)
 
   -- an operator in which no expression stands: its operands are looked up once it is read
-  flat_by : (a : Bool) (h : Gathered) (j : Input) (r : Result (List Found × Input) Fault) → (r >>= into (gathered [] a)) ≡ went h j
-      → ((r >>= named_in c) >>= into (gathered [] a)) ≡ asked c h.operands (Ok (h, j))
+  flat_by : (a : Bool) (h : Gathered) (j : Input) (r : Result (List FieldItem × Input) Fault) → (r >>= into (gathered [] a)) ≡ went h j
+      → ((r >>= with_named_entries c) >>= into (gathered [] a)) ≡ asked c h.operands (Ok (h, j))
   flat_by a h j (Err f) is = absurd cc
   flat_by a h j (Ok x) is =
       let held : gather (gathered [] a) x.0 ≡ h = same_gathered (gather (gathered [] a) x.0) h x.1 j is in
       let behind : x.1 ≡ j = same_behind (gather (gathered [] a) x.0) h x.1 j is in
-      ap (λ (r : Result (List Found × Input) Fault). r >>= into (gathered [] a)) (named_is c x)
+      ap (λ (r : Result (List FieldItem × Input) Fault). r >>= into (gathered [] a)) (named_is c x)
       ∙ asked_bind c (operands_in x.0) (Ok x) (into (gathered [] a))
       ∙ (λ n. asked c (held n).operands (Ok (held n, behind n)))
 
-  bad_by : (a : Bool) (f : Fault) (r : Result (List Found × Input) Fault) → (r >>= into (gathered [] a)) ≡ stopped f → ((r >>= named_in c) >>= into (gathered [] a)) ≡ Err f
+  bad_by : (a : Bool) (f : Fault) (r : Result (List FieldItem × Input) Fault) → (r >>= into (gathered [] a)) ≡ stopped f → ((r >>= with_named_entries c) >>= into (gathered [] a)) ≡ Err f
   bad_by a f (Err e) is = is
   bad_by a f (Ok x) is = absurd cc
 
   module _ (a : Bool) (at code : ℕ) (rest : List ℕ) (fields : List Field) (laid : fields_of (shape_of operator_rows code) ≡ Some fields) (flat : AreFlat fields) where
     read_first : (op_at c (expr_within c k) (input_of at (code ∷ rest)) >>= into (gathered [] a))
-        ≡ ((fields_at (expr_within c k) (bad_expr c at) fields (input_of (at + 1) rest) >>= named_in c) >>= into (gathered [] a))
+        ≡ ((fields_at (expr_within c k) (bad_expr c at) fields (input_of (at + 1) rest) >>= with_named_entries c) >>= into (gathered [] a))
     unfolding op_at
     read_first = ap (λ (o : Option (List Field)). op_by c (expr_within c k) at code o (input_of (at + 1) rest) >>= into (gathered [] a)) laid
 
@@ -105,18 +107,18 @@ module _ (c : ExprContext) (k : ℕ) where
   unread_op g at code rest none = ap (λ (o : Option (List Field)). op_by c (expr_within c k) at code o (input_of (at + 1) rest) >>= into g) none
 
   -- what an expression holds is what its operators do
-  held_same : (g : Gathered) (at : ℕ) (bytes : List ℕ) (ops : List (List Found)) → gather g (Holds (expression_of at bytes ops) ∷ []) ≡ gather g (joined ops)
-  unfolding operands_in has_address
+  held_same : (g : Gathered) (at : ℕ) (bytes : List ℕ) (ops : List (List FieldItem)) → gather g (Holds (expression_of at bytes ops) ∷ []) ≡ gather g (joined_items ops)
+  unfolding operands_in any_address
   held_same g at bytes ops =
-      let operands = append-nil (operands_in (joined ops)) in
-      let address = or_false (has_address (joined ops)) in
+      let operands = append-nil (operands_in (joined_items ops)) in
+      let address = or_false (any_address (joined_items ops)) in
       λ n. record { operands = g.operands ++ operands n; address = g.address || address n }
 
 pub inside_is : (c : ExprContext) (k : ℕ) (bad : Fault) (g : Gathered) (i : Input) → (expr_within c k bad i >>= λ e. Ok (gather g (Holds e ∷ []))) ≡ inside_into c k bad g i
 unfolding expr_within ops_into
 inside_is c zero bad g i = refl
 inside_is c (suc k) bad g i = go (all_at (op_at c (expr_within c k)) i) where
-  go : (r : Result (List (List Found)) Fault) → ((r >>= expression_with i) >>= λ e. Ok (gather g (Holds e ∷ []))) ≡ (r >>= gather_ops g)
+  go : (r : Result (List (List FieldItem)) Fault) → ((r >>= expression_with i) >>= λ e. Ok (gather g (Holds e ∷ []))) ≡ (r >>= gather_ops g)
   go (Ok ops) = ap (λ (w : Gathered). Ok w) (held_same c k g i.at i.rest ops)
   go (Err f) = refl
 
@@ -141,21 +143,22 @@ module _ (c : ExprContext) (k : ℕ) where
     length_of (Err f) = refl
 
   -- the operands of an expression were looked up as it was read
-  inside_named : (bad : Fault) (i : Input) → (fields_at (expr_within c k) bad (Inside ∷ []) i >>= named_in c) ≡ fields_at (expr_within c k) bad (Inside ∷ []) i
+  inside_named : (bad : Fault) (i : Input) → (fields_at (expr_within c k) bad (Inside ∷ []) i >>= with_named_entries c) ≡ fields_at (expr_within c k) bad (Inside ∷ []) i
   unfolding fields_at
   inside_named bad i = length_of (or_fault bad (uleb_at i)) where
     expr_of : (j : Input) (r : Result Expression Fault) → ((e : Expression) → r ≡ Ok e → first_unnamed c.names e.operands ≡ None)
-        → (((r >>= held j) >>= then_read (λ _. fields_at (expr_within c k) bad []) (λ a b. a ++ b)) >>= named_in c)
+        → (((r >>= held j) >>= then_read (λ _. fields_at (expr_within c k) bad []) (λ a b. a ++ b)) >>= with_named_entries c)
         ≡ ((r >>= held j) >>= then_read (λ _. fields_at (expr_within c k) bad []) (λ a b. a ++ b))
     expr_of j (Ok e) named = ap (unless_unnamed c (Holds e ∷ [], j)) (held_names c e ∙ named e refl)
     expr_of j (Err f) named = refl
 
-    content_of : (at : ℕ) (r : Result (List ℕ × Input) Fault) → (((r >>= inside_of (expr_within c k) bad at) >>= then_read (λ _. fields_at (expr_within c k) bad []) (λ a b. a ++ b)) >>= named_in c)
+    content_of : (at : ℕ) (r : Result (List ℕ × Input) Fault) → (((r >>= inside_of (expr_within c k) bad at) >>= then_read (λ _. fields_at (expr_within c k) bad []) (λ a b. a
+        ++ b)) >>= with_named_entries c)
         ≡ ((r >>= inside_of (expr_within c k) bad at) >>= then_read (λ _. fields_at (expr_within c k) bad []) (λ a b. a ++ b))
     content_of at (Ok x) = expr_of x.1 (expr_within c k bad (input_of at x.0)) (λ e is. expr_looked_up c k bad (input_of at x.0) e is)
     content_of at (Err f) = refl
 
-    length_of : (r : Result (ℕ × Input) Fault) → (((r >>= inside_at (expr_within c k) bad) >>= then_read (λ _. fields_at (expr_within c k) bad []) (λ a b. a ++ b)) >>= named_in c)
+    length_of : (r : Result (ℕ × Input) Fault) → (((r >>= inside_at (expr_within c k) bad) >>= then_read (λ _. fields_at (expr_within c k) bad []) (λ a b. a ++ b)) >>= with_named_entries c)
         ≡ ((r >>= inside_at (expr_within c k) bad) >>= then_read (λ _. fields_at (expr_within c k) bad []) (λ a b. a ++ b))
     length_of (Ok n) = content_of n.1.at (or_fault bad (take_at n.0 n.1))
     length_of (Err f) = refl
@@ -165,7 +168,7 @@ module _ (c : ExprContext) (k : ℕ) where
   unfolding op_at
   nested_op g at code rest laid =
       ap (λ (o : Option (List Field)). op_by c (expr_within c k) at code o (input_of (at + 1) rest) >>= into g) laid
-      ∙ ap (λ (r : Result (List Found × Input) Fault). r >>= into g) (inside_named (bad_expr c at) (input_of (at + 1) rest))
+      ∙ ap (λ (r : Result (List FieldItem × Input) Fault). r >>= into g) (inside_named (bad_expr c at) (input_of (at + 1) rest))
       ∙ inside_field (bad_expr c at) g (input_of (at + 1) rest)
 
 -- ---- one operator, and the others
@@ -174,7 +177,7 @@ module _ (c : ExprContext) (k : ℕ) where
 abbrev pub prepend : List Operand → Gathered × Input → Result (Gathered × Input) Fault
 prepend own p = Ok (gathered (own ++ p.0.operands) p.0.address, p.1)
 
-into_shift : (own : List Operand) (a : Bool) (r : Result (List Found × Input) Fault) → (r >>= into (gathered own a)) ≡ ((r >>= into (gathered [] a)) >>= prepend own)
+into_shift : (own : List Operand) (a : Bool) (r : Result (List FieldItem × Input) Fault) → (r >>= into (gathered own a)) ≡ ((r >>= into (gathered [] a)) >>= prepend own)
 into_shift own a (Ok x) = refl
 into_shift own a (Err f) = refl
 

@@ -3,12 +3,12 @@ use Rattle.std.proofs.Common.{◌≡◌, ℕ, false, List, [], Result, Ok, Err, 
 use Rattle.dwz_model.specs.declared.fault.Fault.{Fault}
 use Rattle.dwz_bytes.specs.Input.{Input}
 use Rattle.dwz_bytes.specs.Reading.{◌>>=◌}
-use Rattle.dwz_meanings.specs.declared.exprs.Operand.{Operand}
-use Rattle.dwz_meanings.specs.Exprs.{ExprContext, Expression, Found, any_operands, expr_at, expr_within, expression_with, most_inside, op_at}
-use Rattle.dwz_meanings.specs.Sequences.{all_at}
+use Rattle.dwz_def_reading.specs.declared.exprs.Operand.{Operand}
+use Rattle.dwz_def_reading.specs.Exprs.{ExprContext, Expression, FieldItem, any_operands, expr_at, expr_within, expression_with, most_inside, op_at}
+use Rattle.dwz_def_reading.specs.Sequences.{all_at}
 use Rattle.dwz_model.specs.declared.fault.ReadErr.{ReadErr}
 use Rattle.dwz_model.specs.declared.fault.ReadErr.TheVariants.{NoMemory, Refused}
-use Rattle.dwz_docs.specs.Faults.{Fails}
+use Rattle.dwz_def_reading.specs.Faults.{Fails}
 use Rattle.dwz_expr.specs.FirstFault.{AreAsked, ReadsInto, asked}
 use Rattle.dwz_expr.specs.Gathering.{Gathered, InEach, gather_ops, gathered, ops_into}
 use Rattle.dwz_expr.proofs.AskedLemmas.{asked_any, asked_bind}
@@ -20,7 +20,7 @@ expression_from i g = Ok (record { at = i.at; bytes = i.rest; operands = g.opera
 read_is : (c : ExprContext) (i : Input) → expr_at c i ≡ (ops_into c 8 (gathered [] false) i >>= expression_from i)
 unfolding expr_within most_inside ops_into
 read_is c i = go (all_at (op_at c (expr_within c 8)) i) where
-  go : (r : Result (List (List Found)) Fault) → (r >>= expression_with i) ≡ ((r >>= gather_ops (gathered [] false)) >>= expression_from i)
+  go : (r : Result (List (List FieldItem)) Fault) → (r >>= expression_with i) ≡ ((r >>= gather_ops (gathered [] false)) >>= expression_from i)
   go (Ok ops) = refl
   go (Err f) = refl
 

@@ -5,9 +5,9 @@ use Rattle.dwz_model.specs.declared.fault.Fault.{Fault}
 use Rattle.dwz_bytes.specs.declared.error.ByteErr.{ByteErr}
 use Rattle.dwz_bytes.specs.Input.{Input}
 use Rattle.dwz_bytes.specs.Reading.{fixed_at, sleb_at, take_at, uleb_at}
-use Rattle.dwz_meanings.specs.Exprs.{or_fault}
-use Rattle.dwz_meanings.proofs.FieldLemmas.{bytes_agree}
-use Rattle.dwz_docs.proofs.ReadLemmas.{Reads, fixed_reads, run_reads, sleb_reads, uleb_reads}
+use Rattle.dwz_def_reading.specs.Exprs.{or_fault}
+use Rattle.dwz_def_reading.proofs.FieldLemmas.{bytes_agree}
+use Rattle.dwz_def_reading.proofs.ReadLemmas.{Reads, fixed_reads, run_reads, sleb_reads, uleb_reads}
 use Rattle.dwz_expr.specs.Gathering.{shift}
 
 abbrev pub shifted : {X : Type 0} → ℕ → Result (X × Input) Fault → Result (X × Input) Fault

@@ -5,9 +5,9 @@ use Rattle.dwz_model.specs.declared.fault.ReadErr.{ReadErr}
 use Rattle.dwz_model.specs.declared.fault.ReadErr.TheVariants.{NoMemory, Refused}
 use Rattle.dwz_bytes.specs.Input.{Input}
 use Rattle.dwz_bytes.specs.Reading.{◌>>=◌, take_at, uleb_at}
-use Rattle.dwz_docs.specs.Faults.{Fails}
-use Rattle.dwz_meanings.specs.declared.exprs.Operand.{Operand}
-use Rattle.dwz_meanings.specs.Exprs.{ExprContext, any_operands, bad_expr, or_fault}
+use Rattle.dwz_def_reading.specs.Faults.{Fails}
+use Rattle.dwz_def_reading.specs.declared.exprs.Operand.{Operand}
+use Rattle.dwz_def_reading.specs.Exprs.{ExprContext, any_operands, bad_expr, or_fault}
 use Rattle.dwz_expr.specs.FirstFault.{ReadsInto, asked}
 use Rattle.dwz_expr.specs.Gathering.{Gathered, Grows, InEach, Stopped, added, content_into, counted_into, gathered, nested_into, ops_into}
 use Rattle.dwz_expr.proofs.AskedLemmas.{asked_none}

@@ -4,8 +4,8 @@ use Rattle.dwz_model.specs.declared.fault.Fault.{Fault}
 use Rattle.dwz_model.specs.declared.fault.ReadErr.{ReadErr}
 use Rattle.dwz_model.specs.declared.fault.ReadErr.TheVariants.{NoMemory, Refused}
 use Rattle.dwz_bytes.specs.Input.{Input}
-use Rattle.dwz_meanings.specs.declared.exprs.Operand.{Operand}
-use Rattle.dwz_meanings.specs.Exprs.{ExprContext, any_operands, bad_operand, expr_at, first_unnamed}
+use Rattle.dwz_def_reading.specs.declared.exprs.Operand.{Operand}
+use Rattle.dwz_def_reading.specs.Exprs.{ExprContext, any_operands, bad_operand, expr_at, first_unnamed}
 
 abbrev pub unless_one : {X : Type 0} → ExprContext → Result X Fault → Option Operand → Result X Fault
 unless_one c answer None = answer

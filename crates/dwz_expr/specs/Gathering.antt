@@ -8,11 +8,13 @@ use Rattle.dwz_model.specs.declared.place.Base.{Base}
 use Rattle.dwz_model.specs.declared.place.Base.TheVariants.{Unit as FromUnit}
 use Rattle.dwz_bytes.specs.Input.{Input}
 use Rattle.dwz_bytes.specs.Reading.{◌>>=◌, fixed_at, sleb_at, take_at, uleb_at}
-use Rattle.dwz_meanings.specs.declared.exprs.Operand.{Operand}
-use Rattle.dwz_meanings.specs.Exprs.{Counted, Entry4, EntryOrGeneric, EntryUleb, ExprContext, Field, Found, Inside, Located, LocatedBy, Run}
-use Rattle.dwz_meanings.specs.Exprs.{Signed, Sized, Unsigned, any_operands, bad_expr, expr_within, has_address, joined, op_at, operands_in}
-use Rattle.dwz_meanings.specs.Exprs.{or_fault, unsupported}
-use Rattle.dwz_meanings.specs.Sequences.{all_at}
+use Rattle.dwz_def_reading.specs.declared.exprs.Operand.{Operand}
+use Rattle.dwz_def_reading.specs.Exprs.{Counted, Entry4, EntryOrGeneric, EntryUleb, ExprContext, Field, FieldItem, Inside, Located}
+use Rattle.dwz_def_reading.specs.Exprs.{LocatedBy, Run}
+use Rattle.dwz_def_reading.specs.Exprs.{Signed, Sized, Unsigned, any_address, any_operands, bad_expr, expr_within, joined_items, op_at}
+use Rattle.dwz_def_reading.specs.Exprs.{operands_in}
+use Rattle.dwz_def_reading.specs.Exprs.{or_fault, unsupported}
+use Rattle.dwz_def_reading.specs.Sequences.{all_at}
 use Rattle.dwz_expr.specs.FirstFault.{asked}
 
 -- the same place, where the bytes begin at another one
@@ -27,8 +29,8 @@ pub record Gathered : Type 0 where
 abbrev pub gathered : List Operand → Bool → Gathered
 gathered operands address = record { operands = operands; address = address }
 
-abbrev pub gather : Gathered → List Found → Gathered
-gather g founds = record { operands = g.operands ++ operands_in founds; address = g.address || has_address founds }
+abbrev pub gather : Gathered → List FieldItem → Gathered
+gather g founds = record { operands = g.operands ++ operands_in founds; address = g.address || any_address founds }
 
 -- ---- fields
 
@@ -92,8 +94,8 @@ abbrev pub op_into : ℕ → ℕ → ℕ → Option (List Field) → Gathered �
 op_into section at code None g i = Err (unsupported (any_operands section) at code)
 op_into section at code (Some fields) g i = fields_into (bad_expr (any_operands section) at) fields g i
 
-abbrev pub gather_ops : Gathered → List (List Found) → Result Gathered Fault
-gather_ops g ops = Ok (gather g (joined ops))
+abbrev pub gather_ops : Gathered → List (List FieldItem) → Result Gathered Fault
+gather_ops g ops = Ok (gather g (joined_items ops))
 
 -- operators up to the end of the bytes
 unfoldable pub ops_into : ExprContext → ℕ → Gathered → Input → Result Gathered Fault

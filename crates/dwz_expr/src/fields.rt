@@ -3,8 +3,8 @@
 
 ghost use Rattle.std.specs.Prelude.{◌≡◌, ◌+◌, ◌<◌, ◌≤◌, ◌^◌, length};
 ghost use Rattle.dwz_bytes.specs.Reading.{fixed_at, sleb_at, take_at, uleb_at};
-ghost use Rattle.dwz_meanings.specs.Exprs.{or_fault};
-ghost use Rattle.dwz_docs.specs.Faults.{AnswersAt};
+ghost use Rattle.dwz_def_reading.specs.Exprs.{or_fault};
+ghost use Rattle.dwz_def_reading.specs.Faults.{AnswersAt};
 ghost use Rattle.dwz_expr.specs.Gathering.{shift};
 
 use dwz_bytes::Cursor;

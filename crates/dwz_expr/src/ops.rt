@@ -3,17 +3,16 @@
 ghost use Rattle.std.specs.Prelude.{◌≡◌, ◌+◌, ◌-◌, ◌<◌, ◌≤◌, ◌^◌, [], OnErr, length};
 ghost use Rattle.dwz_model.specs.declared.fault.ReadErr.TheVariants.{Refused};
 ghost use Rattle.dwz_model.specs.declared.place.Base.TheVariants.{Unit as FromUnit, Info as FromInfo};
-ghost use Rattle.dwz_meanings.specs.Exprs.{Entry4, EntryOrGeneric, EntryUleb, any_operands, bad_expr, fields_of, unsupported};
-ghost use Rattle.dwz_docs.specs.Faults.{AnswersAt};
+ghost use Rattle.dwz_def_reading.specs.Exprs.{Entry4, EntryOrGeneric, EntryUleb, any_operands, bad_expr, fields_of, unsupported};
+ghost use Rattle.dwz_def_reading.specs.Faults.{AnswersAt};
 ghost use Rattle.dwz_expr.specs.Gathering.{Gathers, Grows, added, counted_at, field_into, fields_into, gathered, nested_into, op_into};
 ghost use Rattle.dwz_expr.specs.Gathering.{operand4_at, operand_uleb_at, ops_into, shift, sized_at};
 ghost use Rattle.dwz_expr.specs.Flat.{HasNoExpression};
 
 use crate::fields::{byte, eight, four, run, sleb, uleb};
-use crate::shapes::shape_of;
 use dwz_bytes::Cursor;
-use dwz_codes::Shape;
-use dwz_meanings::Operand;
+use dwz_codes::{Shape, operator_shape};
+use dwz_def_reading::Operand;
 use dwz_model::{Base, Fault, ReadErr, Reason};
 
 // A bad expression at an operator.
@@ -304,7 +303,7 @@ pub(crate) fn all(
     while cursor.at() < bytes.len() {
         let at = start + cursor.at() as u64;
         let code = byte(&mut cursor, start, bad_at(section, at))?;
-        let shape = shape_of(code);
+        let shape = operator_shape(code);
         match shape {
             Shape::NestedExpr => nested_expr(
                 inside,

@@ -1,13 +1,13 @@
 //! Expressions that are read.
 
 ghost use Rattle.std.specs.Prelude.{◌≡◌, ◌+◌, ◌<◌, ◌^◌, IfOk, length};
-ghost use Rattle.dwz_docs.specs.Faults.{Answers};
-ghost use Rattle.dwz_meanings.specs.Exprs.{any_operands, expr_at};
+ghost use Rattle.dwz_def_reading.specs.Faults.{Answers};
+ghost use Rattle.dwz_def_reading.specs.Exprs.{any_operands, expr_at};
 ghost use Rattle.dwz_expr.specs.FirstFault.{AreAsked, ReadsInto};
 ghost use Rattle.dwz_expr.specs.Gathering.{Grows, added};
 
 use crate::ops::all;
-use dwz_meanings::Operand;
+use dwz_def_reading::Operand;
 use dwz_model::ReadErr;
 use std::alloc::Global;
 use std::marker::Model;
@@ -23,7 +23,7 @@ pub struct Ops<'a> {
 }
 
 impl<'a> Model for Ops<'a> {
-    ghost use Rattle.dwz_meanings.specs.Exprs.{Expression};
+    ghost use Rattle.dwz_def_reading.specs.Exprs.{Expression};
 
     ghost Value = { Expression };
 

@@ -7,8 +7,8 @@ use Rattle.dwz_bytes.specs.Spelling.{fits_i64, le_bytes, uleb}
 use Rattle.dwz_bytes.proofs.PaddedLemmas.{padded_len}
 use Rattle.dwz_codes.specs.declared.shape.Shape.{Shape}
 use Rattle.dwz_codes.specs.declared.shape.Shape.TheVariants.{Fixed1, Fixed2, Fixed3, Fixed4, Fixed8, Fixed16, Uleb, Sleb, ZeroEnded, Block1, Block2, Block4, BlockUleb, Address}
-use Rattle.dwz_docs.specs.Values.{AreBytes, HasSpelling, Number, SpellsShape, constant_of, number_bytes, run_bytes, shape_of, unsigned, written_rows}
-use Rattle.dwz_docs.proofs.WrittenLemmas.{fixed_less}
+use Rattle.dwz_def_reading.specs.Values.{AreBytes, HasSpelling, Number, SpellsShape, constant_of, number_bytes, run_bytes, shape_of, unsigned, written_rows}
+use Rattle.dwz_def_reading.proofs.WrittenLemmas.{fixed_less}
 use Rattle.dwz_forms.specs.Numbers.{FitsNumber, IsUnsigned}
 use Rattle.dwz_forms.specs.Sizes.{number_len, run_len}
 -- the low bytes of a number

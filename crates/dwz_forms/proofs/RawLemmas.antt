@@ -5,7 +5,7 @@ use mir.Syntax.{w128}
 use mir.Val.{SFits, of_z, to_z}
 use Rattle.std.proofs.lemmas.Int.{to_z-of_z}
 use Rattle.dwz_codes.specs.declared.shape.Shape.{Shape}
-use Rattle.dwz_docs.specs.Values.{Bytes, HasSpelling, number_bytes, run_bytes, shape_of, value_bytes, written_rows}
+use Rattle.dwz_def_reading.specs.Values.{Bytes, HasSpelling, number_bytes, run_bytes, shape_of, value_bytes, written_rows}
 use Rattle.dwz_forms.specs.declared.raw.Raw.{Raw as RawOfCode}
 use Rattle.dwz_forms.specs.declared.raw.Raw.TheVariants as code
 use Rattle.dwz_forms.specs.Numbers.{FitsNumber}

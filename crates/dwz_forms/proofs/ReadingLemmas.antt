@@ -5,12 +5,12 @@ use Rattle.std.proofs.lemmas.Bool.{eq-eqb, eqb-true}
 use Rattle.memchr.specs.Find.{IsFirstByte, is_byte}
 use Rattle.dwz_bytes.specs.Input.{Input, input}
 use Rattle.dwz_model.specs.declared.place.Pair.{Pair}
-use Rattle.dwz_docs.specs.Texts.{text_in}
-use Rattle.dwz_docs.specs.Values.{AreBytes, HasSpelling, Raw, shape_of, value_at}
-use Rattle.dwz_docs.proofs.TextLemmas.{text_in-none, text_in-some}
+use Rattle.dwz_def_reading.specs.Texts.{text_in}
+use Rattle.dwz_def_reading.specs.Values.{AreBytes, HasSpelling, Raw, shape_of, value_at}
+use Rattle.dwz_def_reading.proofs.TextLemmas.{text_in-none, text_in-some}
 use Rattle.dwz_codes.specs.Forms.{form_rows}
-use Rattle.dwz_docs.proofs.ValueLemmas.{shape_laws}
-use Rattle.dwz_docs.proofs.WrittenLemmas.{bytes_fit, drop_bytes, front_bytes, read_writable}
+use Rattle.dwz_def_reading.proofs.ValueLemmas.{shape_laws}
+use Rattle.dwz_def_reading.proofs.WrittenLemmas.{bytes_fit, drop_bytes, front_bytes, read_writable}
 
 -- the text before the first zero byte
 pub first_text : (bytes : List ℕ) (o : Option ℕ) → IsFirstByte (is_byte 0) bytes o → option_map (λ len. take len bytes) o ≡ text_in bytes

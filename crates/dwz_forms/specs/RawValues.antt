@@ -1,5 +1,5 @@
 -- Raw values as clauses see them.
-use Rattle.dwz_docs.specs.Values.{Raw, Number, Bytes}
+use Rattle.dwz_def_reading.specs.Values.{Raw, Number, Bytes}
 use Rattle.dwz_forms.specs.declared.raw.Raw.{Raw as RawOfCode}
 use Rattle.dwz_forms.specs.declared.raw.Raw.TheVariants as code
 

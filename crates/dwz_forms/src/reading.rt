@@ -5,24 +5,17 @@ ghost use Rattle.std.specs.Option.{option_map};
 ghost use Rattle.dwz_bytes.specs.Reading.{Gives, fixed_at};
 ghost use Rattle.dwz_bytes.specs.Spelling.{le_value};
 ghost use Rattle.dwz_codes.specs.Forms.{form_rows};
-ghost use Rattle.dwz_docs.specs.Parts.{Leaves};
-ghost use Rattle.dwz_docs.specs.Texts.{text_in, zero_ended_at};
-ghost use Rattle.dwz_docs.specs.Values;
-ghost use Rattle.dwz_docs.specs.Values.{HasSpelling};
+ghost use Rattle.dwz_def_reading.specs.Parts.{Leaves};
+ghost use Rattle.dwz_def_reading.specs.Texts.{text_in, zero_ended_at};
+ghost use Rattle.dwz_def_reading.specs.Values;
+ghost use Rattle.dwz_def_reading.specs.Values.{HasSpelling};
 ghost use Rattle.dwz_forms.specs.RawValues.{raw_view};
 
 use crate::raw::Raw;
-use crate::shapes::shape_of;
 use dwz_bytes::{ByteErr, Cursor};
-use dwz_codes::Shape;
-use dwz_model::{Fault, Pair, Reason};
+use dwz_codes::{DW_FORM_IMPLICIT_CONST, Shape, form_shape};
+use dwz_model::{DEBUG_INFO, Fault, Pair, Reason};
 use memchr::memchr;
-
-// The form whose value stands in its declaration.
-const IMPLICIT_CONST: u64 = 0x21;
-
-// The section `.debug_info` in faults.
-const INFO: u8 = 1;
 
 // A fault inside a value that begins at the place.
 #[inline(always)]
@@ -34,7 +27,7 @@ fn fault_from(place: u64, error: ByteErr) -> Fault
         ByteErr::Wide { .. } => Reason::BadNumber,
     };
     Fault {
-        section: INFO,
+        section: DEBUG_INFO,
         at: place,
         reason,
     }
@@ -45,7 +38,7 @@ fn fault_from(place: u64, error: ByteErr) -> Fault
 fn constant_of(pair: &Pair) -> i64
     ensures { result ≡ Values.constant_of pair.now }
 {
-    if pair.form == IMPLICIT_CONST {
+    if pair.form == DW_FORM_IMPLICIT_CONST {
         pair.constant
     } else {
         0
@@ -97,7 +90,7 @@ fn text<'a>(cursor: &mut Cursor<'a>) -> Result<&'a [u8], ByteErr>
 
 // The value at the cursor by its shape.
 #[inline(always)]
-#[tactic(auto, unfolding(dwz_docs::specs::Values::shaped_at))]
+#[tactic(auto, unfolding(dwz_def_reading::specs::Values::shaped_at))]
 fn value_by_shape<'a>(cursor: &mut Cursor<'a>, shape: Shape, pair: &Pair) -> Result<Raw<'a>, Fault>
     ensures { Leaves raw_view cursor.new result (Values.shaped_at shape pair.now cursor.old) }
 {
@@ -131,7 +124,7 @@ fn value_by_shape<'a>(cursor: &mut Cursor<'a>, shape: Shape, pair: &Pair) -> Res
             Ok(Raw::Bytes(cursor.take(count as usize).map_err(fault)?))
         }
         _ => Err(Fault {
-            section: INFO,
+            section: DEBUG_INFO,
             at: place,
             reason: Reason::UnsupportedForm { form: pair.form },
         }),
@@ -149,7 +142,7 @@ pub fn read_value<'a>(cursor: &mut Cursor<'a>, pair: &Pair) -> Result<Raw<'a>, F
 {
     let bytes = cursor.bytes();
     let mut ahead = Cursor::new(bytes, cursor.at());
-    let raw = value_by_shape(&mut ahead, shape_of(pair.form), pair)?;
+    let raw = value_by_shape(&mut ahead, form_shape(pair.form), pair)?;
     *cursor = ahead;
     Ok(raw)
 }

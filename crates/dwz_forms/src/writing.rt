@@ -2,8 +2,8 @@
 
 ghost use Rattle.std.specs.Prelude.{◌≡◌, ◌≤◌, [], ◌∷◌, ◌++◌, length, take, vec_len, OnErr, OnOk};
 ghost use Rattle.dwz_bytes.specs.Spelling.{le_bytes, uleb};
-ghost use Rattle.dwz_docs.specs.Values;
-ghost use Rattle.dwz_docs.specs.Values.{HasSpelling, number_bytes, run_bytes, value_bytes, written_rows};
+ghost use Rattle.dwz_def_reading.specs.Values;
+ghost use Rattle.dwz_def_reading.specs.Values.{HasSpelling, number_bytes, run_bytes, value_bytes, written_rows};
 ghost use Rattle.dwz_forms.specs.Numbers.{FitsNumber};
 ghost use Rattle.dwz_forms.specs.RawValues.{raw_view};
 ghost use Rattle.dwz_forms.specs.Sizes.{number_len, run_len};

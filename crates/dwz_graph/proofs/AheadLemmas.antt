@@ -3,7 +3,7 @@ use Rattle.std.proofs.Common.{◌≡◌, ℕ, zero, suc, ◌<◌, ◌⊎◌, Lis
 use Rattle.std.proofs.Math.ListN.{set}
 use Rattle.std.proofs.lemmas.Option.{slice_get-get_or}
 use Rattle.std.specs.Prelude.{IfSome}
-use Rattle.dwz_meanings.specs.Files.{Limits}
+use Rattle.dwz_def_reading.specs.Files.{Limits}
 use Rattle.dwz_unit.specs.Rows.{units_of}
 use Rattle.dwz_graph.specs.Ahead.{AreAhead, IsAhead, IsAheadIn, IsEnough}
 use Rattle.dwz_graph.specs.Files.{IsRead}

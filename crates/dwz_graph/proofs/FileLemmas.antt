@@ -5,26 +5,26 @@ use Rattle.dwz_model.specs.declared.fault.Fault.{Fault}
 use Rattle.dwz_model.specs.declared.fault.ReadErr.{ReadErr}
 use Rattle.dwz_model.specs.declared.fault.ReadErr.TheVariants.{NoMemory, Refused}
 use Rattle.dwz_model.specs.declared.fault.Reason.TheVariants.{FileSize, Machine}
-use Rattle.dwz_bytes.specs.Input.{input}
-use Rattle.dwz_bytes.specs.Reading.{◌>>=◌}
-use Rattle.dwz_meanings.specs.Documents.{Doc, DwUnit}
-use Rattle.dwz_docs.specs.ElfFaults.{file_fault}
-use Rattle.dwz_docs.specs.ElfReading.{ElfView, bytes_in, elf_fault, elf_of, section_range}
-use Rattle.dwz_docs.specs.Entries.{given, unless_so}
-use Rattle.dwz_docs.specs.Faults.{Fails}
-use Rattle.dwz_meanings.specs.Files.{IsForMachine, IsNotTooLong, Limits, around_of, debug_abbrev, debug_aranges, debug_info, doc_with, lists_said, sets_said, units_said, ends_at, file_meaning}
-use Rattle.dwz_meanings.specs.Files.{is_other_machine, is_too_long, longest_file, machine_at, machine_of, section_of, sources_of, no_files_before}
-use Rattle.dwz_meanings.specs.Meanings.{Sources, alone}
-use Rattle.dwz_meanings.specs.Meant.{units_meaning}
-use Rattle.dwz_meanings.specs.NamedLists.{lists_of_units}
-use Rattle.dwz_meanings.specs.Ranges.{RangeSet}
-use Rattle.dwz_meanings.specs.Shared.{AreRows, ListOperand}
-use Rattle.dwz_resolve.specs.Said.{behind_sets, behind_units, kept, said}
-use Rattle.dwz_docs.specs.Units.{RawUnit, units_at}
-use Rattle.dwz_docs.proofs.CaseFacts.{or_left, or_right}
-use Rattle.dwz_docs.proofs.RangeBytes.{bytes_short as in_bytes}
+use Rattle.dwz_def_reading.specs.Input.{input}
+use Rattle.dwz_def_reading.specs.Reading.{◌>>=◌}
+use Rattle.dwz_def_reading.specs.Documents.{Doc, DwUnit}
+use Rattle.dwz_def_reading.specs.ElfFaults.{file_fault}
+use Rattle.dwz_def_reading.specs.ElfReading.{ElfView, bytes_in, elf_fault, elf_of, section_range}
+use Rattle.dwz_def_reading.specs.Entries.{given, unless_so}
+use Rattle.dwz_def_reading.specs.Faults.{Fails}
+use Rattle.dwz_def_reading.specs.Files.{IsForMachine, IsNotTooLong, Limits, around_of, debug_abbrev, debug_aranges, debug_info, doc_with, lists_said, sets_said, units_said, ends_at, file_meaning}
+use Rattle.dwz_def_reading.specs.Files.{is_other_machine, is_too_long, longest_file, machine_at, machine_of, section_of, sources_of, no_files_before}
+use Rattle.dwz_def_reading.specs.Meanings.{Sources, alone}
+use Rattle.dwz_def_reading.specs.Meant.{units_meaning}
+use Rattle.dwz_def_reading.specs.NamedLists.{lists_of_units}
+use Rattle.dwz_def_reading.specs.Ranges.{RangeSet}
+use Rattle.dwz_def_reading.specs.Shared.{AreRows, ListOperand}
+use Rattle.dwz_graph.specs.Said.{behind_sets, behind_units, kept, said}
+use Rattle.dwz_def_reading.specs.Units.{RawUnit, units_at}
+use Rattle.dwz_def_reading.proofs.CaseFacts.{or_left, or_right}
+use Rattle.dwz_def_reading.proofs.RangeBytes.{bytes_short as in_bytes}
 use Rattle.dwz_elf.specs.Reads.{GivesOrRefuses}
-use Rattle.dwz_resolve.specs.Named.{map_ok, units_refs}
+use Rattle.dwz_graph.specs.Named.{map_ok, units_refs}
 use Rattle.dwz_graph.specs.declared.file.File.{File}
 use Rattle.dwz_graph.specs.Files.{AreKept}
 use Rattle.dwz_graph.proofs.GraphLemmas.{as_many}

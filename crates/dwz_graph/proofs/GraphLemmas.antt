@@ -6,12 +6,12 @@ use Rattle.dwz_model.specs.declared.fault.Fault.{Fault}
 use Rattle.dwz_model.specs.declared.fault.ReadErr.{ReadErr}
 use Rattle.dwz_model.specs.declared.fault.ReadErr.TheVariants.{NoMemory, Refused}
 use Rattle.dwz_model.specs.declared.fault.Refusal.{Refusal}
-use Rattle.dwz_bytes.specs.Reading.{◌>>=◌}
-use Rattle.dwz_meanings.specs.Documents.{Doc}
-use Rattle.dwz_docs.specs.ElfReading.{ElfView, elf_of}
-use Rattle.dwz_docs.specs.Faults.{Fails}
-use Rattle.dwz_meanings.specs.Files.{Limits, file_meaning, files_meaning, in_file, limits_after, longest_files, machine_of, most_entries, no_files_before, with_doc}
-use Rattle.dwz_docs.specs.Units.{RawUnit, entries_in}
+use Rattle.dwz_def_reading.specs.Reading.{◌>>=◌}
+use Rattle.dwz_def_reading.specs.Documents.{Doc}
+use Rattle.dwz_def_reading.specs.ElfReading.{ElfView, elf_of}
+use Rattle.dwz_def_reading.specs.Faults.{Fails}
+use Rattle.dwz_def_reading.specs.Files.{Limits, file_meaning, files_meaning, limits_after, longest_files, machine_of, most_entries, no_files_before, refused_in, with_doc}
+use Rattle.dwz_def_reading.specs.Units.{RawUnit, entries_in}
 use Rattle.dwz_graph.specs.declared.file.File.{File}
 use Rattle.dwz_graph.specs.Files.{AreRead, FilesFail, HasFile, IsRead, docs_of, or_none, refused_file}
 use Rattle.dwz_unit.specs.Rows.{units_of}
@@ -36,7 +36,7 @@ one_before doc docs (Err e) = refl
 pub step : (l : Limits) (n : ℕ) (b : List ℕ) (raw : List RawUnit) (doc : Doc ℕ) (rest : List (List ℕ)) → file_meaning l b ≡ Ok (raw, doc)
     → files_meaning l n (b ∷ rest) ≡ (files_meaning (limits_after l b raw) (suc n) rest >>= with_doc doc)
 unfolding files_meaning
-step l n b raw doc rest e = ap (λ (r : Result (List RawUnit × Doc ℕ) Fault). in_file n r >>= λ x. files_meaning (limits_after l b x.0) (suc n) rest >>= with_doc x.1) e
+step l n b raw doc rest e = ap (λ (r : Result (List RawUnit × Doc ℕ) Fault). refused_in n r >>= λ x. files_meaning (limits_after l b x.0) (suc n) rest >>= with_doc x.1) e
 
 goes : (l : Limits) (n : ℕ) (xs : List (List ℕ)) (fs : List File) (end : Limits) → AreRead l n xs fs end → Goes l n xs end
 goes l n [] [] end h = record {
@@ -87,7 +87,7 @@ files_read xs fs end h = let r = all_read no_files_before xs fs end h in or_same
 bad_step : (l : Limits) (n : ℕ) (b : List ℕ) (f : Fault) (rest : List (List ℕ)) → file_meaning l b ≡ Err f
     → files_meaning l n (b ∷ rest) ≡ Err (record { file = n; section = f.section; at = f.at; reason = f.reason })
 unfolding files_meaning
-bad_step l n b f rest e = ap (λ (r : Result (List RawUnit × Doc ℕ) Fault). in_file n r >>= λ x. files_meaning (limits_after l b x.0) (suc n) rest >>= with_doc x.1) e
+bad_step l n b f rest e = ap (λ (r : Result (List RawUnit × Doc ℕ) Fault). refused_in n r >>= λ x. files_meaning (limits_after l b x.0) (suc n) rest >>= with_doc x.1) e
 
 pub files_fail : (e : ReadErr) (all xs : List (List ℕ)) (fs : List File) (end : Limits) (n : ℕ) (b : List ℕ) (rest : List (List ℕ)) → all ≡ xs ++ b ∷ rest → length xs ≡ n
     → AreRead no_files_before 0 xs fs end → Fails e (file_meaning end b) → FilesFail (refused_file n e) (files_meaning no_files_before 0 all)

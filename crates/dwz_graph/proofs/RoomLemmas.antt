@@ -1,11 +1,11 @@
 -- What is read where so many entries may come is read as well where others may, if that is as many as there are.
 use Rattle.std.proofs.Common.{◌≡◌, ℕ, ◌+◌, ◌<◌, ◌≤◌, Bool, true, false, List, [], ◌∷◌, length, Ok, ap, arith}
-use Rattle.dwz_docs.specs.Entries.{Mode, RawEntry, SpellsEntry, UnitContext, given, root_position}
-use Rattle.dwz_docs.specs.Trees.{End, Entry, Forest, IfChildren, Position, behind, first_below, size}
-use Rattle.dwz_docs.specs.Units.{RawUnit, SpellsList, SpellsTree, SpellsUnit, SpellsUnits, entries_in, entry_count}
-use Rattle.dwz_meanings.specs.Documents.{Doc}
-use Rattle.dwz_meanings.specs.Files.{Limits, Reads, file_meaning}
-use Rattle.dwz_meanings.proofs.FileLemmas.{file_agrees}
+use Rattle.dwz_def_reading.specs.Entries.{Mode, RawEntry, SpellsEntry, UnitContext, given, root_position}
+use Rattle.dwz_def_reading.specs.Trees.{End, Entry, Forest, IfChildren, Position, behind, first_below, size}
+use Rattle.dwz_def_reading.specs.Units.{RawUnit, SpellsSiblings, SpellsTree, SpellsUnit, SpellsUnits, entries_in, entry_count}
+use Rattle.dwz_def_reading.specs.Documents.{Doc}
+use Rattle.dwz_def_reading.specs.Files.{Limits, Reads, file_meaning}
+use Rattle.dwz_def_reading.proofs.FileLemmas.{file_agrees}
 use Rattle.dwz_graph.specs.Ahead.{IsEnough}
 
 -- the same, where so many entries may come
@@ -30,7 +30,7 @@ module _ (room : ℕ) (c : UnitContext) where
     parts = is.parts;
   }
 
-  list_fits : (f : Forest RawEntry) (p : Position) (start : ℕ) (bytes : List ℕ) → p.before + size f ≤ room → SpellsList c p f start bytes → SpellsList (with_room room c) p f start bytes
+  list_fits : (f : Forest RawEntry) (p : Position) (start : ℕ) (bytes : List ℕ) → p.before + size f ≤ room → SpellsSiblings c p f start bytes → SpellsSiblings (with_room room c) p f start bytes
   list_fits End p start bytes few is = is
   list_fits (Entry e children next) p start bytes few is =
       let a = is.first_bytes in

@@ -1,7 +1,7 @@
 -- Files that are read ahead of their turn.
 use Rattle.std.specs.Prelude.{◌≡◌, ℕ, ◌≤◌, List, Option, Some, slice_get}
-use Rattle.dwz_docs.specs.Units.{RawUnit, entries_in}
-use Rattle.dwz_meanings.specs.Files.{IsForMachine, IsNotTooLong, Limits, machine_of}
+use Rattle.dwz_def_reading.specs.Units.{RawUnit, entries_in}
+use Rattle.dwz_def_reading.specs.Files.{IsForMachine, IsNotTooLong, Limits, machine_of}
 use Rattle.dwz_graph.specs.declared.ahead.Found.{Found}
 use Rattle.dwz_graph.specs.declared.file.File.{File}
 use Rattle.dwz_graph.specs.Files.{IsRead}

@@ -5,23 +5,23 @@ use Rattle.dwz_model.specs.declared.fault.GraphErr.TheVariants.{NoMemory as NoMe
 use Rattle.dwz_model.specs.declared.fault.ReadErr.{ReadErr}
 use Rattle.dwz_model.specs.declared.fault.ReadErr.TheVariants.{NoMemory, Refused}
 use Rattle.dwz_model.specs.declared.fault.Refusal.{Refusal}
-use Rattle.dwz_meanings.specs.Documents.{Doc}
-use Rattle.dwz_docs.specs.ElfReading.{elf_of}
-use Rattle.dwz_docs.specs.Faults.{Fails}
-use Rattle.dwz_meanings.specs.Files.{Limits, around_of, debug_aranges, debug_info, file_meaning, files_meaning, limits_after}
-use Rattle.dwz_meanings.specs.Files.{no_files_before, sources_of}
-use Rattle.dwz_docs.specs.Units.{RawUnit, entries_in}
-use Rattle.dwz_meanings.specs.NamedLists.{lists_of_units}
-use Rattle.dwz_meanings.specs.Shared.{AreRows}
-use Rattle.dwz_resolve.specs.ListRows.{AreOfFile, operand_view}
+use Rattle.dwz_def_reading.specs.Documents.{Doc}
+use Rattle.dwz_def_reading.specs.ElfReading.{elf_of}
+use Rattle.dwz_def_reading.specs.Faults.{Fails}
+use Rattle.dwz_def_reading.specs.Files.{Limits, around_of, debug_aranges, debug_info, file_meaning, files_meaning, limits_after}
+use Rattle.dwz_def_reading.specs.Files.{no_files_before, sources_of}
+use Rattle.dwz_def_reading.specs.Units.{RawUnit, entries_in}
+use Rattle.dwz_def_reading.specs.NamedLists.{lists_of_units}
+use Rattle.dwz_def_reading.specs.Shared.{AreRows}
+use Rattle.dwz_graph.specs.ListRows.{AreOfFile, operand_view}
 use Rattle.dwz_graph.specs.declared.file.File.{File}
-use Rattle.dwz_graph.specs.declared.file.Left.{Left}
-use Rattle.dwz_resolve.specs.Named.{units_refs}
-use Rattle.dwz_resolve.specs.Parts.{AreParted, HaveLines}
-use Rattle.dwz_resolve.specs.Resolved.{AreEntries, place_at, sources_view}
+use Rattle.dwz_graph.specs.declared.file.Budget.{Budget}
+use Rattle.dwz_graph.specs.Named.{units_refs}
+use Rattle.dwz_graph.specs.Parts.{AreParted, HaveLines}
+use Rattle.dwz_graph.specs.Resolved.{AreEntries, place_at, sources_view}
 use Rattle.dwz_unit.specs.Rows.{units_of}
 
-abbrev pub limits_view : Left → Limits
+abbrev pub limits_view : Budget → Limits
 limits_view l = record { bytes = l.bytes; entries = l.entries; machine = l.machine }
 
 -- The file with that number says what a document does. Its units are kept, the numbers of the entries that its references name, those of

@@ -1,13 +1,17 @@
 //! Files that are read ahead of their turn, by several workers.
+//!
+//! What the files before it leave of the limits isn't known yet, so a file is read as if all entries were left to it. What it says doesn't
+//! depend on that where enough is left. One for which too little is left, or that is refused, is read again in its turn, so that each fault
+//! is that of its turn: only bad input is read twice.
 
 ghost use Rattle.std.specs.Prelude.{◌≡◌, ℕ, ◌<◌, ◌^◌, true, All, IfOk, IfSome, length, map};
-ghost use Rattle.dwz_docs.specs.ElfReading.{elf_of};
+ghost use Rattle.dwz_def_reading.specs.ElfReading.{elf_of};
 ghost use Rattle.dwz_graph.specs.Ahead.{AreAhead, IsAhead, IsEnough, IsFound};
 ghost use Rattle.dwz_graph.specs.Files.{ReadsFile, limits_view};
 ghost use Rattle.dwz_unit.specs.Rows.{units_of};
 
 use crate::file::{
-    File, LONGEST_FILES, Left, MOST_ENTRIES, is_other_machine, is_too_long, read_file,
+    Budget, File, LONGEST_FILES, MOST_ENTRIES, is_other_machine, is_too_long, read_file,
 };
 use dwz_model::{NoMemory, ReadErr};
 use std::alloc::Global;
@@ -96,7 +100,7 @@ fn read_job<'a>(alloc: Global, files: &'a [Vec<u8>], job: &Job) -> Result<Found<
     ensures { IfOk result (IsFound (map (λ v. v.items) files.now)) }
 {
     let number = job.number;
-    let left = Left {
+    let left = Budget {
         bytes: job.left,
         entries: MOST_ENTRIES,
         machine: None,
@@ -201,7 +205,7 @@ pub(crate) fn read_ahead<'a, R: Threads + Sync>(
 }
 
 // Whether what other files leave is enough for a file that was read.
-fn is_enough(left: &Left, bytes: &[u8], file: &File<'_>) -> bool
+fn is_enough(left: &Budget, bytes: &[u8], file: &File<'_>) -> bool
     ensures { result ≡ true → file.now.elf ≡ elf_of bytes.now → IsEnough (limits_view left.now) bytes.now (units_of file.now.units) }
 {
     if is_too_long(left, bytes) {
@@ -219,7 +223,7 @@ pub(crate) fn file_behind<'a>(
     alloc: Global,
     number: u32,
     bytes: &'a [u8],
-    left: &Left,
+    left: &Budget,
     ahead: Option<File<'a>>,
 ) -> Result<File<'a>, ReadErr>
     requires { IfSome ahead (IsAhead number bytes.now) }

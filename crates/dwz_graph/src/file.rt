@@ -1,16 +1,16 @@
 //! One file of several.
 
 ghost use Rattle.std.specs.Prelude.{◌≡◌, ◌<◌, ◌^◌, length};
-ghost use Rattle.dwz_docs.specs.ElfFaults.{file_fault};
-ghost use Rattle.dwz_meanings.specs.Files;
-ghost use Rattle.dwz_docs.specs.ElfReading.{elf_of};
-ghost use Rattle.dwz_resolve.specs.Resolved.{sources_view};
+ghost use Rattle.dwz_def_reading.specs.ElfFaults.{file_fault};
+ghost use Rattle.dwz_def_reading.specs.Files;
+ghost use Rattle.dwz_def_reading.specs.ElfReading.{elf_of};
+ghost use Rattle.dwz_graph.specs.Resolved.{sources_view};
 ghost use Rattle.dwz_graph.specs.Files.{ReadsFile, limits_view};
 ghost use Rattle.dwz_model.specs.declared.fault.ReadErr.TheVariants.{Refused};
 
+use crate::{InputSections, Resolved, TextSection, resolve};
 use dwz_elf::Elf;
 use dwz_model::{Fault, ReadErr, Reason};
-use dwz_resolve::{Resolved, Sections, TextSection, resolve};
 use dwz_unit::Units;
 use std::alloc::Global;
 
@@ -20,7 +20,7 @@ pub struct File<'a> {
     /// Its headers.
     pub elf: Elf,
     /// The sections that its values speak of.
-    pub sections: Sections<'a>,
+    pub sections: InputSections<'a>,
     /// Its units and their entries.
     pub units: Units<'a>,
     /// The entries that its values name.
@@ -29,7 +29,7 @@ pub struct File<'a> {
 
 /// What the files before a file leave: how many bytes and entries may still come, and the machine that they are for.
 #[derive(Clone, Copy)]
-pub(crate) struct Left {
+pub(crate) struct Budget {
     pub(crate) bytes: usize,
     pub(crate) entries: u32,
     pub(crate) machine: Option<u16>,
@@ -74,8 +74,8 @@ fn fault(at: u64, reason: Reason) -> ReadErr
 }
 
 /// Whether a file is too long, or with those before it.
-#[tactic(auto, unfolding(dwz_meanings::specs::Files::longest_file))]
-pub(crate) fn is_too_long(left: &Left, bytes: &[u8]) -> bool
+#[tactic(auto, unfolding(dwz_def_reading::specs::Files::longest_file))]
+pub(crate) fn is_too_long(left: &Budget, bytes: &[u8]) -> bool
     ensures { result ≡ Files.is_too_long (limits_view left.now) bytes.now }
 {
     bytes.len() > LONGEST_FILE || bytes.len() > left.bytes
@@ -92,12 +92,12 @@ pub(crate) fn is_other_machine(other: Option<u16>, machine: u16) -> bool
 }
 
 // The sections that values speak of.
-fn sections_of<'a>(elf: &Elf, bytes: &'a [u8]) -> Sections<'a>
+fn sections_of<'a>(elf: &Elf, bytes: &'a [u8]) -> InputSections<'a>
     requires { length bytes.now < 2 ^ 32 }
     ensures sources { elf.now ≡ elf_of bytes.now → sources_view result ≡ Files.sources_of bytes.now }
     ensures aranges { elf.now ≡ elf_of bytes.now → result.aranges.now ≡ Files.debug_aranges bytes.now }
 {
-    Sections {
+    InputSections {
         strs: TextSection::new(elf.content(bytes, STR)),
         line_strs: TextSection::new(elf.content(bytes, LINE_STR)),
         offsets: elf.content(bytes, STR_OFFSETS),
@@ -112,7 +112,7 @@ pub(crate) fn read_file<'a>(
     alloc: Global,
     number: u32,
     bytes: &'a [u8],
-    left: &Left,
+    left: &Budget,
 ) -> Result<File<'a>, ReadErr>
     ensures { ReadsFile (limits_view left.now) number bytes.now result }
 {

@@ -1,20 +1,20 @@
 //! All files of a run.
 
 ghost use Rattle.std.specs.Prelude.{◌≡◌, ℕ, ◌<◌, ◌≤◌, ◌^◌, List, Some, length, map, slice_get, IfOk};
-ghost use Rattle.dwz_docs.specs.Units.{RawUnit};
-ghost use Rattle.dwz_meanings.specs.Documents.{Doc};
-ghost use Rattle.dwz_meanings.specs.NamedLists.{lists_of_units};
-ghost use Rattle.dwz_meanings.specs.Shared.{AreRows};
-ghost use Rattle.dwz_resolve.specs.ListRows.{AreOfFile, operand_view};
-ghost use Rattle.dwz_docs.specs.ElfReading.{elf_of};
-ghost use Rattle.dwz_meanings.specs.Files.{Limits, around_of, files_meaning, limits_after, no_files_before};
+ghost use Rattle.dwz_def_reading.specs.Units.{RawUnit};
+ghost use Rattle.dwz_def_reading.specs.Documents.{Doc};
+ghost use Rattle.dwz_def_reading.specs.NamedLists.{lists_of_units};
+ghost use Rattle.dwz_def_reading.specs.Shared.{AreRows};
+ghost use Rattle.dwz_graph.specs.ListRows.{AreOfFile, operand_view};
+ghost use Rattle.dwz_def_reading.specs.ElfReading.{elf_of};
+ghost use Rattle.dwz_def_reading.specs.Files.{Limits, around_of, files_meaning, limits_after, no_files_before};
 ghost use Rattle.dwz_graph.specs.Files.{AreKept, FilesAnswer, HasFile, HasRead, docs_of, limits_view, refused_file};
 ghost use Rattle.dwz_unit.specs.Rows.{units_of};
 
+use crate::ListOperand;
 use crate::ahead::{file_behind, read_ahead};
-use crate::file::{File, LONGEST_FILES, Left, MOST_ENTRIES};
+use crate::file::{Budget, File, LONGEST_FILES, MOST_ENTRIES};
 use dwz_model::{GraphErr, ReadErr, Refusal};
-use dwz_resolve::ListOperand;
 use std::alloc::Global;
 use std::marker::Model;
 use std::thread::Threads;
@@ -54,11 +54,11 @@ fn in_file(file: u32, error: ReadErr) -> GraphErr
 
 // What is left behind a file.
 #[inline(always)]
-fn behind(left: &Left, bytes: &[u8], file: &File<'_>) -> Left
+fn behind(left: &Budget, bytes: &[u8], file: &File<'_>) -> Budget
     ensures { file.now.elf ≡ elf_of bytes.now → limits_view result ≡ limits_after (limits_view left.now) bytes.now
         (units_of file.now.units) }
 {
-    Left {
+    Budget {
         bytes: left.bytes.saturating_sub(bytes.len()),
         entries: left.entries.saturating_sub(file.units.entries()),
         machine: Some(file.elf.machine()),
@@ -81,7 +81,7 @@ impl<'a> Graph<'a> {
         ensures contents { IfOk result (λ graph. graph ≡ map (λ v. v.items) files.now) }
     {
         let mut ahead = read_ahead(rt, alloc, files, workers)?;
-        let mut left = Left {
+        let mut left = Budget {
             bytes: LONGEST_FILES,
             entries: MOST_ENTRIES,
             machine: None,

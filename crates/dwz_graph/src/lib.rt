@@ -1,9 +1,61 @@
-//! The files of a run, each with its units, and with its references resolved.
+//! The files of a run: read, with references resolved, or their first fault; and of each entry by its number its top, the way up, and
+//! spaces.
+//!
+//! `Graph::read` takes the contents of all files and answers them as `File`s (ELF headers, sections, units, and what values name), or
+//! exactly the first fault in the order of the whole table, for every number of workers. `resolve` does it for one file: a number for each
+//! reference and each operand, line tables, operands of location lists.
+//!
+//! `indexes` makes an `Index` for each file, with units, tops and spaces numbered over all of them: `top_of` and `put_path` say where an
+//! entry stands, `space_text` what a space is called. `class_of` is the class of a form, `first_attr` the first value of a name, `here_of`
+//! what a unit's root says.
+//!
+//! Laws: the entry with a number has the name that stands for its place (`name_laws`, `top_laws`); flat rows mean the entries of the
+//! document, in step (`flat_laws`, `step_laws`, `part_laws`).
+//!
+//! Read first: `specs/Files.antt`, `specs/Resolved.antt`, `specs/Index.antt`, `specs/Rows.antt`.
 #![tactic(auto)]
 
 mod ahead;
+mod building;
+mod class;
+mod expressions;
 mod file;
+mod files;
+mod find;
+mod first;
+mod flat;
 mod graph;
+mod here;
+mod hints;
+mod index;
+mod index_files;
+mod kinds;
+mod lists;
+mod named;
+mod operands;
+mod parts;
+mod places;
+mod ranges;
+mod references;
+mod resolving;
+mod sections;
+mod shared;
+mod spaces;
+mod state;
+mod strings;
+mod tops;
 
+pub use class::{Class, class_of};
+pub use expressions::entry_of;
 pub use file::File;
+pub use first::first_attr;
+pub use flat::{flat_laws, flat_name_laws, flat_top_laws, part_laws, step_laws};
 pub use graph::Graph;
+pub use here::{Here, here_of};
+pub use index::{Index, SpaceEntry, Starts, TopEntry};
+pub use index_files::indexes;
+pub use operands::ListOperand;
+pub use resolving::{Resolved, resolve};
+pub use sections::{InputSections, TextSection, offset_of, slot, text_in};
+pub use spaces::{is_space, space_text};
+pub use tops::{name_laws, top_laws};

@@ -2,10 +2,10 @@
 use Rattle.std.proofs.Common.{◌≡◌, ℕ, zero, suc, ◌+◌, ◌*◌, ◌^◌, ◌<◌, List, [], ◌∷◌, ◌++◌, length, refl, sym, ap, ◌∙◌, arith}
 use Rattle.std.specs.List.{flat_map}
 use Rattle.std.proofs.lemmas.List.{append_assoc, append_cancel_left}
-use Rattle.dwz_bytes.specs.Reading.{groups_at}
-use Rattle.dwz_bytes.specs.Spelling.{IsGroups, groups_in, groups_value, padded, uleb}
-use Rattle.dwz_bytes.proofs.GroupLemmas.{groups_again}
-use Rattle.dwz_bytes.proofs.PaddedLemmas.{Suffices, below_ten, count_least, count_suffices, padded_groups, padded_value}
+use Rattle.dwz_def_reading.specs.Reading.{groups_at}
+use Rattle.dwz_def_reading.specs.Spelling.{IsGroups, groups_in, groups_value, padded, uleb}
+use Rattle.dwz_def_reading.proofs.GroupLemmas.{groups_again}
+use Rattle.dwz_def_reading.proofs.PaddedLemmas.{Suffices, below_ten, count_least, count_suffices, padded_groups, padded_value}
 use Rattle.dwz_label.specs.Labels.{counted, each_counted, number}
 
 -- what is spelled is related by R, and what follows is equal

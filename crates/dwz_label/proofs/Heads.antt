@@ -6,7 +6,7 @@ use Rattle.std.proofs.lemmas.Bool.{cases_Bool}
 use Rattle.std.proofs.lemmas.Cmp.{by_ranked, nat_cmp_total, nat_list_cmp_total, ranked, tied_itself}
 use Rattle.std.proofs.lemmas.Slice.Eq.{bytes_eq-Decides}
 use Rattle.std.specs.Str.{bytes_eq}
-use Rattle.dwz_meanings.proofs.DecideLemmas.{if_false, if_true}
+use Rattle.dwz_def_reading.proofs.DecideLemmas.{if_false, if_true}
 use Rattle.dwz_bucket.specs.Fnv.{hash_of}
 use Rattle.dwz_nodes.specs.Looks.{IsLeastBelow}
 use Rattle.dwz_nodes.proofs.Orders.{bytes_equal}

@@ -3,10 +3,10 @@ use Rattle.std.proofs.Common.{◌≡◌, ℕ, ℤ, pos, negsuc, suc, Bool, true,
 use Rattle.std.specs.List.{flat_map}
 use Rattle.std.proofs.lemmas.List.{append-nil, append_assoc}
 use Rattle.dwz_model.specs.declared.place.Base.TheVariants.{Unit as FromUnit, Info as FromInfo}
-use Rattle.dwz_meanings.specs.Documents.{Addr, Attr, Block, Entries, Expr, File, Flag, Index, Loc, Node, Num, Operand, Part, Plain, Ref, Same, Sec, Sig, Text, Value}
-use Rattle.dwz_docs.specs.Trees.{End, Entry, size}
-use Rattle.dwz_alike.specs.Alike.{SameAttrs, SameEntries, SameNode, SameRefs, SameTarget, SameValue}
-use Rattle.dwz_alike.specs.Spots.{Spot, Top, Within, name_list}
+use Rattle.dwz_def_reading.specs.Documents.{Addr, Attr, Block, Entries, Expr, File, Flag, Index, Loc, Node, Num, Operand, Part, Plain, Ref, Same, Sec, Sig, Text, Value}
+use Rattle.dwz_def_reading.specs.Trees.{End, Entry, size}
+use Rattle.dwz_def_tops.specs.Alike.{SameAttrs, SameEntries, SameNode, SameRefs, SameTarget, SameValue}
+use Rattle.dwz_def_tops.specs.Spots.{EntryName, Top, Within, name_list}
 use Rattle.dwz_label.specs.Labels.{attr_label, base_label, counted, each_counted, entries_label, file_label, flag_label, label_of}
 use Rattle.dwz_label.specs.Labels.{language_label, node_label, number, part_label, parts_label, place_label, plain_label, target_label, value_label}
 use Rattle.dwz_label.specs.Nodes.{Any, SameBare}
@@ -90,7 +90,7 @@ value_code a b r s e =
     let y = each_code_of (SameTarget Any) (SameRefs Any) target_label refs_lists target_code a.refs b.refs r s x.1 in
     ((x.0, y.0), y.1)
 
-abbrev SameAttr : Attr Spot → Attr Spot → Type 0
+abbrev SameAttr : Attr EntryName → Attr EntryName → Type 0
 SameAttr a b = (a.name ≡ b.name) × SameValue Any a.value b.value
 
 attr_code : CodeOf SameAttr attr_label
@@ -104,12 +104,12 @@ attrs_lists = record { none = tt; more = λ x y xs ys h k. (h.0, h.1, k) }
 
 -- ---- entries
 
-pub record SameHead (m n : ℕ) (d e : Node Spot) (r s : List ℕ) : Type 0 where
+pub record SameHead (m n : ℕ) (d e : Node EntryName) (r s : List ℕ) : Type 0 where
   pub below : m ≡ n
   pub node : SameNode Any d e
   pub rest : r ≡ s
 
-node_code : (m n : ℕ) (d e : Node Spot) (r s : List ℕ) → node_label m d ++ r ≡ node_label n e ++ s → SameHead m n d e r s
+node_code : (m n : ℕ) (d e : Node EntryName) (r s : List ℕ) → node_label m d ++ r ≡ node_label n e ++ s → SameHead m n d e r s
 node_code m n d e r s h =
     let xs = each_counted attr_label d.attrs in
     let ys = each_counted attr_label e.attrs in
@@ -118,7 +118,7 @@ node_code m n d e r s h =
     let z = each_code_of SameAttr (SameAttrs Any) attr_label attrs_lists attr_code d.attrs e.attrs r s y.1 in
     record { below = x.0; node = (y.0, z.0); rest = z.1 }
 
-entries_code : (f g : Entries Spot) (r s : List ℕ) → size f ≡ size g → entries_label f ++ r ≡ entries_label g ++ s → SameEntries Any f g × (r ≡ s)
+entries_code : (f g : Entries EntryName) (r s : List ℕ) → size f ≡ size g → entries_label f ++ r ≡ entries_label g ++ s → SameEntries Any f g × (r ≡ s)
 unfolding entries_label
 entries_code End End r s l h = (tt, h)
 entries_code End (Entry e c n) r s l h = absurd (omega arith)
@@ -159,7 +159,7 @@ label_bare a b e =
 
 -- ---- the same trees have one label
 
-same_target : (a b : Spot) → SameTarget Any a b → target_label a ≡ target_label b
+same_target : (a b : EntryName) → SameTarget Any a b → target_label a ≡ target_label b
 same_target (Within a p) (Within b q) h = λ i. 1 ∷ each_counted number (h.0 i)
 same_target (Within a p) _ h = absurd h
 same_target _ (Within b q) h = absurd h
@@ -172,28 +172,28 @@ pub record Spelled {X : Type 0} (spell : X → List ℕ) (xs ys : List X) : Type
 spelled_each : {X : Type 0} (spell : X → List ℕ) (xs ys : List X) → Spelled spell xs ys → each_counted spell xs ≡ each_counted spell ys
 spelled_each spell xs ys s = λ i. number (s.many i) ++ s.flat i
 
-same_refs : (xs ys : List Spot) → SameRefs Any xs ys → Spelled target_label xs ys
+same_refs : (xs ys : List EntryName) → SameRefs Any xs ys → Spelled target_label xs ys
 same_refs [] [] h = record { many = refl; flat = refl }
 same_refs (x ∷ xs) (y ∷ ys) h = let r = same_refs xs ys h.1 in record { many = ap suc r.many; flat = λ i. same_target x y h.0 i ++ r.flat i }
 same_refs _ _ h = absurd h
 
-same_value : (a b : Value Spot) → SameValue Any a b → value_label a ≡ value_label b
+same_value : (a b : Value EntryName) → SameValue Any a b → value_label a ≡ value_label b
 same_value a b h = λ i. plain_label (h.0 i) ++ spelled_each target_label a.refs b.refs (same_refs a.refs b.refs h.1) i
 
-same_attrs : (xs ys : List (Attr Spot)) → SameAttrs Any xs ys → Spelled attr_label xs ys
+same_attrs : (xs ys : List (Attr EntryName)) → SameAttrs Any xs ys → Spelled attr_label xs ys
 same_attrs [] [] h = record { many = refl; flat = refl }
 same_attrs (x ∷ xs) (y ∷ ys) h = let r = same_attrs xs ys h.2 in record { many = ap suc r.many; flat = λ i. (number (h.0 i) ++ same_value x.value y.value h.1 i) ++ r.flat i }
 same_attrs _ _ h = absurd h
 
-same_node : (m n : ℕ) (d e : Node Spot) → m ≡ n → SameNode Any d e → node_label m d ≡ node_label n e
+same_node : (m n : ℕ) (d e : Node EntryName) → m ≡ n → SameNode Any d e → node_label m d ≡ node_label n e
 same_node m n d e l h = λ i. number (l i) ++ (number (h.0 i) ++ spelled_each attr_label d.attrs e.attrs (same_attrs d.attrs e.attrs h.1) i)
 
-same_size : (f g : Entries Spot) → SameEntries Any f g → size f ≡ size g
+same_size : (f g : Entries EntryName) → SameEntries Any f g → size f ≡ size g
 same_size End End h = refl
 same_size (Entry d c n) (Entry e c' n') h = let x = same_size c c' h.1 in let y = same_size n n' h.2 in omega arith
 same_size _ _ h = absurd h
 
-same_entries : (f g : Entries Spot) → SameEntries Any f g → entries_label f ≡ entries_label g
+same_entries : (f g : Entries EntryName) → SameEntries Any f g → entries_label f ≡ entries_label g
 unfolding entries_label
 same_entries End End h = refl
 same_entries (Entry d c n) (Entry e c' n') h = λ i. same_node (size c) (size c') d e (same_size c c' h.1) h.0 i ++ (same_entries c c' h.1 i ++ same_entries n n' h.2 i)

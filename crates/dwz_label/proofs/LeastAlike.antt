@@ -2,21 +2,21 @@
 use Rattle.std.proofs.Common.{◌≡◌, ℕ, ◌<◌, ◌≤◌, true, false, List, length, sym, subst, ◌∙◌, ⊎_elim, arith}
 use Rattle.std.specs.Prelude.{slice_index}
 use Rattle.std.proofs.lemmas.Bool.{cases_Bool, false≢true}
-use Rattle.dwz_docs.specs.Lists.{In}
-use Rattle.dwz_meanings.proofs.DecideLemmas.{if_true}
+use Rattle.dwz_def_reading.specs.Lists.{In}
+use Rattle.dwz_def_reading.proofs.DecideLemmas.{if_true}
 use Rattle.dwz_nodes.specs.Graph.{Node, label_at}
 use Rattle.dwz_nodes.specs.Looks.{Alike as AlikeNodes, IsLeastBelow, IsRefined}
-use Rattle.dwz_alike.specs.Alike.{Alike, Movable, TopScope}
-use Rattle.dwz_alike.specs.Deciding.{alike_test, is_movable}
-use Rattle.dwz_alike.specs.Spots.{FileUnit, Spot, Top, tops_of}
-use Rattle.dwz_alike.proofs.AlikeBound.{movable_decides}
-use Rattle.dwz_alike.proofs.AlikeLaws.{alike_joins, alike_turns, test_decides}
-use Rattle.dwz_alike.proofs.TopNumbers.{tops_numbers, top_at}
+use Rattle.dwz_def_tops.specs.Alike.{Alike, Movable, TopScope}
+use Rattle.dwz_def_tops.specs.Deciding.{alike_test, is_movable}
+use Rattle.dwz_def_tops.specs.Spots.{EntryName, FileUnit, Top, tops_of}
+use Rattle.dwz_def_tops.proofs.AlikeBound.{movable_decides}
+use Rattle.dwz_def_tops.proofs.AlikeLaws.{alike_joins, alike_turns, test_decides}
+use Rattle.dwz_def_tops.proofs.TopNumbers.{tops_numbers, top_at}
 use Rattle.dwz_label.specs.Nodes.{AreLeast, AreTopNodes, HaveOneLeast}
 use Rattle.dwz_label.proofs.Choices.{by_if}
 use Rattle.dwz_label.proofs.NodeLooks.{bound_node, movable_node, node_looks, top_below}
 
-module _ (units : List (FileUnit Spot)) (g : List Node) (nodes : AreTopNodes units g) where
+module _ (units : List (FileUnit EntryName)) (g : List Node) (nodes : AreTopNodes units g) where
   -- a node with the label of a movable top's is a movable top's
   label_movable : (a b : Top) → In a (tops_of units) → In b (tops_of units) → Movable units a.number → label_at g a.number ≡ label_at g b.number → is_movable units b ≡ true
   label_movable a b i j m e = ⊎_elim (λ t. t)
@@ -75,7 +75,7 @@ module _ (units : List (FileUnit Spot)) (g : List Node) (nodes : AreTopNodes uni
 
 -- ---- tops with one least alike top
 
-module _ (units : List (FileUnit Spot)) (least : List ℕ) (are : AreLeast units least) where
+module _ (units : List (FileUnit EntryName)) (least : List ℕ) (are : AreLeast units least) where
   least_of : (t : Top) → In t (tops_of units) → is_movable units t ≡ true → IsLeastBelow (length (tops_of units)) (Alike units t.number) (slice_index least t.number)
   least_of t i f = if_true (is_movable units t) _ _ f (are.each t i)
 

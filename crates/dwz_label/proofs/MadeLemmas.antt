@@ -2,15 +2,15 @@
 use Rattle.std.proofs.Common.{◌≡◌, ℕ, ◌<◌, Bool, true, false, List, [], length, get_or, sym, ap, subst, ◌∙◌, arith}
 use Rattle.std.specs.Prelude.{All, if◌then◌else◌, slice_index, slice_index_or}
 use Rattle.std.proofs.lemmas.Bool.{cond-false, cond-true}
-use Rattle.dwz_docs.specs.Lists.{In}
-use Rattle.dwz_meanings.proofs.DecideLemmas.{if_false, if_true}
+use Rattle.dwz_def_reading.specs.Lists.{In}
+use Rattle.dwz_def_reading.proofs.DecideLemmas.{if_false, if_true}
 use Rattle.dwz_nodes.specs.Graph.{IsClosed, Node, node, node_at}
 use Rattle.dwz_nodes.specs.Looks.{IsLeastBelow}
-use Rattle.dwz_alike.specs.Alike.{Movable}
-use Rattle.dwz_alike.specs.Deciding.{is_movable}
-use Rattle.dwz_alike.specs.Spots.{FileUnit, Spot, Top, tops_of}
-use Rattle.dwz_alike.proofs.AlikeBound.{movable_decides}
-use Rattle.dwz_alike.proofs.TopNumbers.{tops_numbers, top_at}
+use Rattle.dwz_def_tops.specs.Alike.{Movable}
+use Rattle.dwz_def_tops.specs.Deciding.{is_movable}
+use Rattle.dwz_def_tops.specs.Spots.{EntryName, FileUnit, Top, tops_of}
+use Rattle.dwz_def_tops.proofs.AlikeBound.{movable_decides}
+use Rattle.dwz_def_tops.proofs.TopNumbers.{tops_numbers, top_at}
 use Rattle.dwz_label.specs.Labels.{label_of}
 use Rattle.dwz_label.specs.Nodes.{AreTopNodes, IsLikeness}
 use Rattle.dwz_label.specs.Shown.{AreFirstEquals, AreMadeOf, AreShown, nth_label}
@@ -30,7 +30,7 @@ made_closed firsts movable targets g many inside made n l =
     (subst (λ (x : Node). All (λ t. t < length targets) x.targets) (sym (made.each n (omega (arith, size, l))))
     (chosen (slice_index_or movable n false) (slice_index_or targets n []) (length targets) (inside n [] (omega arith))))
 
-module _ (units : List (FileUnit Spot)) (labels : List (List ℕ)) (movable : List Bool) (targets : List (List ℕ)) (firsts : List ℕ) (g : List Node)
+module _ (units : List (FileUnit EntryName)) (labels : List (List ℕ)) (movable : List Bool) (targets : List (List ℕ)) (firsts : List ℕ) (g : List Node)
     (shown : AreShown units labels movable targets) (are : AreFirstEquals labels movable firsts) (made : AreMadeOf firsts movable targets g) where
   many : length firsts ≡ length (tops_of units)
   many = are.len ∙ shown.flags.len

@@ -2,7 +2,7 @@
 use Rattle.std.proofs.Common.{◌≡◌, ℕ, ◌+◌, ◌-◌, List, [], ◌∷◌, ◌++◌, length, map, take, sym, ap, subst, ◌∙◌, arith, length-append}
 use Rattle.std.specs.Prelude.{slice_range}
 use Rattle.std.proofs.Math.Seq.{drop-append-add, take-length}
-use Rattle.dwz_model.proofs.ListFacts.{range-more}
+use Rattle.dwz_model.proofs.PartFacts.{range-more}
 use Rattle.dwz_groups.specs.Parts.{parts_of, Rise}
 use Rattle.dwz_groups.proofs.PartLemmas.{Parted, Rise-least}
 

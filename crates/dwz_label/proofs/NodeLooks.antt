@@ -4,18 +4,18 @@ use Rattle.std.proofs.Common.{◌≡◌, ℕ, zero, suc, ◌<◌, ◌≤◌, tru
 use Rattle.std.proofs.lemmas.Bool.{cases_Bool}
 use Rattle.std.proofs.lemmas.List.Elements.{AllZip-get_or, length_all_zip}
 use Rattle.std.specs.List.{AllZip}
-use Rattle.dwz_docs.specs.Lists.{Each, In}
-use Rattle.dwz_meanings.proofs.DecideLemmas.{if_false, if_true}
+use Rattle.dwz_def_reading.specs.Lists.{Each, In}
+use Rattle.dwz_def_reading.proofs.DecideLemmas.{if_false, if_true}
 use Rattle.dwz_nodes.specs.Graph.{IsClosed, Node, label_at, targets_at}
 use Rattle.dwz_nodes.specs.Looks.{LookEqual}
-use Rattle.dwz_seen.proofs.Members.{each_more}
-use Rattle.dwz_alike.specs.Alike.{Look, Movable}
-use Rattle.dwz_alike.specs.Deciding.{is_movable}
-use Rattle.dwz_alike.specs.Spots.{FileUnit, Spot, Top, tops_of}
-use Rattle.dwz_alike.specs.Targets.{targets_of}
-use Rattle.dwz_alike.proofs.AlikeBound.{movable_closed, movable_decides}
-use Rattle.dwz_alike.proofs.AlikeLooks.{look_in, look_out}
-use Rattle.dwz_alike.proofs.TopNumbers.{number_below, one_top, tops_numbers, top_at}
+use Rattle.dwz_def_tops.proofs.Members.{each_more}
+use Rattle.dwz_def_tops.specs.Alike.{Look, Movable}
+use Rattle.dwz_def_tops.specs.Deciding.{is_movable}
+use Rattle.dwz_def_tops.specs.Spots.{EntryName, FileUnit, Top, tops_of}
+use Rattle.dwz_def_tops.specs.Targets.{targets_of}
+use Rattle.dwz_def_tops.proofs.AlikeBound.{movable_closed, movable_decides}
+use Rattle.dwz_def_tops.proofs.AlikeLooks.{look_in, look_out}
+use Rattle.dwz_def_tops.proofs.TopNumbers.{number_below, one_top, tops_numbers, top_at}
 use Rattle.dwz_label.specs.Nodes.{AreTopNodes, SameBare, ShowsBound, ShowsMovable}
 use Rattle.dwz_label.proofs.Bare.{bare_joins, bare_of, bare_turns, targets_among, top_whole, top_zip}
 use Rattle.dwz_label.proofs.Pairs.{zip_from, zip_more}
@@ -25,13 +25,13 @@ each_at Q [] k d h l = absurd (omega arith)
 each_at Q (x ∷ xs) zero d h l = h.0
 each_at Q (x ∷ xs) (suc k) d h l = each_at Q xs k d h.1 (omega arith)
 
-pub top_below : (units : List (FileUnit Spot)) (t : Top) → In t (tops_of units) → t.number < length (tops_of units)
+pub top_below : (units : List (FileUnit EntryName)) (t : Top) → In t (tops_of units) → t.number < length (tops_of units)
 top_below units t i = let low = number_below 0 (tops_of units) t (tops_numbers units) i in omega arith
 
-pub movable_below : (units : List (FileUnit Spot)) (n : ℕ) → Movable units n → n < length (tops_of units)
+pub movable_below : (units : List (FileUnit EntryName)) (n : ℕ) → Movable units n → n < length (tops_of units)
 movable_below units n m = let low = top_below units m.top m.is_top in let same = m.number in omega arith
 
-module _ (units : List (FileUnit Spot)) (g : List Node) (nodes : AreTopNodes units g) where
+module _ (units : List (FileUnit EntryName)) (g : List Node) (nodes : AreTopNodes units g) where
   pub movable_node : (t : Top) → In t (tops_of units) → Movable units t.number → ShowsMovable units g t
   movable_node t i m = if_true (is_movable units t) _ _ ((movable_decides units t i).1 m) (nodes.each t i)
 

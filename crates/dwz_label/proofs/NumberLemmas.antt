@@ -1,8 +1,8 @@
 -- Numbers in groups of seven bits: one group, or one group and the rest. And signed numbers as sign and reach.
 use Rattle.std.proofs.Common.{◌≡◌, ℕ, ℤ, Some, pos, negsuc, zero, suc, ◌+◌, ◌%◌, ◌/◌, ◌^◌, ◌<◌, ◌≤◌, [], ◌∷◌, ◌++◌, refl, ap, ◌∙◌, arith}
-use Rattle.dwz_bytes.specs.Spelling.{groups_in, padded, reach}
-use Rattle.dwz_bytes.proofs.PaddedLemmas.{count_least, count_suffices, one_more, only_one}
-use Rattle.dwz_meanings.specs.Documents.{Num}
+use Rattle.dwz_def_reading.specs.Spelling.{groups_in, padded, reach}
+use Rattle.dwz_def_reading.proofs.PaddedLemmas.{count_least, count_suffices, one_more, only_one}
+use Rattle.dwz_def_reading.specs.Documents.{Num}
 use Rattle.dwz_label.specs.Labels.{language_label, number, plain_label}
 use Rattle.dwz_label.specs.Pieces.{sign}
 use Rattle.dwz_label.proofs.Codes.{enough}

@@ -2,7 +2,7 @@
 use Rattle.std.proofs.Common.{◌≡◌, ℕ, zero, suc, ◌<◌, List, [], ◌∷◌, ◌++◌, length, arith}
 use Rattle.std.specs.List.{AllZip}
 use Rattle.std.specs.Prelude.{slice_index}
-use Rattle.dwz_docs.specs.Lists.{Each}
+use Rattle.dwz_def_reading.specs.Lists.{Each}
 
 pub zip_join : (R : ℕ → ℕ → Type 0) (xs ys us vs : List ℕ) → AllZip R xs ys → AllZip R us vs → AllZip R (xs ++ us) (ys ++ vs)
 zip_join R [] [] us vs h j = j

@@ -2,13 +2,13 @@
 -- itself, so it can be told from what follows.
 use Rattle.std.specs.Prelude.{ℕ, ℤ, pos, negsuc, suc, Bool, true, false, List, [], ◌∷◌, ◌++◌, length, Option, Some, None}
 use Rattle.std.specs.List.{flat_map}
-use Rattle.dwz_bytes.specs.Spelling.{groups_in, padded}
+use Rattle.dwz_def_reading.specs.Spelling.{groups_in, padded}
 use Rattle.dwz_model.specs.declared.place.Base.{Base}
 use Rattle.dwz_model.specs.declared.place.Base.TheVariants.{Unit as FromUnit, Info as FromInfo}
-use Rattle.dwz_meanings.specs.Documents.{Attr, Entries, Node, Part, Plain, Value}
-use Rattle.dwz_meanings.specs.Documents.{Addr, Block, Expr, File, Flag, Index, Loc, Num, Operand, Ref, Same, Sec, Sig, Text}
-use Rattle.dwz_docs.specs.Trees.{End, Entry, size}
-use Rattle.dwz_alike.specs.Spots.{Spot, Top, Within, name_list}
+use Rattle.dwz_def_reading.specs.Documents.{Attr, Entries, Node, Part, Plain, Value}
+use Rattle.dwz_def_reading.specs.Documents.{Addr, Block, Expr, File, Flag, Index, Loc, Num, Operand, Ref, Same, Sec, Sig, Text}
+use Rattle.dwz_def_reading.specs.Trees.{End, Entry, size}
+use Rattle.dwz_def_tops.specs.Spots.{EntryName, Top, Within, name_list}
 
 -- a number in groups of seven bits, as many as it needs: for one of 64 bits its shortest LEB128 spelling (DWARF 5, 7.6)
 unfoldable pub number : ℕ → List ℕ
@@ -60,24 +60,24 @@ plain_label (Expr parts) = 11 ∷ parts_label parts
 plain_label (Loc exprs) = 12 ∷ each_counted parts_label exprs
 
 -- of an entry that is named its path in its top, whichever top that is; or that it is in none
-abbrev pub target_label : Spot → List ℕ
+abbrev pub target_label : EntryName → List ℕ
 target_label (Within top path) = 1 ∷ each_counted number path
 target_label _ = 0 ∷ []
 
-abbrev pub value_label : Value Spot → List ℕ
+abbrev pub value_label : Value EntryName → List ℕ
 value_label v = plain_label v.plain ++ each_counted target_label v.refs
 
 -- ---- entries
 
-abbrev pub attr_label : Attr Spot → List ℕ
+abbrev pub attr_label : Attr EntryName → List ℕ
 attr_label a = number a.name ++ value_label a.value
 
 -- an entry that has so many entries below it
-abbrev pub node_label : ℕ → Node Spot → List ℕ
+abbrev pub node_label : ℕ → Node EntryName → List ℕ
 node_label below e = number below ++ (number e.tag ++ each_counted attr_label e.attrs)
 
 -- the entries in preorder
-unfoldable pub entries_label : Entries Spot → List ℕ
+unfoldable pub entries_label : Entries EntryName → List ℕ
 entries_label End = []
 entries_label (Entry e children next) = node_label (size children) e ++ (entries_label children ++ entries_label next)
 

@@ -1,25 +1,26 @@
 -- What labels, flags and lists of targets show of tops, and the nodes that are made of them.
 use Rattle.std.specs.Prelude.{◌≡◌, ℕ, ◌<◌, Bool, true, false, List, [], length, if◌then◌else◌, slice_index, slice_index_or}
-use Rattle.dwz_meanings.specs.Meanings.{IfSo}
-use Rattle.dwz_docs.specs.Lists.{In}
+use Rattle.dwz_def_reading.specs.Meanings.{IfSo}
+use Rattle.dwz_def_reading.specs.Lists.{In}
 use Rattle.dwz_nodes.specs.Graph.{Node, node, node_at}
 use Rattle.dwz_nodes.specs.Looks.{IsLeastBelow}
-use Rattle.dwz_alike.specs.Alike.{Movable}
-use Rattle.dwz_alike.specs.Deciding.{AreMovable}
-use Rattle.dwz_alike.specs.Spots.{FileUnit, Spot, Top, tops_of}
-use Rattle.dwz_alike.specs.Targets.{targets_of}
+use Rattle.dwz_def_tops.specs.Alike.{Movable}
+use Rattle.dwz_def_tops.specs.Deciding.{AreMovable}
+use Rattle.dwz_def_tops.specs.Spots.{EntryName, FileUnit, Top, tops_of}
+use Rattle.dwz_def_tops.specs.Targets.{targets_of}
 use Rattle.dwz_label.specs.Labels.{label_of}
 
 abbrev pub nth_label : List (List ℕ) → ℕ → List ℕ
 nth_label labels n = slice_index_or labels n []
 
 -- of each top whether it may move, and of one that may its label and its targets
-pub record AreShown (units : List (FileUnit Spot)) (labels : List (List ℕ)) (movable : List Bool) (targets : List (List ℕ)) : Type 0 where
-  pub flags : AreMovable units movable
-  pub labels_len : length labels ≡ length (tops_of units)
-  pub labels_are : (t : Top) → In t (tops_of units) → Movable units t.number → nth_label labels t.number ≡ label_of t
-  pub targets_len : length targets ≡ length (tops_of units)
-  pub targets_are : (t : Top) → In t (tops_of units) → Movable units t.number → slice_index_or targets t.number [] ≡ targets_of t
+pub record AreShown (units : List (FileUnit EntryName)) (labels : List (List ℕ)) (movable : List Bool) (targets : List (List ℕ)) : Type 0
+  where
+    pub flags : AreMovable units movable
+    pub labels_len : length labels ≡ length (tops_of units)
+    pub labels_are : (t : Top) → In t (tops_of units) → Movable units t.number → nth_label labels t.number ≡ label_of t
+    pub targets_len : length targets ≡ length (tops_of units)
+    pub targets_are : (t : Top) → In t (tops_of units) → Movable units t.number → slice_index_or targets t.number [] ≡ targets_of t
 
 -- m is the least that may move and is the same as n
 abbrev pub IsLeastFree : (ℕ → ℕ → Type 0) → List Bool → ℕ → ℕ → Type 0

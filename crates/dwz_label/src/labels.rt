@@ -74,7 +74,7 @@ impl Labels {
     pub(crate) fn from_writer<W: LabelWriter>(
         alloc: Global,
         writer: &W,
-        room: &mut W::Room,
+        room: &mut W::Scratch,
         first: usize,
         end: usize,
     ) -> Result<Labels, NoMemory>

@@ -1,8 +1,13 @@
-//! The labels of tops, and the graph of nodes that shows which tops are alike.
+//! Labels, bytes that are equal for two tops exactly if language, name list and bare tree are; and the nodes of tops.
 //!
-//! A label is bytes that are equal for two tops exactly if their languages, their name lists and their bare trees are
-//! (`specs/Labels.antt`). The node of a top has the first top with an equal label as its label, and the tops that the top's
-//! references go into as its targets; so what no look tells apart of nodes is what is alike of tops.
+//! `put_language`, `put_text`, `put_ref` and the other `put_` calls append one piece of a label each. `labels_by` has several workers write
+//! the labels of a `LabelWriter`, in stretches; `firsts` gives of each movable top the least one with an equal label, whatever the hashes
+//! are. `nodes` makes a graph of it: a node for each top, with that number as its label and the tops that it refers to as its targets. So
+//! what no look tells apart of nodes is what is alike of tops.
+//!
+//! Laws: `label_laws`, `made_laws`, `node_laws`. The label is written from rows by `dwz_label_entries`.
+//!
+//! Read first: `label_of` (`specs/Labels.antt`), `specs/Nodes.antt`.
 #![tactic(auto)]
 
 mod equal;

@@ -1,4 +1,7 @@
 //! The nodes of tops.
+//!
+//! The path of a target is in the label of the top, and the top that it is in among the node's targets. With a number of the target in
+//! place of its path, only the limits of looks would agree.
 
 ghost use Rattle.std.specs.Prelude.{◌≡◌, ◌-◌, ◌<◌, ◌^◌, [], length, slice_index_or, if◌then◌else◌, IfOk};
 ghost use Rattle.dwz_label.specs.Shown.{AreMadeOf};

@@ -3,8 +3,8 @@
 //! After an error nothing is said of the bytes.
 
 ghost use Rattle.std.specs.Prelude.{◌≡◌, ◌∷◌, ◌++◌, Some, None, OnOk};
-ghost use Rattle.dwz_bytes.specs.Spelling.{reach};
-ghost use Rattle.dwz_meanings.specs.Documents.{Addr, Block, File, Flag, Index, Num, Operand, Ref, Same, Sec, Sig, Text};
+ghost use Rattle.dwz_def_reading.specs.Spelling.{reach};
+ghost use Rattle.dwz_def_reading.specs.Documents.{Addr, Block, File, Flag, Index, Num, Operand, Ref, Same, Sec, Sig, Text};
 ghost use Rattle.dwz_label.specs.Labels.{base_label, counted, flag_label, language_label, number, part_label, plain_label};
 ghost use Rattle.dwz_label.specs.Pieces.{sign};
 

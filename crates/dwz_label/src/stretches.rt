@@ -30,7 +30,7 @@ fn stretch_len(count: usize, workers: usize) -> usize
 fn stretch<W: LabelWriter>(
     alloc: Global,
     writer: &W,
-    room: &mut W::Room,
+    room: &mut W::Scratch,
     count: usize,
     len: usize,
     number: usize,

@@ -1,84 +1,69 @@
--- The parts of rows, pinned or not: what follows them, and what stays.
-use Rattle.std.proofs.Common.{◌≡◌, ℕ, suc, ◌||◌, ◌&&◌, not, cond, Bool, true, false, List, [], ◌∷◌, ◌++◌, refl, sym, ap, ◌∙◌, append_assoc}
-use Rattle.dwz_meanings.specs.Documents.{entries_map, node_map}
-use Rattle.dwz_alike.specs.Deciding.{same_bool}
-use Rattle.dwz_alike.specs.Spots.{ASpace, ATop, Nothing, Row, Spot}
-use Rattle.dwz_moving.specs.Plan.{Pinned, pinned_first, row_part, row_pinned, row_staying}
-use Rattle.dwz_layout.specs.Lines.{Line, line, lines, row_lines}
-use Rattle.dwz_layout.specs.Outline.{View}
-use Rattle.dwz_layout.specs.Parts.{part_lines}
+-- The parts of an expression: as many operands as are read, and with whichever numbers they are as long as what was read.
+use Rattle.std.proofs.Common.{◌≡◌, ℕ, zero, suc, ◌+◌, ◌-◌, List, [], ◌∷◌, length, drop, Result, Ok, Err, refl, sym, ap, subst, ◌∙◌, append-nil, arith}
+use Rattle.dwz_model.specs.declared.fault.Fault.{Fault}
+use Rattle.dwz_model.specs.declared.fault.ReadErr.{ReadErr}
+use Rattle.dwz_model.specs.declared.fault.ReadErr.TheVariants.{Refused}
+use Rattle.dwz_def_reading.specs.Entries.{RawAttr}
+use Rattle.dwz_expr.specs.FirstFault.{ReadsInto}
+use Rattle.dwz_def_reading.specs.declared.exprs.Operand.{Operand}
+use Rattle.dwz_def_reading.specs.Documents.{Part, Same}
+use Rattle.dwz_def_reading.specs.Documents as document
+use Rattle.dwz_def_reading.specs.Exprs.{Expression, any_operands, expr_at, parts_from}
+use Rattle.dwz_def_reading.specs.Meanings.{block_begins, bytes_of}
+use Rattle.dwz_def_reading.specs.Patching.{filled}
+use Rattle.dwz_def_reading.proofs.ExprLemmas.{expr_agrees}
+use Rattle.dwz_def_reading.proofs.PatchedLemmas.{patched_length}
+use Rattle.dwz_layout.specs.declared.known.EntryTable.{EntryTable}
+use Rattle.dwz_layout.specs.Attributes.{Numbers, expr_parts, operand_count, operand_numbers, parts_or, references_from}
 
-module _ (f : Spot → Spot) (p : Pinned) where
-  -- what follows stands behind
-  pub part_last : (depth : ℕ) (want : Bool) (row last : Row) → row_lines f depth (row_part p want row last) ≡ row_lines f depth (row_part p want row Nothing) ++ row_lines f depth last
-  unfolding row_lines row_part
-  part_last depth want Nothing last = refl
-  part_last depth want (ATop t next) last = go (part_last depth want next last) (same_bool (p.top t.number) want) where
-    here : List (Line Spot)
-    here = line depth (node_map f t.node) ∷ lines (suc depth) (entries_map f t.below)
+pub count_from : (at : ℕ) (bytes : List ℕ) (os : List Operand) → operand_count (parts_from at bytes os) ≡ length os
+unfolding operand_count parts_from
+count_from at bytes [] = refl
+count_from at bytes (o ∷ os) = ap suc (count_from (o.at + o.width) (drop (o.at + o.width - at) bytes) os)
 
-    go : row_lines f depth (row_part p want next last) ≡ row_lines f depth (row_part p want next Nothing) ++ row_lines f depth last
-        → (b : Bool) → row_lines f depth (elim b as (λ _. Row) [ true ↦ ATop t (row_part p want next last) | false ↦ row_part p want next last ])
-        ≡ row_lines f depth (elim b as (λ _. Row) [ true ↦ ATop t (row_part p want next Nothing) | false ↦ row_part p want next Nothing ]) ++ row_lines f depth last
-    go more true = ap (λ (w : List (Line Spot)). here ++ w) more ∙ sym (append_assoc here (row_lines f depth (row_part p want next Nothing)) (row_lines f depth last))
-    go more false = more
-  part_last depth want (ASpace e inner next) last = go (part_last depth want next last) (same_bool (p.space e.at || row_pinned p inner) want) where
-    within : Row
-    within = row_part p true inner (row_part p false inner Nothing)
+pub none_from : (at : ℕ) (bytes : List ℕ) → parts_from at bytes [] ≡ Same bytes ∷ []
+unfolding parts_from
+none_from at bytes = refl
 
-    here : List (Line Spot)
-    here = line depth (node_map f e) ∷ row_lines f (suc depth) within
+pub references_many : (k : EntryTable) (file n count : ℕ) → length (references_from k file n count) ≡ count
+unfolding references_from
+references_many k file n zero = refl
+references_many k file n (suc count) = ap suc (references_many k file (n + 1) count)
 
-    go : row_lines f depth (row_part p want next last) ≡ row_lines f depth (row_part p want next Nothing) ++ row_lines f depth last
-        → (b : Bool) → row_lines f depth (elim b as (λ _. Row) [
-          | true ↦ ASpace e (row_part p true inner (row_part p false inner Nothing)) (row_part p want next last)
-          | false ↦ row_part p want next last
-        ])
-        ≡ row_lines f depth (elim b as (λ _. Row) [ true ↦ ASpace e (row_part p true inner (row_part p false inner Nothing)) (row_part p want next Nothing) | false ↦ row_part p want next Nothing ])
-        ++ row_lines f depth last
-    go more true = ap (λ (w : List (Line Spot)). here ++ w) more ∙ sym (append_assoc here (row_lines f depth (row_part p want next Nothing)) (row_lines f depth last))
-    go more false = more
+pub numbers_many : (n : Numbers) (parts : List Part) (numbers : List ℕ) → length numbers ≡ operand_count parts → length (operand_numbers n parts numbers) ≡ operand_count parts
+unfolding operand_numbers operand_count
+numbers_many n [] numbers many = refl
+numbers_many n (Same bytes ∷ parts) numbers many = numbers_many n parts numbers many
+numbers_many n (document.Operand width uleb base ∷ parts) [] many = absurd (omega (arith, many))
+numbers_many n (document.Operand width uleb base ∷ parts) (x ∷ numbers) many = ap suc (numbers_many n parts numbers (omega (arith, many)))
 
-  pub first_lines : (depth : ℕ) (row : Row) → row_lines f depth (pinned_first p row) ≡ row_lines f depth (row_part p true row Nothing) ++ row_lines f depth (row_part p false row Nothing)
-  first_lines depth row = part_last depth true row (row_part p false row Nothing)
+same_len : (bytes numbers : List ℕ) → length (filled (Same bytes ∷ []) numbers) ≡ length bytes
+unfolding filled
+same_len bytes numbers = ap (λ (w : List ℕ). length w) (append-nil bytes)
 
-module _ (v : View) where
-  abbrev part_of : ℕ → Bool → Row → List (Line Spot)
-  part_of depth want row = row_lines v.image depth (row_part v.pinned want (row_staying v.gone row) Nothing)
+pub parts_len : (at : ℕ) (bytes numbers : List ℕ) (r : Result Expression Fault) → expr_at (any_operands 1) (record { at = at; rest = bytes }) ≡ r → length numbers ≡ operand_count (parts_or bytes r)
+    → length (filled (parts_or bytes r) numbers) ≡ length bytes
+unfolding operand_count
+parts_len at bytes numbers (Ok e) is many =
+    patched_length (any_operands 1) e at bytes numbers (((expr_agrees (any_operands 1) (record { at = at; rest = bytes })).ok e).0 is) (many ∙ count_from e.at e.bytes e.operands)
+parts_len at bytes numbers (Err f) is many = same_len bytes numbers
 
-  -- what stays of a row
-  pub part_is : (depth : ℕ) (want : Bool) (row : Row) → part_lines v depth want row ≡ part_of depth want row
-  unfolding part_lines row_lines row_part row_staying
-  part_is depth want Nothing = refl
-  part_is depth want (ATop t next) = go (part_is depth want next) (v.gone t.number) where
-    here : List (Line Spot)
-    here = line depth (node_map v.image t.node) ∷ lines (suc depth) (entries_map v.image t.below)
+-- the expression that an attribute stores, with the numbers of what it names
+pub expr_len : (k : EntryTable) (file next : ℕ) (n : Numbers) (a : RawAttr)
+    → length (filled (expr_parts a) (operand_numbers n (expr_parts a) (references_from k file next (operand_count (expr_parts a)))))
+    ≡ length (bytes_of a.raw)
+expr_len k file next n a =
+    let parts = expr_parts a in
+    parts_len (block_begins a) (bytes_of a.raw) (operand_numbers n parts (references_from k file next (operand_count parts)))
+    (expr_at (any_operands 1) (record { at = block_begins a; rest = bytes_of a.raw })) refl
+    (numbers_many n parts (references_from k file next (operand_count parts)) (references_many k file next (operand_count parts)))
 
-    by : part_lines v depth want next ≡ part_of depth want next → (b : Bool) → cond b here [] ++ part_lines v depth want next
-        ≡ row_lines v.image depth (elim b as (λ _. Row) [ true ↦ ATop t (row_part v.pinned want (row_staying v.gone next) Nothing) | false ↦ row_part v.pinned want (row_staying v.gone next) Nothing ])
-    by more true = ap (λ (w : List (Line Spot)). here ++ w) more
-    by more false = more
-
-    go : part_lines v depth want next ≡ part_of depth want next → (g : Bool) → cond (not g && same_bool (v.pinned.top t.number) want) here [] ++ part_lines v depth want next
-        ≡ row_lines v.image depth (row_part v.pinned want (elim g as (λ _. Row) [ true ↦ row_staying v.gone next | false ↦ ATop t (row_staying v.gone next) ]) Nothing)
-    go more true = more
-    go more false = by more (same_bool (v.pinned.top t.number) want)
-  part_is depth want (ASpace e inner next) =
-      go (part_is depth want next) (part_is (suc depth) true inner) (part_is (suc depth) false inner) (same_bool (v.pinned.space e.at || row_pinned v.pinned (row_staying v.gone inner)) want)
-    where
-      within : Row
-      within = row_staying v.gone inner
-
-      go : part_lines v depth want next ≡ part_of depth want next → part_lines v (suc depth) true inner ≡ part_of (suc depth) true inner
-          → part_lines v (suc depth) false inner ≡ part_of (suc depth) false inner
-          → (b : Bool) → cond b (line depth (node_map v.image e) ∷ part_lines v (suc depth) true inner ++ part_lines v (suc depth) false inner) [] ++ part_lines v depth want next
-          ≡ row_lines v.image depth (elim b as (λ _. Row) [
-            | true ↦ ASpace e (row_part v.pinned true (row_staying v.gone inner) (row_part v.pinned false (row_staying v.gone inner) Nothing))
-                (row_part v.pinned want (row_staying v.gone next) Nothing)
-            | false ↦ row_part v.pinned want (row_staying v.gone next) Nothing
-          ])
-      go more first second true =
-          let join : part_lines v (suc depth) true inner ++ part_lines v (suc depth) false inner ≡ row_lines v.image (suc depth) (pinned_first v.pinned within) =
-          (λ i. first i ++ second i) ∙ sym (first_lines v.image v.pinned (suc depth) within) in
-          (λ i. (line depth (node_map v.image e) ∷ join i) ++ more i)
-      go more first second false = more
+-- bytes that are no expression are one part
+pub refused_parts : (at : ℕ) (bytes : List ℕ) (start : ℕ) → start ≡ at → (f : Fault) (e : ReadErr) → e ≡ Refused f → (found : List Operand)
+    → ReadsInto 1 (record { at = start; rest = bytes }) found (Err e) → (os : List Operand) → os ≡ []
+    → parts_from at bytes os ≡ parts_or bytes (expr_at (any_operands 1) (record { at = at; rest = bytes }))
+refused_parts at bytes start same f e is found reads os none =
+    let fault = (subst (λ (x : ReadErr). ReadsInto 1 (record { at = start; rest = bytes }) found (Err x)) is reads).0 in
+    ap (parts_from at bytes) none
+    ∙ none_from at bytes
+    ∙ sym (ap (λ (s : ℕ). parts_or bytes (expr_at (any_operands 1) (record { at = s; rest = bytes }))) (sym same) ∙ ap (parts_or bytes) fault)

@@ -1,39 +1,30 @@
-//! The order in which entries are written.
+//! What is written, in order.
 
-/// What is written at once.
-#[derive(Clone, Copy, Debug, PartialEq, Eq)]
-pub enum What {
-    /// The root of the unit.
-    Root,
-    /// The root of the unit with all entries below it.
-    Whole,
-    /// The top with this number, with all entries below it.
-    Top(u32),
-    /// The space with this number, as it was read.
-    Space(u32),
-    /// A space of a partial unit, in the chain with that number, which has its name from the space with this number.
-    InChain { chain: u32, space: u32 },
-    /// An import of the partial unit with this number (DWARF 5, 3.2.5).
-    Import(u32),
+use crate::known::Row;
+use dwz_layout_items::Item;
+use dwz_model::DwzList;
+
+/// What kind of unit is written (DWARF 5, 7.5.1).
+#[derive(Clone, Copy)]
+pub enum Sort {
+    /// A compile unit that was read, with its root.
+    Compile(Row),
+    /// A type unit that was read, with its root, its signature, and the number among all files of the entry that describes its type.
+    OfType {
+        root: Row,
+        signature: u64,
+        main: u32,
+    },
+    /// A partial unit, with the offset of its line table, if its root names one (3.1.1).
+    Partial(Option<u32>),
 }
 
-/// What is written at once, and how deep its first entry stands: a root has depth 1.
-#[derive(Clone, Copy, Debug, PartialEq, Eq)]
-pub struct Item {
-    pub what: What,
-    pub depth: u32,
+/// A unit, with its entries in order.
+#[derive(Drop)]
+pub struct UnitItems {
+    pub sort: Sort,
+    pub items: DwzList<Item>,
 }
 
-/// A top of a compile unit, or a space of it: a named namespace in its root or in another space (DWARF 5, 3.2.2).
-#[derive(Clone, Copy, Debug, PartialEq, Eq)]
-pub struct Outer {
-    /// The top or the space.
-    pub what: What,
-    /// How many tops and spaces stand in it, those in its spaces among them: as many as follow it. In a top there are none.
-    pub inside: u32,
-    /// Whether it stays in its unit. A space always does.
-    pub stays: bool,
-    /// Whether it has to stand near the beginning: an operand that is a ULEB128 number names an entry of the top, or the space, or
-    /// an entry of a top that stays in the space.
-    pub pinned: bool,
-}
+/// The units of a file that is written.
+pub type FileItems = DwzList<UnitItems>;

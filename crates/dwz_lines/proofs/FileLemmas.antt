@@ -5,13 +5,13 @@ use Rattle.std.proofs.lemmas.List.{length-map}
 use Rattle.dwz_model.specs.declared.fault.Fault.{Fault}
 use Rattle.dwz_model.specs.declared.fault.ReadErr.{ReadErr}
 use Rattle.dwz_model.specs.declared.fault.ReadErr.TheVariants.{NoMemory, Refused}
-use Rattle.dwz_docs.specs.Faults.{Answers, Fails}
+use Rattle.dwz_def_reading.specs.Faults.{Answers, Fails}
 use Rattle.dwz_model.specs.declared.place.Pair.{Pair}
 use Rattle.dwz_bytes.specs.declared.error.ByteErr.{ByteErr}
 use Rattle.dwz_bytes.specs.Input.{Input}
 use Rattle.dwz_bytes.specs.Reading.{uleb_at}
-use Rattle.dwz_meanings.specs.LineTables.{FileTable, PathRow, TextSections, bad_line_table, file_table_at, is_header, names_strs, tables_begin, tables_bytes}
-use Rattle.dwz_meanings.proofs.SequenceLemmas.{input_of}
+use Rattle.dwz_def_reading.specs.LineTables.{FileTable, PathRow, TextSections, bad_line_table, file_table_at, is_header, names_strs, tables_begin, tables_bytes}
+use Rattle.dwz_def_reading.proofs.SequenceLemmas.{input_of}
 use Rattle.dwz_lines.specs.Headers.{AreTables, NoTables}
 use Rattle.dwz_lines.specs.Reading.{Dirs, Misses, TriesAt, bind, dirs_in, files_after, files_behind, files_in, files_of, formats_in, has_dir, path_in, path_of, paths_in, row_in, rows_in, sure}
 use Rattle.dwz_lines.specs.Reading.{table_in}

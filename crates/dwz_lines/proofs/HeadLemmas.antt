@@ -2,7 +2,7 @@
 use Rattle.std.proofs.Common.{◌≡◌, ℕ, ◌+◌, ◌≤◌, Bool, true, false, ltb, List, length, refl}
 use Rattle.std.specs.Prelude.{not}
 use Rattle.std.proofs.lemmas.Bool.{and_parts, ltb-false}
-use Rattle.dwz_meanings.specs.LineTables.{is_header, line_length}
+use Rattle.dwz_def_reading.specs.LineTables.{is_header, line_length}
 
 not_true : (b : Bool) → not b ≡ true → b ≡ false
 not_true true e = absurd cc

@@ -6,8 +6,8 @@ use Rattle.std.proofs.lemmas.List.{append-nil, at_drop_all, at_drop_more, map-ap
 use Rattle.dwz_bytes.specs.declared.error.ByteErr.{ByteErr}
 use Rattle.dwz_bytes.specs.Input.{Input}
 use Rattle.dwz_bytes.specs.Reading.{fixed_at}
-use Rattle.dwz_docs.specs.Lists.{has}
-use Rattle.dwz_meanings.specs.LineTables.{names_strs}
+use Rattle.dwz_def_reading.specs.Rows.{has}
+use Rattle.dwz_def_reading.specs.LineTables.{names_strs}
 use Rattle.dwz_lines.specs.declared.formats.Format.{Format}
 use Rattle.dwz_lines.specs.Reading.{after_one, bind, format_in, formats_in, sure, times_in, with_one}
 use Rattle.dwz_lines.specs.Views.{format_view, format_views}

@@ -7,9 +7,9 @@ use Rattle.dwz_model.specs.declared.place.Pair.{Pair}
 use Rattle.dwz_bytes.specs.declared.error.ByteErr.{ByteErr}
 use Rattle.dwz_bytes.specs.Input.{Input}
 use Rattle.dwz_bytes.specs.Reading.{◌>>=◌, fixed_at, uleb_at}
-use Rattle.dwz_meanings.specs.Exprs.{or_fault}
-use Rattle.dwz_meanings.specs.LineTables.{format_at, format_of, formats_at, is_format, second, uleb_or}
-use Rattle.dwz_meanings.specs.Sequences.{Reader, then_make, then_read, times_at}
+use Rattle.dwz_def_reading.specs.Exprs.{or_fault}
+use Rattle.dwz_def_reading.specs.LineTables.{format_at, format_of, formats_at, is_format, second, uleb_or}
+use Rattle.dwz_def_reading.specs.Sequences.{Reader, then_make, then_read, times_at}
 use Rattle.dwz_lines.specs.Reading.{after_one, behind, bind, form_behind, format_in, formats_in, sure, taken, times_in, with_one}
 
 -- ---- binding

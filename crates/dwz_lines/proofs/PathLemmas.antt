@@ -7,7 +7,7 @@ use Rattle.std.specs.Prelude.{OnOk, Result, Ok, Err, is_ok}
 use Rattle.std.proofs.lemmas.Bool.{le-ltb, lt-ltb, ltb-false, ltb-true}
 use Rattle.std.proofs.lemmas.List.{drop-append-le, length-append, length-drop, map-append, take-append-drop, take-append-le, take_all}
 use Rattle.dwz_bytes.proofs.LebLemmas.{drop-front}
-use Rattle.dwz_meanings.specs.LineTables.{begins_with_slash, is_no_path, join, nth_path}
+use Rattle.dwz_def_reading.specs.LineTables.{begins_with_slash, is_no_path, join, nth_path}
 use Rattle.dwz_lines.specs.declared.paths.Span.{Span}
 use Rattle.dwz_lines.specs.Paths.{AreWithin, IsIn, IsKept, text_of, texts_of}
 use Rattle.dwz_lines.specs.Reading.{path_or_none}

@@ -6,11 +6,11 @@ use Rattle.dwz_model.specs.declared.fault.Fault.{Fault}
 use Rattle.dwz_model.specs.declared.place.Pair.{Pair}
 use Rattle.dwz_bytes.specs.Input.{Input}
 use Rattle.dwz_bytes.specs.Reading.{◌>>=◌}
-use Rattle.dwz_codes.specs.Forms.{form_rows}
-use Rattle.dwz_docs.specs.Entries.{unless_so}
-use Rattle.dwz_docs.specs.Values.{Raw, value_at}
-use Rattle.dwz_meanings.specs.LineTables.{PathRow, TextSections, are_indexes, first_index, index_in, or_bad, path_text, row_path, row_said, row_with, rows_said, values_at, with_content, with_row}
-use Rattle.dwz_meanings.specs.Sequences.{then_make, then_read, times_at}
+use Rattle.dwz_def_reading.specs.Forms.{form_rows}
+use Rattle.dwz_def_reading.specs.Entries.{unless_so}
+use Rattle.dwz_def_reading.specs.Values.{Raw, value_at}
+use Rattle.dwz_def_reading.specs.LineTables.{PathRow, TextSections, are_indexes, first_index, index_in, or_bad, path_text, row_path, row_said, row_with, rows_said, values_at, with_content, with_row}
+use Rattle.dwz_def_reading.specs.Sequences.{then_make, then_read, times_at}
 use Rattle.dwz_lines.specs.Reading.{Seen, behind, bind, row_from, row_in, row_of, rows_in, seen, seen_with, sure, then_row, values_in, with_dir, with_path}
 use Rattle.dwz_lines.proofs.PassLemmas.{bind_assoc, bind_none, bind_same, each_of, said_of, times_plain, times_said, times_same}
 

@@ -3,11 +3,11 @@ use Rattle.std.proofs.Common.{◌≡◌, ℕ, ◌+◌, ◌<◌, ◌≤◌, Bool,
 use Rattle.std.specs.Prelude.{◌||◌}
 use Rattle.std.proofs.lemmas.List.{length-drop}
 use Rattle.dwz_model.specs.declared.fault.Fault.{Fault}
-use Rattle.dwz_docs.proofs.CaseFacts.{or_assoc}
-use Rattle.dwz_meanings.specs.LineTables.{FileTable, IsFileTable, TextSections, file_table_at, line_length}
-use Rattle.dwz_meanings.proofs.AgreeLemmas.{same_meaning}
-use Rattle.dwz_meanings.proofs.LineTableLemmas.{file_table_agrees}
-use Rattle.dwz_lines.specs.Sections.{AreTablesFrom, IsRowOf, any_strp}
+use Rattle.dwz_def_reading.proofs.CaseFacts.{or_assoc}
+use Rattle.dwz_def_reading.specs.LineTables.{FileTable, IsFileTable, TextSections, file_table_at, line_length}
+use Rattle.dwz_def_reading.proofs.AgreeLemmas.{same_meaning}
+use Rattle.dwz_def_reading.proofs.LineTableLemmas.{file_table_agrees}
+use Rattle.dwz_def_reading.specs.LineSection.{AreTablesFrom, IsRowOf, any_strp}
 use Rattle.dwz_lines.proofs.HeadLemmas.{whole_unit}
 
 -- whatever the tables are, some were read, and the others begin here

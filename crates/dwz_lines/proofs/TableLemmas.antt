@@ -7,15 +7,16 @@ use Rattle.dwz_model.specs.declared.place.Pair.{Pair}
 use Rattle.dwz_bytes.specs.declared.error.ByteErr.{ByteErr}
 use Rattle.dwz_bytes.specs.Input.{Input}
 use Rattle.dwz_bytes.specs.Reading.{◌>>=◌, uleb_at}
-use Rattle.dwz_docs.specs.Entries.{unless_so}
-use Rattle.dwz_docs.specs.Values.{Raw}
-use Rattle.dwz_meanings.specs.Exprs.{or_fault}
-use Rattle.dwz_meanings.specs.LineTables.{FileTable, PathRow, Table, TextSections, are_formats, bad_line_table, dir_path, dirs_after as dirs_say_after, file_table, file_table_at}
-use Rattle.dwz_meanings.specs.LineTables.{files_after as files_say_after, formats_at, full_path, is_format, is_header, join, names_strs, one_fault, row_said, rows_at, rows_said, second, table_at}
-use Rattle.dwz_meanings.specs.LineTables.{table_said, table_with, tables_after, tables_at, tables_begin, tables_bytes, tables_with, values_at, with_row}
-use Rattle.dwz_meanings.specs.Sequences.{then_make, then_read, times_at, value_only}
-use Rattle.dwz_docs.proofs.PartLemmas.{bind_ok}
-use Rattle.dwz_meanings.proofs.SequenceLemmas.{input_of}
+use Rattle.dwz_def_reading.specs.Entries.{unless_so}
+use Rattle.dwz_def_reading.specs.Values.{Raw}
+use Rattle.dwz_def_reading.specs.Exprs.{or_fault}
+use Rattle.dwz_def_reading.specs.LineTables.{FileTable, PathRow, Table, TextSections, are_formats, bad_line_table, dir_path, dirs_after as dirs_say_after, file_table, file_table_at}
+use Rattle.dwz_def_reading.specs.LineTables.{files_after as files_say_after, formats_at, full_path, is_format, is_header, join, names_strs, one_fault, path_table_at, row_said, rows_at, rows_said}
+use Rattle.dwz_def_reading.specs.LineTables.{second}
+use Rattle.dwz_def_reading.specs.LineTables.{table_said, table_with, tables_after, tables_at, tables_begin, tables_bytes, tables_with, values_at, with_row}
+use Rattle.dwz_def_reading.specs.Sequences.{then_make, then_read, times_at, value_only}
+use Rattle.dwz_def_reading.proofs.PartLemmas.{bind_ok}
+use Rattle.dwz_def_reading.proofs.SequenceLemmas.{input_of}
 use Rattle.dwz_lines.specs.Reading.{Dirs, behind, bind, dirs_in, files_in, formats_in, has_dir, path_in, path_of, path_or_none, rows_in, sure, table_in}
 use Rattle.dwz_lines.proofs.PassLemmas.{bind_none, formats_is, if_formats, times_len, times_plain}
 use Rattle.dwz_lines.proofs.RowLemmas.{rows_are, rows_say}
@@ -76,7 +77,7 @@ module _ {R : Type 0} (s : TextSections) (bad : Fault) (dirs_for : ℕ → ℕ) 
   count_of f good (Err e) = refl
   count_of f good (Ok n) = rows_of f n good (times_at (values_at f.0) n.0 n.1) refl
 
-  pub part_is : (i : Input) → bind (formats_in i) formatted ≡ bind (sure (table_at bad i)) asked
+  pub part_is : (i : Input) → bind (formats_in i) formatted ≡ bind (sure (path_table_at bad i)) asked
   part_is i = ap (λ (o : Option (List Pair × Input)). bind o formatted) (formats_is bad i) ∙ by (formats_at bad i) where
     test : (f : List Pair × Input) (b : Bool) → list_all is_format f.0 ≡ b → bind (cond b (Some f) None) formatted ≡ bind (sure (rows_at bad f.0 f.1 >>= then_make table_with f.0)) asked
     test f true good = count_of f good (uleb_at f.1)
@@ -102,11 +103,11 @@ abbrev files_said : TextSections → Fault → Dirs → Table → Option FileTab
 files_said s bad d t = cond (list_all is_format t.formats) (cond (has_dir (length t.rows) (length d.paths))
     (bind (sure (rows_said s bad (length d.paths) t.formats t.rows)) (λ rows. Some (files_made d t.formats rows))) None) None
 
-dirs_are : (s : TextSections) (bad : Fault) (i : Input) → dirs_in s i ≡ bind (sure (table_at bad i)) (λ t. bind (dirs_said s bad t.0) (behind t.1))
+dirs_are : (s : TextSections) (bad : Fault) (i : Input) → dirs_in s i ≡ bind (sure (path_table_at bad i)) (λ t. bind (dirs_said s bad t.0) (behind t.1))
 unfolding dirs_in
 dirs_are s bad i = part_is s bad (λ n. n) no_matter dirs_made i
 
-files_are : (s : TextSections) (bad : Fault) (d : Dirs) (i : Input) → files_in s d i ≡ bind (sure (table_at bad i)) (λ t. bind (files_said s bad d t.0) (behind t.1))
+files_are : (s : TextSections) (bad : Fault) (d : Dirs) (i : Input) → files_in s d i ≡ bind (sure (path_table_at bad i)) (λ t. bind (files_said s bad d t.0) (behind t.1))
 unfolding files_in
 files_are s bad d i = part_is s bad (λ n. length d.paths) (λ n. has_dir n (length d.paths)) (files_made d) i
 
@@ -199,21 +200,22 @@ module _ (s : TextSections) (bad : Fault) (a b : Table) where
 -- ---- a table
 
 module _ (s : TextSections) (bad : Fault) (i : Input) where
-  parts_are : sure ((tables_at bad i >>= value_only) >>= table_said s bad) ≡ bind (sure (table_at bad i)) (λ a. bind (sure (table_at bad a.1)) (λ b. sure (table_said s bad (tables_with a.0 b.0))))
+  parts_are : sure ((tables_at bad i >>= value_only) >>= table_said s bad) ≡ bind (sure (path_table_at bad i)) (λ a. bind (sure (path_table_at bad a.1)) (λ b. sure (table_said s bad (tables_with a.0
+      b.0))))
   unfolding tables_at
-  parts_are = by (table_at bad i) where
+  parts_are = by (path_table_at bad i) where
     rest : (a : Table) (r : Result (Table × Input) Fault) → sure (((r >>= then_make tables_with a) >>= value_only) >>= table_said s bad)
         ≡ bind (sure r) (λ b. sure (table_said s bad (tables_with a b.0)))
     rest a (Ok b) = refl
     rest a (Err e) = refl
 
-    by : (r : Result (Table × Input) Fault) → sure (((r >>= then_read (λ _. table_at bad) tables_with) >>= value_only) >>= table_said s bad)
-        ≡ bind (sure r) (λ a. bind (sure (table_at bad a.1)) (λ b. sure (table_said s bad (tables_with a.0 b.0))))
-    by (Ok a) = rest a.0 (table_at bad a.1)
+    by : (r : Result (Table × Input) Fault) → sure (((r >>= then_read (λ _. path_table_at bad) tables_with) >>= value_only) >>= table_said s bad)
+        ≡ bind (sure r) (λ a. bind (sure (path_table_at bad a.1)) (λ b. sure (table_said s bad (tables_with a.0 b.0))))
+    by (Ok a) = rest a.0 (path_table_at bad a.1)
     by (Err e) = refl
 
   whole_is : sure ((tables_at bad i >>= value_only) >>= table_said s bad) ≡ bind (table_in s i) (λ x. Some x.0)
-  whole_is = parts_are ∙ sym (ap (λ (o : Option (Dirs × Input)). bind (bind o (λ d. files_in s d.0 d.1)) (λ x. Some x.0)) (dirs_are s bad i) ∙ by (table_at bad i)) where
+  whole_is = parts_are ∙ sym (ap (λ (o : Option (Dirs × Input)). bind (bind o (λ d. files_in s d.0 d.1)) (λ x. Some x.0)) (dirs_are s bad i) ∙ by (path_table_at bad i)) where
     last : (o : Option FileTable) (j : Input) → bind (bind o (behind j)) (λ x. Some x.0) ≡ o
     last None j = refl
     last (Some t) j = refl
@@ -223,15 +225,15 @@ module _ (s : TextSections) (bad : Fault) (i : Input) where
     files_of_part d (Ok b) = last (files_said s bad d b.0) b.1
 
     dirs_of_part : (a : Table × Input) (o : Option Dirs) → bind (bind (bind o (behind a.1)) (λ d. files_in s d.0 d.1)) (λ x. Some x.0)
-        ≡ bind (sure (table_at bad a.1)) (λ b. bind o (λ d. files_said s bad d b.0))
-    dirs_of_part a None = sym (bind_none (sure (table_at bad a.1)))
-    dirs_of_part a (Some d) = ap (λ (o : Option (FileTable × Input)). bind o (λ x. Some x.0)) (files_are s bad d a.1) ∙ files_of_part d (table_at bad a.1)
+        ≡ bind (sure (path_table_at bad a.1)) (λ b. bind o (λ d. files_said s bad d b.0))
+    dirs_of_part a None = sym (bind_none (sure (path_table_at bad a.1)))
+    dirs_of_part a (Some d) = ap (λ (o : Option (FileTable × Input)). bind o (λ x. Some x.0)) (files_are s bad d a.1) ∙ files_of_part d (path_table_at bad a.1)
 
     by : (r : Result (Table × Input) Fault) → bind (bind (bind (sure r) (λ t. bind (dirs_said s bad t.0) (behind t.1))) (λ d. files_in s d.0 d.1)) (λ x. Some x.0)
-        ≡ bind (sure r) (λ a. bind (sure (table_at bad a.1)) (λ b. sure (table_said s bad (tables_with a.0 b.0))))
+        ≡ bind (sure r) (λ a. bind (sure (path_table_at bad a.1)) (λ b. sure (table_said s bad (tables_with a.0 b.0))))
     by (Err e) = refl
     by (Ok a) = let same : (b : Table × Input) → bind (dirs_said s bad a.0) (λ d. files_said s bad d b.0) ≡ sure (table_said s bad (tables_with a.0 b.0)) =
-        λ b. sym (tables_say s bad a.0 b.0) in dirs_of_part a (dirs_said s bad a.0) ∙ (λ k. bind (sure (table_at bad a.1)) (λ b. same b k))
+        λ b. sym (tables_say s bad a.0 b.0) in dirs_of_part a (dirs_said s bad a.0) ∙ (λ k. bind (sure (path_table_at bad a.1)) (λ b. same b k))
 
 -- ---- what stands at a place
 

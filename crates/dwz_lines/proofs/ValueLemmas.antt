@@ -2,11 +2,11 @@
 use Rattle.std.proofs.Common.{◌≡◌, ℕ, ◌+◌, ◌<◌, ◌≤◌, pos, List, length, drop, get_or, Option, Some, None, refl, ap, ◌∙◌}
 use Rattle.std.proofs.lemmas.List.{at_drop_all, at_drop_more}
 use Rattle.dwz_bytes.specs.Input.{Input}
-use Rattle.dwz_codes.specs.Forms.{form_rows}
-use Rattle.dwz_codes.specs.declared.shape.Shape.{Shape}
-use Rattle.dwz_codes.specs.declared.shape.Shape.TheVariants.{Nothing, Fixed1, Fixed2, Fixed3, Fixed4, Fixed8, Fixed16, Uleb, Sleb, ZeroEnded, Block1, Block2, Block4, BlockUleb, Address}
-use Rattle.dwz_docs.specs.Values.{Raw, shape_of, shaped_at, value_at}
-use Rattle.dwz_meanings.specs.LineTables.{TextSections, format_of}
+use Rattle.dwz_def_reading.specs.Forms.{form_rows}
+use Rattle.dwz_def_reading.specs.Shape.{Shape}
+use Rattle.dwz_def_reading.specs.Shape.TheVariants.{Nothing, Fixed1, Fixed2, Fixed3, Fixed4, Fixed8, Fixed16, Uleb, Sleb, ZeroEnded, Block1, Block2, Block4, BlockUleb, Address}
+use Rattle.dwz_def_reading.specs.Values.{Raw, shape_of, shaped_at, value_at}
+use Rattle.dwz_def_reading.specs.LineTables.{TextSections, format_of}
 use Rattle.dwz_lines.specs.declared.formats.Format.{Format}
 use Rattle.dwz_lines.specs.Reading.{Seen, bind, seen_with, sure, values_in}
 use Rattle.dwz_lines.specs.Views.{format_view, format_views}

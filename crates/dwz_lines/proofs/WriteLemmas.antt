@@ -5,7 +5,7 @@ use Rattle.std.proofs.Math.Nat.{div-one}
 use Rattle.std.proofs.lemmas.List.{at_drop_all, at_drop_more, length-append}
 use Rattle.dwz_bytes.specs.Spelling.{le_bytes, uleb}
 use Rattle.dwz_bytes.proofs.LowBytes.{low_first}
-use Rattle.dwz_meanings.specs.LinesWritten.{behind_length, file_formats, header_written, one_directory, rows_bytes, standard, tables_written, with_row_0}
+use Rattle.dwz_def_reading.specs.LinesWritten.{behind_length, file_formats, header_written, one_directory, rows_bytes, standard, tables_written, with_row_0}
 
 -- ---- numbers of four bytes
 

@@ -1,7 +1,7 @@
 -- What is found of a header.
 use Rattle.std.specs.Prelude.{◌≡◌, ◌⊎◌, ℕ, true, false, List, [], drop, Option, Some, None}
 use Rattle.dwz_bytes.specs.Input.{Input}
-use Rattle.dwz_meanings.specs.LineTables.{is_header, tables_begin, tables_bytes}
+use Rattle.dwz_def_reading.specs.LineTables.{is_header, tables_begin, tables_bytes}
 
 -- no header stands there, or no byte is left for tables
 abbrev pub NoTables : List ℕ → Type 0

@@ -4,4 +4,3 @@ pub mod RowViews
 pub mod Paths
 pub mod Headers
 pub mod TableViews
-pub mod Sections

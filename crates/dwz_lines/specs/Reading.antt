@@ -7,9 +7,9 @@ use Rattle.dwz_model.specs.declared.fault.ReadErr.TheVariants.{NoMemory, Refused
 use Rattle.dwz_model.specs.declared.place.Pair.{Pair}
 use Rattle.dwz_bytes.specs.Input.{Input}
 use Rattle.dwz_bytes.specs.Reading.{fixed_at, uleb_at}
-use Rattle.dwz_codes.specs.Forms.{form_rows}
-use Rattle.dwz_docs.specs.Values.{Raw, value_at}
-use Rattle.dwz_meanings.specs.LineTables.{FileTable, PathRow, TextSections, format_of, index_in, is_format, join, names_strs, path_text}
+use Rattle.dwz_def_reading.specs.Forms.{form_rows}
+use Rattle.dwz_def_reading.specs.Values.{Raw, value_at}
+use Rattle.dwz_def_reading.specs.LineTables.{FileTable, PathRow, TextSections, format_of, index_in, is_format, join, names_strs, path_text}
 
 -- ---- answers without their faults
 

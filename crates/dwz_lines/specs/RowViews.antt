@@ -1,6 +1,6 @@
 -- Rows of the code as the definitions see them.
 use Rattle.std.specs.Option.{option_map}
-use Rattle.dwz_meanings.specs.LineTables.{PathRow, TextSections}
+use Rattle.dwz_def_reading.specs.LineTables.{PathRow, TextSections}
 use Rattle.dwz_lines.specs.declared.rows.Row.{Row}
 use Rattle.dwz_lines.specs.declared.rows.Seen.{Seen as SeenOfCode}
 use Rattle.dwz_lines.specs.declared.rows.Strings.{Strings}

@@ -2,7 +2,7 @@
 use Rattle.std.specs.Prelude.{ℕ, List, length, map, Option, Some}
 use Rattle.dwz_model.specs.declared.place.Pair.{Pair}
 use Rattle.dwz_bytes.specs.Input.{Input}
-use Rattle.dwz_meanings.specs.LineTables.{TextSections}
+use Rattle.dwz_def_reading.specs.LineTables.{TextSections}
 use Rattle.dwz_lines.specs.declared.tables.Directories.{Directories}
 use Rattle.dwz_lines.specs.Reading.{Dirs, bind, path_in, rows_in}
 

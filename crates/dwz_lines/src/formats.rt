@@ -1,23 +1,19 @@
 //! Formats: what the rows of a table consist of (DWARF 5, 6.2.4.1).
 
 ghost use Rattle.std.specs.Prelude.{◌≡◌};
-ghost use Rattle.dwz_docs.specs.Lists;
-ghost use Rattle.dwz_meanings.specs.LineTables;
+ghost use Rattle.dwz_def_reading.specs.Rows;
+ghost use Rattle.dwz_def_reading.specs.LineTables;
 ghost use Rattle.dwz_lines.specs.Reading.{FindsAt, TriesAt, format_in, formats_in};
 ghost use Rattle.dwz_lines.specs.Views.{format_view, format_views};
 
 use dwz_bytes::Cursor;
+use dwz_codes::{
+    DW_FORM_BLOCK, DW_FORM_BLOCK1, DW_FORM_BLOCK2, DW_FORM_BLOCK4, DW_FORM_DATA1, DW_FORM_DATA2,
+    DW_FORM_DATA4, DW_FORM_DATA8, DW_FORM_DATA16, DW_FORM_LINE_STRP, DW_FORM_SDATA, DW_FORM_STRING,
+    DW_FORM_STRP, DW_FORM_UDATA, DW_LNCT_DIRECTORY_INDEX, DW_LNCT_PATH,
+};
 use dwz_model::{Fault, ReadErr};
 use std::alloc::Global;
-
-/// The content type of a path, DW_LNCT_path.
-pub(crate) const PATH: u64 = 1;
-
-/// The content type of a directory's index, DW_LNCT_directory_index.
-pub(crate) const DIRECTORY: u64 = 2;
-
-/// The form of an offset in `.debug_str`, DW_FORM_strp.
-pub(crate) const STRP: u64 = 0x0e;
 
 /// A content type, and the form of its values.
 #[derive(Clone, Copy, Debug, PartialEq, Eq)]
@@ -28,7 +24,7 @@ pub(crate) struct Format {
 
 // Whether a form is among some.
 fn has(form: u64, forms: &[u64]) -> bool
-    ensures { result ≡ Lists.has form forms.now }
+    ensures { result ≡ Rows.has form forms.now }
 {
     for other in forms {
         if *other == form {
@@ -44,12 +40,25 @@ fn is_format(content: u64, form: u64) -> bool
     ensures { result ≡ LineTables.is_format (LineTables.format_of content form) }
 {
     match content {
-        PATH => has(form, &[0x08, 0x0e, 0x1f]),
-        DIRECTORY => has(form, &[0x0b, 0x05, 0x0f]),
+        DW_LNCT_PATH => has(form, &[DW_FORM_STRING, DW_FORM_STRP, DW_FORM_LINE_STRP]),
+        DW_LNCT_DIRECTORY_INDEX => has(form, &[DW_FORM_DATA1, DW_FORM_DATA2, DW_FORM_UDATA]),
         _ => has(
             form,
             &[
-                0x08, 0x0e, 0x1f, 0x0b, 0x05, 0x06, 0x07, 0x1e, 0x0f, 0x0d, 0x09, 0x0a, 0x03, 0x04,
+                DW_FORM_STRING,
+                DW_FORM_STRP,
+                DW_FORM_LINE_STRP,
+                DW_FORM_DATA1,
+                DW_FORM_DATA2,
+                DW_FORM_DATA4,
+                DW_FORM_DATA8,
+                DW_FORM_DATA16,
+                DW_FORM_UDATA,
+                DW_FORM_SDATA,
+                DW_FORM_BLOCK,
+                DW_FORM_BLOCK1,
+                DW_FORM_BLOCK2,
+                DW_FORM_BLOCK4,
             ],
         ),
     }
@@ -95,7 +104,7 @@ pub(crate) fn names_strs(formats: &[Format]) -> bool
     ensures { result ≡ LineTables.names_strs (format_views formats.now) }
 {
     for format in formats {
-        if format.form == STRP {
+        if format.form == DW_FORM_STRP {
             return true;
         }
     }

@@ -1,8 +1,8 @@
 //! The header of a line table (DWARF 5, 6.2.4), for the 32-bit format (7.4).
 
 ghost use Rattle.std.specs.Prelude.{◌≡◌, ◌+◌, ◌≤◌, length};
-ghost use Rattle.dwz_docs.specs.Units.{field};
-ghost use Rattle.dwz_meanings.specs.LineTables;
+ghost use Rattle.dwz_def_reading.specs.Units.{field};
+ghost use Rattle.dwz_def_reading.specs.LineTables;
 ghost use Rattle.dwz_lines.specs.Headers.{Begins};
 
 use dwz_bytes::Cursor;

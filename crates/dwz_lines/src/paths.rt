@@ -2,8 +2,8 @@
 
 ghost use Rattle.std.specs.Prelude.{◌≡◌, ◌<◌, ◌≤◌, ◌^◌, ◌++◌, ◌∷◌, [], OnErr, OnOk, drop, length, map, take, vec_len};
 ghost use Rattle.std.specs.Option.{option_map};
-ghost use Rattle.dwz_meanings.specs.LineTables;
-ghost use Rattle.dwz_meanings.specs.LineTables.{nth_path};
+ghost use Rattle.dwz_def_reading.specs.LineTables;
+ghost use Rattle.dwz_def_reading.specs.LineTables.{nth_path};
 ghost use Rattle.dwz_lines.specs.Paths.{IsIn, IsKept, text_of};
 ghost use Rattle.dwz_lines.specs.Reading.{path_in, path_or_none};
 ghost use Rattle.dwz_lines.specs.RowViews.{row_view};

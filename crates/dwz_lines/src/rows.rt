@@ -3,18 +3,19 @@
 ghost use Rattle.std.specs.Prelude.{◌≡◌};
 ghost use Rattle.std.specs.Option.{option_map};
 ghost use Rattle.dwz_bytes.specs.Spelling;
-ghost use Rattle.dwz_codes.specs.Forms.{form_rows};
-ghost use Rattle.dwz_docs.specs.Texts;
-ghost use Rattle.dwz_docs.specs.Values.{value_at};
+ghost use Rattle.dwz_def_reading.specs.Forms.{form_rows};
+ghost use Rattle.dwz_def_reading.specs.Texts;
+ghost use Rattle.dwz_def_reading.specs.Values.{value_at};
 ghost use Rattle.dwz_forms.specs.RawValues.{raw_view};
-ghost use Rattle.dwz_meanings.specs.LineTables.{index_in, path_text};
+ghost use Rattle.dwz_def_reading.specs.LineTables.{index_in, path_text};
 ghost use Rattle.dwz_lines.specs.Reading;
 ghost use Rattle.dwz_lines.specs.Reading.{FindsAt, row_in, seen_with, sure};
 ghost use Rattle.dwz_lines.specs.Views.{format_view, format_views};
 ghost use Rattle.dwz_lines.specs.RowViews.{row_view, seen_view, strings_view};
 
-use crate::formats::{DIRECTORY, Format, PATH, STRP};
+use crate::formats::Format;
 use dwz_bytes::Cursor;
+use dwz_codes::{DW_FORM_STRP, DW_LNCT_DIRECTORY_INDEX, DW_LNCT_PATH};
 use dwz_forms::{Raw, read_value};
 use dwz_model::Pair;
 use dwz_strs::text_at;
@@ -68,7 +69,7 @@ fn path<'a>(strings: Strings<'a>, form: u64, raw: Raw<'a>) -> Option<&'a [u8]>
     match raw {
         Raw::Bytes(bytes) => Some(bytes),
         Raw::Number(number) => {
-            let section = if form == STRP {
+            let section = if form == DW_FORM_STRP {
                 strings.strs
             } else {
                 strings.line_strs
@@ -100,7 +101,7 @@ fn with_value<'a>(
         (seen_view seen.entry) }
 {
     match format.content {
-        PATH => match seen.path {
+        DW_LNCT_PATH => match seen.path {
             Some(_) => None,
             None => {
                 let path = path(strings, format.form, raw)?;
@@ -110,7 +111,7 @@ fn with_value<'a>(
                 })
             }
         },
-        DIRECTORY => match seen.dir {
+        DW_LNCT_DIRECTORY_INDEX => match seen.dir {
             Some(_) => None,
             None => {
                 let index = index(raw);

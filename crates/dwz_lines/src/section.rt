@@ -1,8 +1,8 @@
 //! All tables of a section.
 
 ghost use Rattle.std.specs.Prelude.{◌≡◌, ◌+◌, ◌≤◌, IfOk, drop, length};
-ghost use Rattle.dwz_meanings.specs.LineTables.{line_length};
-ghost use Rattle.dwz_lines.specs.Sections.{UsesStrp};
+ghost use Rattle.dwz_def_reading.specs.LineTables.{line_length};
+ghost use Rattle.dwz_def_reading.specs.LineSection.{UsesStrp};
 ghost use Rattle.dwz_lines.specs.TableViews.{sections};
 
 use crate::header::four;

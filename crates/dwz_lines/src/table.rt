@@ -1,28 +1,28 @@
 //! Line tables that are read.
+//!
+//! A table is read in one pass: each row is asked what it says as it is read. All faults of a table are one, so the order of tests doesn't
+//! matter. How many rows a table says it has isn't believed: a row without a byte has no path, so the first one ends the reading.
 
 ghost use Rattle.std.specs.Prelude.{◌≡◌, ◌<◌, ◌^◌, length};
 ghost use Rattle.std.specs.Option.{option_map};
-ghost use Rattle.dwz_docs.specs.Faults.{Answers};
-ghost use Rattle.dwz_meanings.specs.LineTables.{bad_line_table, file_table_at, nth_path};
+ghost use Rattle.dwz_def_reading.specs.Faults.{Answers};
+ghost use Rattle.dwz_def_reading.specs.LineTables.{bad_line_table, file_table_at, nth_path};
 ghost use Rattle.dwz_lines.specs.TableViews.{sections};
 
 use crate::header::tables_of;
 use crate::paths::Paths;
 use crate::rows::Strings;
 use crate::tables::{read_directories, read_files};
-use dwz_model::{Fault, ReadErr, Reason};
+use dwz_model::{DEBUG_LINE, Fault, ReadErr, Reason};
 use std::alloc::Global;
 use std::marker::Model;
-
-// The section `.debug_line` in faults.
-const LINE: u8 = 6;
 
 // The line table at a place is bad.
 fn bad_at(place: u64) -> Fault
     ensures { result ≡ bad_line_table place }
 {
     Fault {
-        section: LINE,
+        section: DEBUG_LINE,
         at: place,
         reason: Reason::BadLineTable,
     }
@@ -36,7 +36,7 @@ pub struct FileTable {
 }
 
 impl Model for FileTable {
-    ghost use Rattle.dwz_meanings.specs.LineTables.{FileTable as Paths};
+    ghost use Rattle.dwz_def_reading.specs.LineTables.{FileTable as Paths};
 
     ghost Value = { Paths };
 

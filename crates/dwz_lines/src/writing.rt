@@ -2,8 +2,8 @@
 
 ghost use Rattle.std.specs.Prelude.{◌≡◌, ◌+◌, ◌<◌, ◌-◌, ◌^◌, ◌++◌, ◌∷◌, [], IfOk, OnOk, length};
 ghost use Rattle.dwz_bytes.specs.Spelling.{le_bytes};
-ghost use Rattle.dwz_meanings.specs.LinesWritten.{behind_length, file_formats, header_written, one_directory, rows_bytes, standard};
-ghost use Rattle.dwz_meanings.specs.LinesWritten.{tables_written};
+ghost use Rattle.dwz_def_reading.specs.LinesWritten.{behind_length, file_formats, header_written, one_directory, rows_bytes, standard};
+ghost use Rattle.dwz_def_reading.specs.LinesWritten.{tables_written};
 
 use dwz_bytes::put_uleb;
 use dwz_model::{Names, NoMemory};

@@ -5,11 +5,11 @@ use Rattle.dwz_model.specs.declared.fault.Fault.{Fault}
 use Rattle.dwz_model.specs.declared.fault.ReadErr.{ReadErr}
 use Rattle.dwz_model.specs.declared.fault.ReadErr.TheVariants.{NoMemory, Refused}
 use Rattle.dwz_bytes.specs.Reading.{◌>>=◌}
-use Rattle.dwz_meanings.specs.declared.exprs.Operand.{Operand}
-use Rattle.dwz_meanings.specs.Exprs.{ExprContext, Expression}
-use Rattle.dwz_meanings.specs.LocLists.{LocList, list_at}
-use Rattle.dwz_meanings.specs.Sequences.{read_from}
-use Rattle.dwz_meanings.specs.Shared.{operands_of}
+use Rattle.dwz_def_reading.specs.declared.exprs.Operand.{Operand}
+use Rattle.dwz_def_reading.specs.Exprs.{ExprContext, Expression}
+use Rattle.dwz_def_reading.specs.LocLists.{LocList, list_at}
+use Rattle.dwz_def_reading.specs.Sequences.{read_from}
+use Rattle.dwz_def_reading.specs.Shared.{operands_of}
 use Rattle.dwz_expr.specs.FirstFault.{asked}
 use Rattle.dwz_expr.specs.Gathering.{Grows, added}
 use Rattle.dwz_expr.proofs.AskedLemmas.{asked_any, asked_bind, asked_none, asked_twice}

@@ -8,14 +8,14 @@ use Rattle.dwz_model.specs.declared.fault.ReadErr.TheVariants.{NoMemory, Refused
 use Rattle.dwz_bytes.specs.Input.{Input, input}
 use Rattle.dwz_bytes.specs.Reading.{◌>>=◌, fixed_at}
 use Rattle.dwz_codes.specs.ListKinds.{list_kind_rows}
-use Rattle.dwz_docs.specs.Faults.{Fails}
-use Rattle.dwz_docs.specs.Values.{shape_of}
-use Rattle.dwz_meanings.specs.declared.exprs.Operand.{Operand}
-use Rattle.dwz_meanings.specs.Exprs.{ExprContext, Expression, Found, expr_at, fields_of, or_fault}
-use Rattle.dwz_meanings.specs.LocLists.{LocList, bad_list, list_at, list_entry_at}
-use Rattle.dwz_meanings.specs.Sequences.{read_from, row_at, value_only}
-use Rattle.dwz_meanings.specs.Shared.{operands_of}
-use Rattle.dwz_meanings.proofs.SequenceLemmas.{input_of}
+use Rattle.dwz_def_reading.specs.Faults.{Fails}
+use Rattle.dwz_def_reading.specs.Values.{shape_of}
+use Rattle.dwz_def_reading.specs.declared.exprs.Operand.{Operand}
+use Rattle.dwz_def_reading.specs.Exprs.{ExprContext, Expression, FieldItem, expr_at, fields_of, or_fault}
+use Rattle.dwz_def_reading.specs.LocLists.{LocList, bad_list, list_at, list_entry_at}
+use Rattle.dwz_def_reading.specs.Sequences.{read_from, row_at, value_only}
+use Rattle.dwz_def_reading.specs.Shared.{operands_of}
+use Rattle.dwz_def_reading.proofs.SequenceLemmas.{input_of}
 use Rattle.dwz_expr.specs.FirstFault.{asked}
 use Rattle.dwz_expr.proofs.AskedLemmas.{asked_bind, asked_none}
 use Rattle.dwz_lists.specs.Entries.{IsEntry, ReadsEntry, with_before}
@@ -31,7 +31,7 @@ before_all xs z = Ok (record { exprs = xs ++ z.0.exprs; end = z.0.end }, z.1)
 gathers_before : (c : ExprContext) (stop : Fault) (xs : Gathered) (i : Input) → row_into c stop xs i ≡ (row_into c stop [] i >>= before_all xs)
 unfolding row_into
 gathers_before c stop xs i = by (row_at (list_entry_at c) stop i) where
-  by : (r : Result (List (List Found) × Input) Fault) → (r >>= gather_row xs) ≡ ((r >>= gather_row []) >>= before_all xs)
+  by : (r : Result (List (List FieldItem) × Input) Fault) → (r >>= gather_row xs) ≡ ((r >>= gather_row []) >>= before_all xs)
   by (Ok x) = refl
   by (Err f) = refl
 

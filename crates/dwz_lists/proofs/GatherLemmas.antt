@@ -8,32 +8,33 @@ use Rattle.dwz_bytes.specs.Reading.{◌>>=◌, fixed_at, take_at, uleb_at}
 use Rattle.std.specs.List.{list_all}
 use Rattle.dwz_codes.specs.ListKinds.{list_kind_rows}
 use Rattle.dwz_codes.specs.Rows.{RowView, row_of}
-use Rattle.dwz_meanings.specs.Exprs.{AnAddress, ExprContext, Expression, Field, Found, Holds, Inside, Located, Names, Unsigned, an_address, expr_at, expr_within, expressions_in, fields_at, fields_of}
-use Rattle.dwz_meanings.specs.Exprs.{held, inside_at, inside_of, joined, most_inside, nothing, or_fault, seen_piece}
-use Rattle.dwz_meanings.specs.LocLists.{as_entry, bad_list, behind_kind, entry_by, list_at, list_entry_at, with_entries}
-use Rattle.dwz_meanings.specs.Sequences.{after_item, read_from, row_at, then_make, then_read, value_only, with_item_before}
-use Rattle.dwz_docs.specs.Values.{shape_in, shape_of}
-use Rattle.dwz_meanings.proofs.FieldLemmas.{bytes_agree}
-use Rattle.dwz_meanings.proofs.LocListLemmas.{row_goes_on}
-use Rattle.dwz_docs.proofs.ReadLemmas.{fixed_reads}
-use Rattle.dwz_docs.proofs.AbbrevLemmas.{byte_of}
-use Rattle.dwz_meanings.proofs.SequenceLemmas.{input_of}
+use Rattle.dwz_def_reading.specs.Exprs.{AnAddress, ExprContext, Expression, Field, FieldItem, Holds, Inside, Located, Names, Unsigned, an_address, expr_at, expr_within, expressions_in, fields_at}
+use Rattle.dwz_def_reading.specs.Exprs.{fields_of}
+use Rattle.dwz_def_reading.specs.Exprs.{held, inside_at, inside_of, joined_items, most_inside, nothing, or_fault, seen_piece}
+use Rattle.dwz_def_reading.specs.LocLists.{as_entry, bad_list, behind_kind, entry_by, list_at, list_entry_at, with_entries}
+use Rattle.dwz_def_reading.specs.Sequences.{after_row_item, read_from, row_at, then_make, then_read, value_only, with_item_before}
+use Rattle.dwz_def_reading.specs.Values.{shape_in, shape_of}
+use Rattle.dwz_def_reading.proofs.FieldLemmas.{bytes_agree}
+use Rattle.dwz_def_reading.proofs.LocListLemmas.{row_goes_on}
+use Rattle.dwz_def_reading.proofs.ReadLemmas.{fixed_reads}
+use Rattle.dwz_def_reading.proofs.AbbrevLemmas.{byte_of}
+use Rattle.dwz_def_reading.proofs.SequenceLemmas.{input_of}
 use Rattle.dwz_expr.proofs.LoopLemmas.{row_holds}
 use Rattle.dwz_lists.specs.Gathering.{Gathered, behind, content_at, counted, front_at, gather_row, held_by, kind_into, row_into, with_content, with_expr}
 
 -- ---- in turn
 
-pub exprs_append : (a b : List Found) → expressions_in (a ++ b) ≡ expressions_in a ++ expressions_in b
+pub exprs_append : (a b : List FieldItem) → expressions_in (a ++ b) ≡ expressions_in a ++ expressions_in b
 unfolding expressions_in
 exprs_append [] b = refl
 exprs_append (Names o ∷ a) b = exprs_append a b
 exprs_append (AnAddress ∷ a) b = exprs_append a b
 exprs_append (Holds e ∷ a) b = ap (λ (w : List Expression). e ∷ w) (exprs_append a b)
 
-abbrev pub into : (xs : Gathered) (x : List Found × Input) → Result (Gathered × Input) Fault
+abbrev pub into : (xs : Gathered) (x : List FieldItem × Input) → Result (Gathered × Input) Fault
 into xs x = Ok (xs ++ expressions_in x.0, x.1)
 
-gather_append : (xs : Gathered) (a b : List Found) → xs ++ expressions_in (a ++ b) ≡ (xs ++ expressions_in a) ++ expressions_in b
+gather_append : (xs : Gathered) (a b : List FieldItem) → xs ++ expressions_in (a ++ b) ≡ (xs ++ expressions_in a) ++ expressions_in b
 gather_append xs a b = ap (λ (w : List Expression). xs ++ w) (exprs_append a b) ∙ sym (append_assoc xs (expressions_in a) (expressions_in b))
 
 -- ---- fields
@@ -53,7 +54,7 @@ module _ (c : ExprContext) where
   within_is bad i = refl
 
   -- behind a field that holds no expression
-  past_piece : (bad : Fault) (fields : List Field) (xs : Gathered) (founds : List Found) (r : Result (List Found × Input) Fault) → expressions_in founds ≡ []
+  past_piece : (bad : Fault) (fields : List Field) (xs : Gathered) (founds : List FieldItem) (r : Result (List FieldItem × Input) Fault) → expressions_in founds ≡ []
       → ((r >>= then_make (λ a b. a ++ b) founds) >>= into xs) ≡ (r >>= into xs)
   past_piece bad fields xs founds (Ok y) none = ap (λ (w : Gathered). Ok (xs ++ w, y.1)) (exprs_append founds y.0 ∙ ap (λ (w : Gathered). w ++ expressions_in y.0) none)
   past_piece bad fields xs founds (Err f) none = refl
@@ -145,19 +146,19 @@ kind_listed kind fields laid = by (row_of list_kind_rows kind) refl where
 
 module _ (c : ExprContext) (stop : Fault) where
   -- what is behind an entry
-  behind_entry : (xs : Gathered) (x : List Found × Input) (r : Result (List (List Found) × Input) Fault)
+  behind_entry : (xs : Gathered) (x : List FieldItem × Input) (r : Result (List (List FieldItem) × Input) Fault)
       → ((r >>= with_item_before x.0) >>= gather_row xs) ≡ (r >>= gather_row (xs ++ expressions_in x.0))
-  unfolding joined
-  behind_entry xs x (Ok y) = ap (λ (w : Gathered). Ok (record { exprs = w; end = y.1.at }, y.1)) (gather_append xs x.0 (joined y.0))
+  unfolding joined_items
+  behind_entry xs x (Ok y) = ap (λ (w : Gathered). Ok (record { exprs = w; end = y.1.at }, y.1)) (gather_append xs x.0 (joined_items y.0))
   behind_entry xs x (Err f) = refl
 
   entry_step : (xs : Gathered) (at : ℕ) (laid : Option (List Field)) (i : Input) → ((fields : List Field) → laid ≡ Some fields → AreListed fields)
-      → ((entry_by c at laid i >>= after_item (row_at (list_entry_at c) stop)) >>= gather_row xs) ≡ (kind_into c at laid xs i >>= λ p. row_into c stop p.0 p.1)
+      → ((entry_by c at laid i >>= after_row_item (row_at (list_entry_at c) stop)) >>= gather_row xs) ≡ (kind_into c at laid xs i >>= λ p. row_into c stop p.0 p.1)
   unfolding row_into
   entry_step xs at None i listed = refl
   entry_step xs at (Some fields) i listed = go (fields_at (expr_within c (suc most_inside)) (bad_list at) fields i) (fields_are c (bad_list at) fields xs i (listed fields refl)) where
-    go : (r : Result (List Found × Input) Fault) → (r >>= into xs) ≡ (front_at (bad_list at) fields i >>= held_by c xs)
-        → (((r >>= as_entry) >>= after_item (row_at (list_entry_at c) stop)) >>= gather_row xs)
+    go : (r : Result (List FieldItem × Input) Fault) → (r >>= into xs) ≡ (front_at (bad_list at) fields i >>= held_by c xs)
+        → (((r >>= as_entry) >>= after_row_item (row_at (list_entry_at c) stop)) >>= gather_row xs)
         ≡ ((front_at (bad_list at) fields i >>= held_by c xs) >>= λ p. (row_at (list_entry_at c) stop p.1 >>= gather_row p.0))
     go (Ok x) same = behind_entry xs x (row_at (list_entry_at c) stop x.1) ∙ ap (λ (r : Result (Gathered × Input) Fault). r >>= λ p. (row_at (list_entry_at c) stop p.1 >>= gather_row p.0)) same
     go (Err f) same = ap (λ (r : Result (Gathered × Input) Fault). r >>= λ p. (row_at (list_entry_at c) stop p.1 >>= gather_row p.0)) same
@@ -167,29 +168,30 @@ module _ (c : ExprContext) (stop : Fault) where
       → row_into c stop xs (input_of at (kind ∷ rest)) ≡ (kind_into c at (fields_of (shape_of list_kind_rows kind)) xs (input_of (at + 1) rest) >>= λ p. row_into c stop p.0 p.1)
   unfolding row_into list_entry_at
   kind_step xs at kind rest some =
-      ap (λ (r : Result (List (List Found) × Input) Fault). r >>= gather_row xs) (row_goes_on c stop (input_of at (kind ∷ rest)))
-      ∙ ap (λ (b : Bool). (cond b (Ok (None, behind_kind at rest)) (entry_by c at (fields_of (shape_of list_kind_rows kind)) (behind_kind at rest)) >>= after_item (row_at (list_entry_at c) stop)) >>=
+      ap (λ (r : Result (List (List FieldItem) × Input) Fault). r >>= gather_row xs) (row_goes_on c stop (input_of at (kind ∷ rest)))
+      ∙ ap (λ (b : Bool). (cond b (Ok (None, behind_kind at rest)) (entry_by c at (fields_of (shape_of list_kind_rows kind)) (behind_kind at rest)) >>= after_row_item (row_at (list_entry_at c) stop))
+      >>=
       gather_row xs) (ne_eqb kind 0 some)
       ∙ entry_step xs at (fields_of (shape_of list_kind_rows kind)) (input_of (at + 1) rest) (kind_listed kind)
 
   -- the end
   pub end_step : (xs : Gathered) (at : ℕ) (rest : List ℕ) → row_into c stop xs (input_of at (0 ∷ rest)) ≡ Ok (record { exprs = xs; end = at + 1 }, input_of (at + 1) rest)
-  unfolding row_into list_entry_at joined expressions_in
+  unfolding row_into list_entry_at joined_items expressions_in
   end_step xs at rest =
-      ap (λ (r : Result (List (List Found) × Input) Fault). r >>= gather_row xs) (row_goes_on c stop (input_of at (0 ∷ rest)))
+      ap (λ (r : Result (List (List FieldItem) × Input) Fault). r >>= gather_row xs) (row_goes_on c stop (input_of at (0 ∷ rest)))
       ∙ ap (λ (w : Gathered). Ok (record { exprs = w; end = at + 1 }, input_of (at + 1) rest)) (append-nil xs)
 
   -- nothing is left
   pub none_step : (xs : Gathered) (at : ℕ) → row_into c stop xs (input_of at []) ≡ Err (bad_list at)
   unfolding row_into list_entry_at
-  none_step xs at = ap (λ (r : Result (List (List Found) × Input) Fault). r >>= gather_row xs) (row_goes_on c stop (input_of at []))
+  none_step xs at = ap (λ (r : Result (List (List FieldItem) × Input) Fault). r >>= gather_row xs) (row_goes_on c stop (input_of at []))
 
 -- ---- the whole list
 
 pub list_is : (c : ExprContext) (section : List ℕ) (at : ℕ) → read_from (list_at c) section at ≡ (row_into c (bad_list at) [] (input section at) >>= value_only)
 unfolding list_at row_into
 list_is c section at = go (row_at (list_entry_at c) (bad_list at) (input section at)) where
-  go : (r : Result (List (List Found) × Input) Fault) → ((r >>= with_entries) >>= value_only) ≡ ((r >>= gather_row []) >>= value_only)
+  go : (r : Result (List (List FieldItem) × Input) Fault) → ((r >>= with_entries) >>= value_only) ≡ ((r >>= gather_row []) >>= value_only)
   go (Ok x) = refl
   go (Err f) = refl
 

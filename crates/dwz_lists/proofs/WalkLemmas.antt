@@ -5,14 +5,14 @@ use Rattle.dwz_model.specs.declared.fault.Fault.{Fault}
 use Rattle.dwz_bytes.specs.Input.{Input, input}
 use Rattle.dwz_bytes.specs.Reading.{◌>>=◌, fixed_at, take_at, uleb_at}
 use Rattle.dwz_codes.specs.ListKinds.{list_kind_rows}
-use Rattle.dwz_meanings.specs.Exprs.{ExprContext, Field, Inside, Located, Unsigned, fields_of, or_fault}
-use Rattle.dwz_meanings.specs.LocLists.{LocList, bad_list, list_at}
-use Rattle.dwz_meanings.specs.Sequences.{read_from, value_only}
-use Rattle.dwz_docs.specs.Values.{shape_of}
-use Rattle.dwz_meanings.proofs.FieldLemmas.{bytes_agree}
-use Rattle.dwz_docs.proofs.PartLemmas.{bind_ok, same_input, same_value}
-use Rattle.dwz_docs.proofs.ReadLemmas.{fixed_reads, run_reads, uleb_reads}
-use Rattle.dwz_meanings.proofs.SequenceLemmas.{input_of}
+use Rattle.dwz_def_reading.specs.Exprs.{ExprContext, Field, Inside, Located, Unsigned, fields_of, or_fault}
+use Rattle.dwz_def_reading.specs.LocLists.{LocList, bad_list, list_at}
+use Rattle.dwz_def_reading.specs.Sequences.{read_from, value_only}
+use Rattle.dwz_def_reading.specs.Values.{shape_of}
+use Rattle.dwz_def_reading.proofs.FieldLemmas.{bytes_agree}
+use Rattle.dwz_def_reading.proofs.PartLemmas.{bind_ok, same_input, same_value}
+use Rattle.dwz_def_reading.proofs.ReadLemmas.{fixed_reads, run_reads, uleb_reads}
+use Rattle.dwz_def_reading.proofs.SequenceLemmas.{input_of}
 use Rattle.dwz_lists.specs.Gathering.{Gathered, IsShort, behind, content_at, counted, exprs_with, front_at, held_by, kind_front, kind_into, row_into, with_content}
 use Rattle.dwz_lists.proofs.GatherLemmas.{AreListed, IsKind, end_step, kind_listed, kind_step, list_is, none_step}
 

@@ -2,11 +2,11 @@
 use Rattle.std.specs.Prelude.{◌≡◌, ℕ, List, Result, Ok, Err}
 use Rattle.dwz_model.specs.declared.fault.ReadErr.{ReadErr}
 use Rattle.dwz_model.specs.declared.fault.ReadErr.TheVariants.{NoMemory, Refused}
-use Rattle.dwz_meanings.specs.declared.exprs.Operand.{Operand}
-use Rattle.dwz_meanings.specs.Exprs.{ExprContext}
-use Rattle.dwz_meanings.specs.LocLists.{LocList, list_at}
-use Rattle.dwz_meanings.specs.Sequences.{read_from}
-use Rattle.dwz_meanings.specs.Shared.{operands_of}
+use Rattle.dwz_def_reading.specs.declared.exprs.Operand.{Operand}
+use Rattle.dwz_def_reading.specs.Exprs.{ExprContext}
+use Rattle.dwz_def_reading.specs.LocLists.{LocList, list_at}
+use Rattle.dwz_def_reading.specs.Sequences.{read_from}
+use Rattle.dwz_def_reading.specs.Shared.{operands_of}
 use Rattle.dwz_expr.specs.FirstFault.{asked}
 use Rattle.dwz_lists.specs.Gathering.{in_lists}
 

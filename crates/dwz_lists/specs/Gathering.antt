@@ -4,11 +4,11 @@ use Rattle.dwz_model.specs.declared.fault.Fault.{Fault}
 use Rattle.dwz_model.specs.declared.fault.ReadErr.{ReadErr}
 use Rattle.dwz_bytes.specs.Input.{Input}
 use Rattle.dwz_bytes.specs.Reading.{◌>>=◌, fixed_at, take_at, uleb_at}
-use Rattle.dwz_meanings.specs.declared.exprs.Operand.{Operand}
-use Rattle.dwz_meanings.specs.Exprs.{ExprContext, Expression, Field, Found, Inside, Located, Unsigned, any_operands, expr_at}
-use Rattle.dwz_meanings.specs.Exprs.{expressions_in, joined, or_fault}
-use Rattle.dwz_meanings.specs.LocLists.{LocList, bad_list, list_entry_at}
-use Rattle.dwz_meanings.specs.Sequences.{row_at}
+use Rattle.dwz_def_reading.specs.declared.exprs.Operand.{Operand}
+use Rattle.dwz_def_reading.specs.Exprs.{ExprContext, Expression, Field, FieldItem, Inside, Located, Unsigned, any_operands, expr_at}
+use Rattle.dwz_def_reading.specs.Exprs.{expressions_in, joined_items, or_fault}
+use Rattle.dwz_def_reading.specs.LocLists.{LocList, bad_list, list_entry_at}
+use Rattle.dwz_def_reading.specs.Sequences.{row_at}
 use Rattle.dwz_expr.specs.FirstFault.{ReadsInto}
 use Rattle.dwz_lists.specs.declared.fields.Content.{Content}
 
@@ -70,8 +70,8 @@ abbrev pub kind_into : ExprContext → ℕ → Option (List Field) → Gathered 
 kind_into c at laid xs i = kind_front at laid i >>= held_by c xs
 
 -- the entries up to the end of the list, and the place behind it
-abbrev pub gather_row : Gathered → List (List Found) × Input → Result (LocList × Input) Fault
-gather_row xs x = Ok (record { exprs = xs ++ expressions_in (joined x.0); end = x.1.at }, x.1)
+abbrev pub gather_row : Gathered → List (List FieldItem) × Input → Result (LocList × Input) Fault
+gather_row xs x = Ok (record { exprs = xs ++ expressions_in (joined_items x.0); end = x.1.at }, x.1)
 
 unfoldable pub row_into : ExprContext → Fault → Gathered → Input → Result (LocList × Input) Fault
 row_into c stop xs i = row_at (list_entry_at c) stop i >>= gather_row xs

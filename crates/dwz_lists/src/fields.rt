@@ -1,19 +1,17 @@
 //! What stands behind the kind of an entry.
 
-ghost use Rattle.std.specs.Prelude.{◌≡◌, ◌+◌, ◌<◌, ◌^◌, [], ◌∷◌, length};
+ghost use Rattle.std.specs.Prelude.{◌≡◌, ◌+◌, ◌<◌, ◌^◌, length};
 ghost use Rattle.dwz_bytes.specs.Reading.{fixed_at, take_at, uleb_at};
-ghost use Rattle.dwz_meanings.specs.Exprs.{Inside, Unsigned, fields_of, or_fault};
-ghost use Rattle.dwz_docs.specs.Faults.{AnswersAt};
-ghost use Rattle.dwz_meanings.specs.LocLists.{bad_list};
-ghost use Rattle.dwz_docs.specs.Values;
+ghost use Rattle.dwz_def_reading.specs.Exprs.{fields_of, or_fault};
+ghost use Rattle.dwz_def_reading.specs.Faults.{AnswersAt};
+ghost use Rattle.dwz_def_reading.specs.LocLists.{bad_list};
 ghost use Rattle.dwz_codes.specs.ListKinds.{list_kind_rows};
-ghost use Rattle.dwz_lists.specs.Gathering.{content_at, content_of, front_at, kind_front};
+ghost use Rattle.dwz_codes.specs.Rows.{shape_of};
+ghost use Rattle.dwz_lists.specs.Gathering.{content_at, content_of, kind_front};
 
 use dwz_bytes::Cursor;
-use dwz_model::{Fault, ReadErr, Reason};
-
-// The section `.debug_loclists` in faults.
-pub(crate) const LISTS: u8 = 7;
+use dwz_codes::{Shape, list_kind_shape};
+use dwz_model::{DEBUG_LOCLISTS, Fault, ReadErr, Reason};
 
 // A bad list at a place.
 #[inline(always)]
@@ -21,7 +19,7 @@ pub(crate) fn bad_at(at: u64) -> Fault
     ensures { result ≡ bad_list at }
 {
     Fault {
-        section: LISTS,
+        section: DEBUG_LOCLISTS,
         at,
         reason: Reason::BadList,
     }
@@ -88,55 +86,59 @@ fn one_content<'a>(cursor: &mut Cursor<'a>, bad: Fault) -> Result<Option<Content
     Ok(Some(Content { at, bytes }))
 }
 
-// Two unsigned numbers, and an expression.
+// What is laid out in a shape behind the kind of an entry at that place, whose expression comes last, if it has one.
+#[inline(always)]
 #[tactic(auto, unfolding(crate::specs::Gathering::front_at))]
-fn pair<'a>(cursor: &mut Cursor<'a>, bad: Fault) -> Result<Option<Content<'a>>, ReadErr>
-    ensures { AnswersAt content_of cursor.new result (front_at bad (Unsigned ∷ Unsigned ∷ Inside ∷ []) cursor.old) }
+fn shaped<'a>(
+    shape: Shape,
+    at: u64,
+    cursor: &mut Cursor<'a>,
+) -> Result<Option<Content<'a>>, ReadErr>
+    ensures { AnswersAt content_of cursor.new result (kind_front at (fields_of shape) cursor.old) }
 {
-    uleb(cursor, bad)?;
-    uleb(cursor, bad)?;
-    one_content(cursor, bad)
+    let bad = bad_at(at);
+    match shape {
+        Shape::Nothing => Ok(None),
+        Shape::Uleb => {
+            uleb(cursor, bad)?;
+            Ok(None)
+        }
+        Shape::UlebUleb => {
+            uleb(cursor, bad)?;
+            uleb(cursor, bad)?;
+            Ok(None)
+        }
+        Shape::Address => {
+            address(cursor, bad)?;
+            Ok(None)
+        }
+        Shape::NestedExpr => one_content(cursor, bad),
+        Shape::UlebUlebExpr => {
+            uleb(cursor, bad)?;
+            uleb(cursor, bad)?;
+            one_content(cursor, bad)
+        }
+        Shape::AddressAddressExpr => {
+            address(cursor, bad)?;
+            address(cursor, bad)?;
+            one_content(cursor, bad)
+        }
+        Shape::AddressUlebExpr => {
+            address(cursor, bad)?;
+            uleb(cursor, bad)?;
+            one_content(cursor, bad)
+        }
+        _ => Err(ReadErr::Refused(bad)),
+    }
 }
 
-// What stands behind the kind of an entry at that place, whose expression comes last, if it has one.
-#[tactic(auto, unfolding(crate::specs::Gathering::front_at, dwz_codes::specs::ListKinds::list_kind_rows))]
+// What stands behind the kind of an entry at that place.
 pub(crate) fn front<'a>(
     kind: u8,
     at: u64,
     cursor: &mut Cursor<'a>,
 ) -> Result<Option<Content<'a>>, ReadErr>
-    requires { kind ≡ 0 → ⊥ }
-    ensures { AnswersAt content_of cursor.new result (kind_front at (fields_of (Values.shape_of list_kind_rows kind)) cursor.old) }
+    ensures { AnswersAt content_of cursor.new result (kind_front at (fields_of (shape_of list_kind_rows kind)) cursor.old) }
 {
-    let bad = bad_at(at);
-    match kind {
-        1 => {
-            uleb(cursor, bad)?;
-            Ok(None)
-        }
-        2 => pair(cursor, bad),
-        3 => pair(cursor, bad),
-        4 => pair(cursor, bad),
-        5 => one_content(cursor, bad),
-        6 => {
-            address(cursor, bad)?;
-            Ok(None)
-        }
-        7 => {
-            address(cursor, bad)?;
-            address(cursor, bad)?;
-            one_content(cursor, bad)
-        }
-        8 => {
-            address(cursor, bad)?;
-            uleb(cursor, bad)?;
-            one_content(cursor, bad)
-        }
-        9 => {
-            uleb(cursor, bad)?;
-            uleb(cursor, bad)?;
-            Ok(None)
-        }
-        _ => Err(ReadErr::Refused(bad)),
-    }
+    shaped(list_kind_shape(kind), at, cursor)
 }

@@ -1,18 +1,19 @@
 //! Location lists that are read.
 
 ghost use Rattle.std.specs.Prelude.{◌≡◌, ◌<◌, ◌≤◌, length};
-ghost use Rattle.dwz_docs.specs.Faults.{Answers};
-ghost use Rattle.dwz_meanings.specs.LocLists.{list_at};
-ghost use Rattle.dwz_meanings.specs.Sequences.{read_from};
+ghost use Rattle.dwz_def_reading.specs.Faults.{Answers};
+ghost use Rattle.dwz_def_reading.specs.LocLists.{list_at};
+ghost use Rattle.dwz_def_reading.specs.Sequences.{read_from};
 ghost use Rattle.dwz_expr.specs.Gathering.{Grows, added};
 ghost use Rattle.dwz_lists.specs.Entries.{ReadsEntry};
 ghost use Rattle.dwz_lists.specs.FirstFault.{WalksInto};
 ghost use Rattle.dwz_lists.specs.Gathering.{Adds, IsShort, content_of, exprs_with, in_lists};
 
-use crate::fields::{Content, LISTS, bad_at, byte, front};
+use crate::fields::{Content, bad_at, byte, front};
 use dwz_bytes::Cursor;
+use dwz_codes::DW_LLE_END_OF_LIST;
 use dwz_expr::{Operand, Ops, read_into};
-use dwz_model::ReadErr;
+use dwz_model::{DEBUG_LOCLISTS, ReadErr};
 use std::alloc::Global;
 use std::marker::Model;
 
@@ -24,7 +25,7 @@ pub struct LocationList<'a> {
 }
 
 impl<'a> Model for LocationList<'a> {
-    ghost use Rattle.dwz_meanings.specs.LocLists.{LocList};
+    ghost use Rattle.dwz_def_reading.specs.LocLists.{LocList};
 
     ghost Value = { LocList };
 
@@ -59,7 +60,7 @@ fn push_expr<'a>(
     match content {
         None => Ok(()),
         Some(content) => {
-            exprs.push(Ops::read(alloc, content.bytes, content.at, LISTS)?)?;
+            exprs.push(Ops::read(alloc, content.bytes, content.at, DEBUG_LOCLISTS)?)?;
             Ok(())
         }
     }
@@ -74,7 +75,7 @@ fn push_operands(content: Option<Content>, operands: &mut Vec<Operand>) -> Resul
     match content {
         None => Ok(()),
         Some(content) => {
-            read_into(operands, content.bytes, content.at, LISTS)?;
+            read_into(operands, content.bytes, content.at, DEBUG_LOCLISTS)?;
             Ok(())
         }
     }
@@ -92,7 +93,7 @@ pub fn walk<'a>(alloc: Global, section: &'a [u8], at: u64) -> Result<LocationLis
     loop {
         let place = cursor.at() as u64;
         let kind = byte(&mut cursor, bad_at(place))?;
-        if kind == 0 {
+        if kind == DW_LLE_END_OF_LIST {
             let end = cursor.at() as u64;
             return Ok(LocationList { exprs, end });
         }
@@ -118,7 +119,7 @@ pub fn entry_into(
 {
     let mut cursor = Cursor::new(section, at as usize);
     let kind = byte(&mut cursor, bad_at(at))?;
-    if kind == 0 {
+    if kind == DW_LLE_END_OF_LIST {
         return Ok(None);
     }
     let content = front(kind, at, &mut cursor)?;

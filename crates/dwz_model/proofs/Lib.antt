@@ -1,1 +1,4 @@
+pub mod PartFacts
 pub mod ListFacts
+pub mod Members
+pub mod OnceLemmas

@@ -3,19 +3,19 @@ use Rattle.std.proofs.Common.{◌≡◌, ◌↔◌, ℕ, zero, suc, ◌<◌, Boo
 use Rattle.std.specs.Prelude.{not}
 use Rattle.std.proofs.lemmas.Bool.{cases_Bool, false≢true}
 use Rattle.std.proofs.lemmas.List.{get_or-map, length-map}
-use Rattle.dwz_docs.specs.Lists.{In}
-use Rattle.dwz_alike.specs.Alike.{Bound, Movable, binds_itself}
-use Rattle.dwz_alike.specs.Deciding.{AreMovable, is_movable}
-use Rattle.dwz_alike.specs.Spots.{FileUnit, Spot, Top, tops_of}
-use Rattle.dwz_alike.proofs.AlikeBound.{movable_decides}
-use Rattle.dwz_alike.proofs.TopNumbers.{number_below, top_at, tops_numbers}
-use Rattle.dwz_spread.specs.Spreading.{IsMarked, IsSpread, Leads, sources_of}
-use Rattle.dwz_spread.proofs.PairLemmas.{grouped_length, inside_at}
-use Rattle.dwz_move.specs.Bound.{AreSeeds, ShowTargets}
+use Rattle.dwz_def_reading.specs.Lists.{In}
+use Rattle.dwz_def_tops.specs.Alike.{Bound, Movable, binds_itself}
+use Rattle.dwz_def_tops.specs.Deciding.{AreMovable, is_movable}
+use Rattle.dwz_def_tops.specs.Spots.{EntryName, FileUnit, Top, tops_of}
+use Rattle.dwz_def_tops.proofs.AlikeBound.{movable_decides}
+use Rattle.dwz_def_tops.proofs.TopNumbers.{number_below, top_at, tops_numbers}
+use Rattle.dwz_groups.specs.Spreading.{IsMarked, IsSpread, Leads, sources_of}
+use Rattle.dwz_groups.proofs.MarkLemmas.{grouped_length, inside_at}
+use Rattle.dwz_move.specs.BoundTops.{AreSeeds, ShowTargets}
 use Rattle.dwz_move.specs.Sources.{sources_from}
 use Rattle.dwz_move.proofs.SourceLemmas.{source_target, sources_by, target_source}
 
-module _ (units : List (FileUnit Spot)) (targets : List (List ℕ)) (seeds marks : List Bool) (shown : ShowTargets units targets) (begin : AreSeeds units seeds) where
+module _ (units : List (FileUnit EntryName)) (targets : List (List ℕ)) (seeds marks : List Bool) (shown : ShowTargets units targets) (begin : AreSeeds units seeds) where
   bound_inside : (k n : ℕ) → Bound units k n → n < length (tops_of units)
   unfolding Bound
   bound_inside zero n b = let low = number_below 0 (tops_of units) b.0 (tops_numbers units) b.1 in let e = b.2 in omega arith
@@ -97,10 +97,10 @@ module _ (units : List (FileUnit Spot)) (targets : List (List ℕ)) (seeds marks
       same_flag false true h = refl
       same_flag false false h = sym (h.1 (λ e. false≢true e))
 
-pub flags_by : (units : List (FileUnit Spot)) (targets : List (List ℕ)) (seeds marks : List Bool) (sources : List (List ℕ)) (flags : List Bool) → sources ≡ sources_by targets
+pub flags_by : (units : List (FileUnit EntryName)) (targets : List (List ℕ)) (seeds marks : List Bool) (sources : List (List ℕ)) (flags : List Bool) → sources ≡ sources_by targets
     → IsSpread sources seeds marks → flags ≡ map not marks → ShowTargets units targets → AreSeeds units seeds → AreMovable units flags
 flags_by units targets seeds marks sources flags made spread turned shown begin =
     subst (λ (w : List Bool). AreMovable units w) (sym turned) (movable_flags units targets seeds marks shown begin (subst (λ (w : List (List ℕ)). IsSpread w seeds marks) made spread))
 
-pub flag_movable : (units : List (FileUnit Spot)) (flags : List Bool) → AreMovable units flags → (t : Top) → In t (tops_of units) → (get_or flags t.number false ≡ true) ↔ Movable units t.number
+pub flag_movable : (units : List (FileUnit EntryName)) (flags : List Bool) → AreMovable units flags → (t : Top) → In t (tops_of units) → (get_or flags t.number false ≡ true) ↔ Movable units t.number
 flag_movable units flags are t i = (λ e. (movable_decides units t i).0 (sym (are.each t i) ∙ e), λ m. are.each t i ∙ (movable_decides units t i).1 m)

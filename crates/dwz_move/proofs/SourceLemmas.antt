@@ -1,12 +1,12 @@
 -- Under each target stand just the tops that refer into it.
 use Rattle.std.proofs.Common.{◌≡◌, ℕ, zero, suc, ◌+◌, ◌<◌, All, List, [], ◌∷◌, ◌++◌, length, map, get_or, take, sym, ap, subst, ◌∙◌, inl, inr, ⊎_elim, arith}
 use Rattle.std.proofs.lemmas.List.{append-nil, append_assoc}
-use Rattle.dwz_docs.specs.Lists.{In}
-use Rattle.dwz_docs.proofs.ListFacts.{in_cases, in_left, in_right}
-use Rattle.dwz_groups.specs.declared.groups.Pair.{Pair}
+use Rattle.dwz_def_reading.specs.Lists.{In}
+use Rattle.dwz_def_reading.proofs.ListFacts.{in_cases, in_left, in_right}
+use Rattle.dwz_groups.specs.declared.groups.Edge.{Edge}
 use Rattle.dwz_groups.specs.Groups.{grouped}
-use Rattle.dwz_spread.specs.Spreading.{AreInside, sources_of}
-use Rattle.dwz_spread.proofs.PairLemmas.{each_pair, edge_grouped, grouped_edge, grouped_length, inside_at}
+use Rattle.dwz_groups.specs.Spreading.{AreInside, sources_of}
+use Rattle.dwz_groups.proofs.MarkLemmas.{each_pair, edge_grouped, grouped_edge, grouped_length, inside_at}
 use Rattle.dwz_move.specs.Sources.{source, sources_from}
 
 -- ---- one top more
@@ -16,7 +16,7 @@ sources_more s i [] l = absurd (omega arith)
 sources_more s zero (ts ∷ targets) l = append-nil (map (source s) ts) ∙ (let e : s ≡ s + 0 = omega arith in ap (λ (k : ℕ). map (source k) ts) e)
 sources_more s (suc i) (ts ∷ targets) l =
     let e : suc s + i ≡ s + suc i = omega arith in
-    ap (λ (w : List Pair). map (source s) ts ++ w) (sources_more (suc s) i targets (omega arith) ∙ ap (λ (k : ℕ). sources_from (suc s) (take i targets) ++ map (source k) (get_or targets i [])) e)
+    ap (λ (w : List Edge). map (source s) ts ++ w) (sources_more (suc s) i targets (omega arith) ∙ ap (λ (k : ℕ). sources_from (suc s) (take i targets) ++ map (source k) (get_or targets i [])) e)
     ∙ sym (append_assoc (map (source s) ts) (sources_from (suc s) (take i targets)) (map (source (s + suc i)) (get_or targets i [])))
 
 pub sources_next : (i : ℕ) (targets : List (List ℕ)) → i < length targets → sources_from 0 (take i targets) ++ map (source i) (get_or targets i []) ≡ sources_from 0 (take (i + 1) targets)
@@ -29,7 +29,7 @@ sources_next i targets l =
 
 source_from : (n m k : ℕ) (ts : List ℕ) → In (source k m) (map (source n) ts) → (n ≡ k) × In m ts
 source_from n m k [] i = absurd i
-source_from n m k (t ∷ ts) (inl e) = (ap (λ (q : Pair). q.value) e, inl (ap (λ (q : Pair). q.key) e))
+source_from n m k (t ∷ ts) (inl e) = (ap (λ (q : Edge). q.value) e, inl (ap (λ (q : Edge). q.key) e))
 source_from n m k (t ∷ ts) (inr i) = let r = source_from n m k ts i in (r.0, inr r.1)
 
 source_in : (n m : ℕ) (ts : List ℕ) → In m ts → In (source n m) (map (source n) ts)

@@ -1,16 +1,51 @@
--- Which tops bind themselves, and what each refers to.
-use Rattle.std.specs.Prelude.{◌≡◌, ◌↔◌, ℕ, Bool, true, false, List, [], length, slice_index_or}
-use Rattle.dwz_docs.specs.Lists.{In}
-use Rattle.dwz_alike.specs.Alike.{binds_itself, refers_to}
-use Rattle.dwz_alike.specs.Spots.{FileUnit, Spot, Top, tops_of}
+-- Tops that references go into, and the tops of a unit.
+use Rattle.std.specs.Prelude.{◌≡◌, ℕ, ◌+◌, ◌++◌, drop, slice_index, Bool, true, false, List, [], ◌∷◌, Option, Some, None, ◌&&◌, nat_lt, not}
+use Rattle.std.specs.Prelude.{if◌then◌else◌}
+use Rattle.dwz_def_tops.specs.Alike.{is_number, unit_in}
+use Rattle.dwz_def_tops.specs.Spots.{EntryName, Top}
+use Rattle.dwz_graph.specs.Rows.{node_refs}
+use Rattle.dwz_groups.specs.declared.groups.Edge.{Edge}
+use Rattle.dwz_graph.specs.Names.{top_in}
+use Rattle.dwz_def_reading.specs.Documents.{Node}
+use Rattle.dwz_def_reading.specs.Classes.{OfExpression}
+use Rattle.dwz_def_reading.specs.Classes.{Class}
+use Rattle.dwz_move.specs.Values.{is_entry}
+use Rattle.dwz_move.specs.declared.bind.TopRange.{TopRange}
 
--- a flag for each top: whether it is bound without a reference
-pub record AreSeeds (units : List (FileUnit Spot)) (seeds : List Bool) : Type 0 where
-  pub len : length seeds ≡ length (tops_of units)
-  pub each : (t : Top) → In t (tops_of units) → slice_index_or seeds t.number false ≡ binds_itself units t
+abbrev pub is_expression : Class → Bool
+is_expression OfExpression = true
+is_expression _ = false
 
--- of each top just the tops that it refers into; of one that binds itself any
-pub record ShowTargets (units : List (FileUnit Spot)) (targets : List (List ℕ)) : Type 0 where
-  pub len : length targets ≡ length (tops_of units)
-  pub each : (t : Top) → In t (tops_of units) → binds_itself units t ≡ false → (n : ℕ)
-      → In n (slice_index_or targets t.number []) ↔ (refers_to n t ≡ true)
+-- the tops begin with those of the entries at these places, by their names
+abbrev pub AreInto : (ℕ → EntryName) → List (Option ℕ) → List ℕ → Type 0
+AreInto name into [] = Unit {0}
+AreInto name [] (p ∷ places) = ⊥
+AreInto name (t ∷ into) (p ∷ places) = (t ≡ top_in (name p)) × AreInto name into places
+
+-- the tops of the unit with a number are those of the range
+abbrev pub HasTops : List Top → ℕ → TopRange → Type 0
+HasTops tops unit own = (t : ℕ) → is_number (unit_in tops t) unit ≡ (not (nat_lt t own.first) && nat_lt t own.end)
+
+-- how many entries a value of the class names, if it doesn't bind
+abbrev pub count_of : Class → ℕ
+count_of class = if is_entry class then 1 else 0
+
+-- The entries, the first of which has that number, name what is in tops: those of each begin at its start.
+abbrev pub EachInto : (ℕ → EntryName) → List (Option ℕ) → List ℕ → ℕ → List (Node ℕ) → Type 0
+EachInto name into starts i [] = Unit {0}
+EachInto name into starts i (d ∷ ds) = AreInto name (drop (slice_index starts i) into) (node_refs d) × EachInto name into starts (i + 1) ds
+
+-- ---- references into tops
+
+abbrev pub some_of : Option ℕ → List ℕ
+some_of None = []
+some_of (Some t) = t ∷ []
+
+-- those that are there
+abbrev pub somes : List (Option ℕ) → List ℕ
+somes [] = []
+somes (t ∷ into) = some_of t ++ somes into
+
+-- a top refers into another
+abbrev pub target_of : ℕ → ℕ → Edge
+target_of top into = record { key = top; value = into }

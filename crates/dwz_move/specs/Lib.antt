@@ -1,2 +1,7 @@
-pub mod Bound
+pub mod BoundTops
 pub mod Sources
+pub mod Values
+pub mod Weights
+pub mod Bound
+pub mod Marked
+pub mod Known

@@ -1,23 +1,22 @@
 //! Which tops may move, from what each refers to.
 
 ghost use Rattle.std.specs.Prelude.{◌≡◌, ℕ, ◌<◌, ◌^◌, List, ◌++◌, length, map, not, IfOk, OnOk};
-ghost use Rattle.dwz_alike.specs.Deciding.{AreMovable};
-ghost use Rattle.dwz_alike.specs.Spots.{FileUnit, Spot};
-ghost use Rattle.dwz_move.specs.Bound.{AreSeeds, ShowTargets};
+ghost use Rattle.dwz_def_tops.specs.Deciding.{AreMovable};
+ghost use Rattle.dwz_def_tops.specs.Spots.{EntryName, FileUnit};
+ghost use Rattle.dwz_move.specs.BoundTops.{AreSeeds, ShowTargets};
 ghost use Rattle.dwz_move.specs.Sources.{source, sources_from};
-ghost use Rattle.dwz_spread.specs.Spreading.{AreInside};
+ghost use Rattle.dwz_groups.specs.Spreading.{AreInside};
 
-use dwz_groups::{Groups, Pair, group};
+use dwz_groups::{Edge, Groups, group, spread};
 use dwz_model::{Flags, NoMemory};
-use dwz_spread::spread;
 use std::alloc::Global;
 
 // Adds a top as a source of each of its targets.
-fn add_sources(pairs: &mut Vec<Pair>, top: u32, targets: &[u32]) -> Result<(), NoMemory>
+fn add_sources(pairs: &mut Vec<Edge>, top: u32, targets: &[u32]) -> Result<(), NoMemory>
     ensures { OnOk result (pairs.new.items ≡ pairs.old.items ++ map (source top) targets.now) }
 {
     for target in targets {
-        pairs.push(Pair {
+        pairs.push(Edge {
             key: *target,
             value: top,
         })?;
@@ -26,7 +25,7 @@ fn add_sources(pairs: &mut Vec<Pair>, top: u32, targets: &[u32]) -> Result<(), N
 }
 
 // Under each target the tops that refer into it.
-fn sources_of(alloc: Global, targets: &Groups) -> Result<Vec<Pair>, NoMemory>
+fn sources_of(alloc: Global, targets: &Groups) -> Result<Vec<Edge>, NoMemory>
     requires { length targets.now < 2 ^ 32 }
     ensures { IfOk result (λ pairs. pairs.items ≡ sources_from 0 targets.now) }
 {
@@ -54,7 +53,7 @@ pub fn movable_by(alloc: Global, targets: &Groups, seeds: &[bool]) -> Result<Fla
     requires few { length targets.now < 2 ^ 32 }
     requires len { length seeds.now ≡ length targets.now }
     requires inside { AreInside targets.now }
-    ensures { IfOk result (λ flags. (units : List (FileUnit Spot)) → ShowTargets units targets.now → AreSeeds units seeds.now
+    ensures { IfOk result (λ flags. (units : List (FileUnit EntryName)) → ShowTargets units targets.now → AreSeeds units seeds.now
         → AreMovable units flags) }
 {
     let pairs = sources_of(alloc, targets)?;

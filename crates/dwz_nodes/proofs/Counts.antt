@@ -5,7 +5,7 @@ use Rattle.std.specs.Prelude.{nat_lt}
 use Rattle.std.proofs.lemmas.Bool.{cases_eq, le-ltb, ne_eqb}
 use Rattle.std.proofs.lemmas.List.{take_all, get_or-set_same, get_or-set_other, get_or-replicate, length-replicate}
 use Rattle.std.proofs.lemmas.List.Sums.{count_by-le-length, sum_by-cons, sum_by-append, sum_by_more, sum_by-le-sum_by}
-use Rattle.dwz_model.proofs.ListFacts.{one_more}
+use Rattle.dwz_model.proofs.PartFacts.{one_more}
 use Rattle.dwz_nodes.specs.Rooms.{count_at, count_below}
 
 pub count_below-zero : (ts : List ℕ) → count_below ts 0 ≡ 0

@@ -4,7 +4,7 @@ use Rattle.std.specs.Prelude.{slice_index, slice_range}
 use Rattle.std.specs.List.{flat_map}
 use Rattle.std.proofs.lemmas.List.{append-nil, drop_all, take_more}
 use Rattle.std.proofs.lemmas.List.Concat.{flat_map-append, length-flat_map}
-use Rattle.dwz_model.proofs.ListFacts.{split-drop}
+use Rattle.dwz_model.proofs.PartFacts.{split-drop}
 use Rattle.dwz_nodes.specs.declared.Row.{Row}
 use Rattle.dwz_nodes.specs.Graph.{Node, node, node_at, targets_at}
 use Rattle.dwz_nodes.specs.Rooms.{all_targets}

@@ -6,22 +6,23 @@ use Rattle.std.specs.List.{flat_map, list_any, range_with_len}
 use Rattle.std.proofs.lemmas.Bool.{and_parts}
 use Rattle.std.proofs.lemmas.List.{get_or-map, length-map, map-append}
 use Rattle.std.proofs.lemmas.Option.{slice_get-get_or}
-use Rattle.dwz_meanings.specs.Documents.{Doc, Entries}
-use Rattle.dwz_docs.specs.Lists.{In, has}
-use Rattle.dwz_docs.specs.Trees.{End, Entry}
-use Rattle.dwz_docs.proofs.CaseFacts.{same_test}
-use Rattle.dwz_docs.proofs.ListFacts.{in_cases}
+use Rattle.dwz_def_reading.specs.Documents.{Doc, Entries}
+use Rattle.dwz_def_reading.specs.Lists.{In}
+use Rattle.dwz_def_reading.specs.Rows.{has}
+use Rattle.dwz_def_reading.specs.Trees.{End, Entry}
+use Rattle.dwz_def_reading.proofs.CaseFacts.{same_test}
+use Rattle.dwz_def_reading.proofs.ListFacts.{in_cases}
 use Rattle.dwz_groups.specs.declared.tops.Tops.{Tops}
-use Rattle.dwz_alike.specs.Deciding.{Test}
-use Rattle.dwz_alike.specs.Spots.{FileUnit, Spot, Top, file_numbers, same_numbers, tops_of}
-use Rattle.dwz_moving.specs.Homes.{Common, Home, Local, Stay, file_of, first_alike, candidate as unit_home, home as ruled_home, all_rule, home_in, numbers_from, rep as unit_rep, same_home}
-use Rattle.dwz_moving.specs.Homes.{users as unit_users, uses}
-use Rattle.dwz_moving.specs.Plan.{PartialUnit, distinct, import_of, imports as unit_imports, local_partials, partial_with as unit_partial_with, partials as unit_partials}
-use Rattle.dwz_moving.specs.Plan.{partials_at as unit_partials_at, representatives as unit_representatives, stands_for, users_of}
-use Rattle.dwz_moving.proofs.PlanLemmas.{distinct_in, home_true}
+use Rattle.dwz_def_tops.specs.Deciding.{Test}
+use Rattle.dwz_def_tops.specs.Spots.{EntryName, FileUnit, Top, file_numbers, same_numbers, tops_of}
+use Rattle.dwz_def_plan.specs.Homes.{Common, Home, Local, Stay, file_of, first_alike, candidate as unit_home, home as ruled_home, all_rule, home_in, numbers_from, rep as unit_rep, same_home}
+use Rattle.dwz_def_plan.specs.Homes.{unit_uses, users as unit_users}
+use Rattle.dwz_def_plan.specs.Plan.{PartialUnit, distinct, import_of, imports as unit_imports, local_partials, partial_with as unit_partial_with, partials as unit_partials}
+use Rattle.dwz_def_plan.specs.Plan.{partials_at as unit_partials_at, representatives as unit_representatives, stands_for, users_of}
+use Rattle.dwz_def_plan.proofs.PlanLemmas.{distinct_in, home_true}
 use Rattle.dwz_plan.specs.declared.plan.Partial.{Partial}
-use Rattle.dwz_plan.specs.declared.plan.Sharing.{Sharing}
-use Rattle.dwz_plan.specs.declared.plan.Sharing.TheVariants.{Together, Each}
+use Rattle.dwz_plan.specs.declared.plan.Scope.{Scope}
+use Rattle.dwz_plan.specs.declared.plan.Scope.TheVariants.{Together, Each}
 use Rattle.dwz_plan.specs.Planned.{alike, file_of_home, home, imports_from, in_scope, number_in, partial_with, partials, partials_at, place, place_at, rep, representatives, units_of, users}
 use Rattle.dwz_plan.specs.Rows.{Given, TopFacts, given}
 use Rattle.dwz_plan.specs.Shows.{InOneScope, HaveLeast, IsPlace, Joins, PartAt, ShowsTops, import_row, shown_part}
@@ -32,19 +33,19 @@ use Rattle.dwz_plan.proofs.PartialLemmas.{part_among, tops_with}
 use Rattle.dwz_plan.proofs.RowLemmas.{alike_from, alike_parts}
 use Rattle.dwz_plan.proofs.StepLemmas.{part_of}
 use Rattle.dwz_plan.proofs.ShownLemmas.{SameRow, SameRows, filter_shown, map_shown, numbers_shown, rows_shown, tops_counted}
-use Rattle.dwz_seen.proofs.Members.{in_filter_from, in_map_from}
+use Rattle.dwz_def_tops.proofs.Members.{in_filter_from, in_map_from}
 
 -- ---- the test decides as the rows do
 
-scoped_is : (scope : Sharing) (a b : TopFacts) → in_scope scope a b ≡ true → InOneScope scope a b
+scoped_is : (scope : Scope) (a b : TopFacts) → in_scope scope a b ≡ true → InOneScope scope a b
 scoped_is Together a b e = tt
 scoped_is Each a b e = eqb-true a.file b.file e
 
-scoped_from : (scope : Sharing) (a b : TopFacts) → InOneScope scope a b → in_scope scope a b ≡ true
+scoped_from : (scope : Scope) (a b : TopFacts) → InOneScope scope a b → in_scope scope a b ≡ true
 scoped_from Together a b e = refl
 scoped_from Each a b e = eq-eqb a.file b.file e
 
-agrees : (scope : Sharing) (test : Test) (a b : TopFacts) → (test a.number b.number ≡ true) ↔ Joins scope a b → test a.number b.number ≡ alike scope a b
+agrees : (scope : Scope) (test : Test) (a b : TopFacts) → (test a.number b.number ≡ true) ↔ Joins scope a b → test a.number b.number ≡ alike scope a b
 agrees scope test a b decides =
     same_test (test a.number b.number) (alike scope a b)
     (λ e. (let j = decides.0 e in alike_from scope a b record { first = j.first; second = j.second; scoped = scoped_from scope a b j.scoped; least = j.least }))
@@ -62,13 +63,13 @@ unfolding file_numbers
 file_numbers_are s [] = refl
 file_numbers_are s (d ∷ docs) = ap (λ (ns : List ℕ). s ∷ ns) (file_numbers_are (suc s) docs ∙ (let e : suc s ≡ s + 1 = omega arith in ap (λ n. range_with_len n (length docs)) e))
 
-pub file_is : (units : List (FileUnit Spot)) (i : ℕ) → file_of units i ≡ get_or (map (λ (f : FileUnit Spot). f.file) units) i 0
+pub file_is : (units : List (FileUnit EntryName)) (i : ℕ) → file_of units i ≡ get_or (map (λ (f : FileUnit EntryName). f.file) units) i 0
 unfolding file_of
 file_is [] i = refl
 file_is (f ∷ units) zero = refl
 file_is (f ∷ units) (suc i) = file_is units i
 
-module _ (units : List (FileUnit Spot)) (test : Test) (scope : Sharing) (tops : Tops) (least : List ℕ) (shows : ShowsTops units tops) (decides : HaveLeast scope tops least test) where
+module _ (units : List (FileUnit EntryName)) (test : Test) (scope : Scope) (tops : Tops) (least : List ℕ) (shows : ShowsTops units tops) (decides : HaveLeast scope tops least test) where
   abbrev pub g : Given
   g = given scope tops least
 
@@ -89,13 +90,13 @@ module _ (units : List (FileUnit Spot)) (test : Test) (scope : Sharing) (tops : 
       (λ i. (sym h.0.unit i == unit && (ap (test a.number) (sym h.0.number) ∙ e b (inl refl)) i) || uses_is a unit rows these h.1 (λ c is. e c (inr is)) i)
 
   units_are : numbers_from 0 units ≡ units_of g
-  units_are = numbers_are 0 units ∙ ap (range_with_len 0) (sym (length-map units (λ (f : FileUnit Spot). f.file)) ∙ ap (λ (ns : List ℕ). length ns) (sym shows.files_of_units))
+  units_are = numbers_are 0 units ∙ ap (range_with_len 0) (sym (length-map units (λ (f : FileUnit EntryName). f.file)) ∙ ap (λ (ns : List ℕ). length ns) (sym shows.files_of_units))
 
   pub users_is : (a : TopFacts) → In a g.rows → unit_users test units a.number ≡ users g a
   unfolding unit_users users
   users_is a is =
-      ap (filter (uses test (tops_of units) a.number)) units_are
-      ∙ filter_in (uses test (tops_of units) a.number) (λ unit. list_any (λ b. b.unit == unit && alike scope a b) g.rows) (units_of g)
+      ap (filter (unit_uses test (tops_of units) a.number)) units_are
+      ∙ filter_in (unit_uses test (tops_of units) a.number) (λ unit. list_any (λ b. b.unit == unit && alike scope a b) g.rows) (units_of g)
       (λ unit there. uses_is a unit g.rows (tops_of units) same (λ b is'. agree a b is is'))
 
   pub home_is : (a : TopFacts) → In a g.rows → unit_home test units a.number ≡ home g a
@@ -175,7 +176,7 @@ module _ (units : List (FileUnit Spot)) (test : Test) (scope : Sharing) (tops : 
   imports_of unit n (part ∷ parts) = by (has unit part.users) (imports_of unit (suc n) parts)
     where
       by : (x : Bool) → unit_imports unit (suc n) parts ≡ import_row unit (imports_from unit (suc n) (map (shown_part tops.files) parts))
-          → (elim x as (λ _. Entries Spot) [ true ↦ Entry (import_of unit n) End (unit_imports unit (suc n) parts) | false ↦ unit_imports unit (suc n) parts ])
+          → (elim x as (λ _. Entries EntryName) [ true ↦ Entry (import_of unit n) End (unit_imports unit (suc n) parts) | false ↦ unit_imports unit (suc n) parts ])
           ≡ import_row unit (cond x (n ∷ imports_from unit (suc n) (map (shown_part tops.files) parts)) (imports_from unit (suc n) (map (shown_part tops.files) parts)))
       by true more = ap (λ e. Entry (import_of unit n) End e) more
       by false more = more

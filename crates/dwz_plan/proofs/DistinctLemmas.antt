@@ -3,15 +3,15 @@ use Rattle.std.proofs.Common.{◌≡◌, ℕ, zero, suc, ◌+◌, ◌<◌, ◌==
 use Rattle.std.specs.List.{range_with_len, zip}
 use Rattle.std.proofs.lemmas.Bool.{both_ways, cases_eq, ne_eqb, not-true}
 use Rattle.std.proofs.lemmas.List.Elements.{filter-append}
-use Rattle.dwz_docs.specs.Lists.{In}
-use Rattle.dwz_docs.proofs.ListFacts.{any_in}
-use Rattle.dwz_moving.specs.Plan.{distinct}
-use Rattle.dwz_moving.proofs.PlanLemmas.{distinct_in}
-use Rattle.dwz_alike.specs.Spots.{same_numbers}
+use Rattle.dwz_def_reading.specs.Lists.{In}
+use Rattle.dwz_def_reading.proofs.ListFacts.{any_in}
+use Rattle.dwz_def_plan.specs.Plan.{distinct}
+use Rattle.dwz_def_plan.proofs.PlanLemmas.{distinct_in}
+use Rattle.dwz_def_tops.specs.Spots.{same_numbers}
 use Rattle.dwz_plan.specs.Steps.{number_of}
 use Rattle.dwz_plan.proofs.ListingLemmas.{has_list}
-use Rattle.dwz_seen.proofs.Members.{in_filter_from}
-use Rattle.dwz_alike.proofs.SpotLemmas.{numbers_same, numbers_true}
+use Rattle.dwz_def_tops.proofs.Members.{in_filter_from}
+use Rattle.dwz_def_tops.proofs.SpotLemmas.{numbers_same, numbers_true}
 
 -- no two are the same
 abbrev pub Apart : List (List ℕ) → Type 0

@@ -6,30 +6,30 @@ use Rattle.std.specs.List.{range_with_len}
 use Rattle.std.proofs.lemmas.Bool.{false≢true}
 use Rattle.std.proofs.lemmas.List.{get_or-map, length-map, map-append}
 use Rattle.std.proofs.lemmas.List.FromFn.{get_or-map-range_with_len}
-use Rattle.dwz_docs.specs.Lists.{Each, In}
-use Rattle.dwz_docs.proofs.CaseFacts.{same_bool}
+use Rattle.dwz_def_reading.specs.Lists.{Each, In}
+use Rattle.dwz_def_reading.proofs.CaseFacts.{same_bool}
 use Rattle.dwz_groups.specs.declared.tops.TopRow.{TopRow}
 use Rattle.dwz_groups.specs.declared.tops.Tops.{Tops}
-use Rattle.dwz_seen.specs.Lists.{Rising}
-use Rattle.dwz_alike.specs.Deciding.{Test}
-use Rattle.dwz_alike.specs.Spots.{FileUnit, Spot, Top, tops_of}
-use Rattle.dwz_alike.proofs.TopNumbers.{number_below, tops_numbers}
-use Rattle.dwz_moving.specs.Gain.{gain_rule, gain_test, gains_test}
-use Rattle.dwz_moving.specs.Homes.{Common, Home, Local, Rule, Stay, all_rule, candidate, home as ruled_home, is_home, moves as unit_moves, rep as unit_rep, users as unit_users}
-use Rattle.dwz_moving.specs.Plan.{PartialUnit, is_pinned, kept as unit_kept, partials as unit_partials, stand_in as unit_stand_in, staying as unit_staying}
-use Rattle.dwz_moving.proofs.UserLemmas.{moves_other}
+use Rattle.dwz_def_tops.specs.Lists.{Rising}
+use Rattle.dwz_def_tops.specs.Deciding.{Test}
+use Rattle.dwz_def_tops.specs.Spots.{EntryName, FileUnit, Top, tops_of}
+use Rattle.dwz_def_tops.proofs.TopNumbers.{number_below, tops_numbers}
+use Rattle.dwz_def_plan.specs.Gain.{gain_rule, gain_test, gains_test}
+use Rattle.dwz_def_plan.specs.Homes.{Common, Home, Local, Rule, Stay, all_rule, candidate, home as ruled_home, is_home, moves as unit_moves, rep as unit_rep, users as unit_users}
+use Rattle.dwz_def_plan.specs.Plan.{PartialUnit, is_pinned, kept as unit_kept, partials as unit_partials, stand_in as unit_stand_in, staying as unit_staying}
+use Rattle.dwz_def_plan.proofs.UserLemmas.{moves_other}
 use Rattle.dwz_groups.specs.Groups.{grouped}
-use Rattle.dwz_gain.specs.Gaining.{edges_from, weights_of}
-use Rattle.dwz_gain.specs.GainLaws.{part_gains, seed}
-use Rattle.dwz_gain.specs.Groups.{AreGroups, IsGroup, ShowGains}
-use Rattle.dwz_gain.proofs.ApartLemmas.{groups_apart}
-use Rattle.dwz_gain.proofs.FilterLemmas.{partials_filter}
-use Rattle.dwz_gain.proofs.MarkedLemmas.{marked}
-use Rattle.dwz_spread.specs.Spreading.{IsMarked, IsSpread}
+use Rattle.dwz_plan.specs.Gaining.{edges_from, weights_of}
+use Rattle.dwz_plan.specs.GainLaws.{part_gains, seed}
+use Rattle.dwz_plan.specs.Groups.{AreGroups, IsGroup, ShowGains}
+use Rattle.dwz_plan.proofs.ApartLemmas.{groups_apart}
+use Rattle.dwz_plan.proofs.FilterLemmas.{partials_filter}
+use Rattle.dwz_plan.proofs.MarkedLemmas.{marked}
+use Rattle.dwz_groups.specs.Spreading.{IsMarked, IsSpread}
 use Rattle.dwz_plan.specs.declared.plan.Home.{Home as Place}
 use Rattle.dwz_plan.specs.declared.plan.Home.TheVariants.{Common as InCommon, Local as InFile, Stay as InUnit}
 use Rattle.dwz_plan.specs.declared.plan.Partial.{Partial}
-use Rattle.dwz_plan.specs.declared.plan.Sharing.{Sharing}
+use Rattle.dwz_plan.specs.declared.plan.Scope.{Scope}
 use Rattle.dwz_plan.specs.Gained.{IsGaining, among, before, gained, group_of, groups_of, home_after, kept_after, mark_at, part_seed, place_after, stand_after, staying_after}
 use Rattle.dwz_plan.specs.Planned.{Planned, imports_from, partials, place, rep}
 use Rattle.dwz_plan.specs.Rows.{Given, TopFacts, given, rows_from}
@@ -83,7 +83,7 @@ range_rises : (s n : ℕ) → Rising (range_with_len s n)
 range_rises s zero = tt
 range_rises s (suc n) = (each_below s (s + 1) n (omega arith), range_rises (s + 1) n)
 
-rows_count : (units : List (FileUnit Spot)) (rows : List TopFacts) (tops : List Top) → SameRows units rows tops → length rows ≡ length tops
+rows_count : (units : List (FileUnit EntryName)) (rows : List TopFacts) (tops : List Top) → SameRows units rows tops → length rows ≡ length tops
 rows_count units [] [] h = refl
 rows_count units [] (t ∷ tops) h = absurd h
 rows_count units (a ∷ rows) [] h = absurd h
@@ -102,12 +102,13 @@ row_may files s (r ∷ rows) (x ∷ least) zero e l = refl
 row_may files s (r ∷ rows) (x ∷ least) (suc n) e l = row_may files (suc s) rows least n (omega (arith, e)) (omega arith)
 
 -- what a place says of moving
-placed_moves : (rule : Rule) (units : List (FileUnit Spot)) (parts : List PartialUnit) (n : ℕ) (h : Place) → IsPlace rule units parts n h → unit_moves rule units n ≡ not (is_in_unit h)
+placed_moves : (rule : Rule) (units : List (FileUnit EntryName)) (parts : List PartialUnit) (n : ℕ) (h : Place) → IsPlace rule units parts n h → unit_moves rule units n ≡ not (is_in_unit h)
 placed_moves rule units parts n (InCommon p) i = ap is_home i.0
 placed_moves rule units parts n (InFile p) i = ap is_home i.1
 placed_moves rule units parts n InUnit i = ap is_home i
 
-module _ (units : List (FileUnit Spot)) (test : Test) (scope : Sharing) (tops : Tops) (least : List ℕ) (shows : ShowsTops units tops) (decides : HaveLeast scope tops least test) (marks : List Bool)
+module _ (units : List (FileUnit EntryName)) (test : Test) (scope : Scope) (tops : Tops) (least : List ℕ) (shows : ShowsTops units tops) (decides : HaveLeast scope tops least test) (marks : List
+    Bool)
     (gaining : IsGaining (given scope tops least) marks) where
   abbrev g : Given
   g = given scope tops least
@@ -282,7 +283,7 @@ module _ (units : List (FileUnit Spot)) (test : Test) (scope : Sharing) (tops : 
   gained_shows : ShowsPlan gain units tops.files (gained marks g)
   unfolding gained
   gained_shows =
-      let count : length tops.files_of_units ≡ length units = ap (λ (ns : List ℕ). length ns) shows.files_of_units ∙ length-map units (λ (f : FileUnit Spot). f.file) in
+      let count : length tops.files_of_units ≡ length units = ap (λ (ns : List ℕ). length ns) shows.files_of_units ∙ length-map units (λ (f : FileUnit EntryName). f.file) in
       let at : (t : Top) → In t (tops_of units) → t.number < length g.rows =
       λ t there. (let low : t.number < 0 + length (tops_of units) = number_below 0 (tops_of units) t (tops_numbers units) there in omega (arith, low, many)) in
       record {

@@ -2,19 +2,19 @@
 use Rattle.std.proofs.Common.{◌≡◌, ℕ, suc, ◌<◌, ◌≤◌, ◌==◌, ◌&&◌, inl, inr, not, cond, All, Bool, true, false, List, [], ◌∷◌, ◌++◌, length, map, filter, refl, sym, ap, subst, ◌∙◌, arith}
 use Rattle.std.specs.List.{flat_map, list_any, range_with_len}
 use Rattle.std.proofs.lemmas.List.FromFn.{length-range_with_len}
-use Rattle.dwz_alike.specs.Spots.{same_numbers}
-use Rattle.dwz_moving.specs.Homes.{Common, Home, Local, Stay, same_home}
-use Rattle.dwz_moving.specs.Plan.{distinct}
+use Rattle.dwz_def_tops.specs.Spots.{same_numbers}
+use Rattle.dwz_def_plan.specs.Homes.{Common, Home, Local, Stay, same_home}
+use Rattle.dwz_def_plan.specs.Plan.{distinct}
 use Rattle.std.proofs.lemmas.List.{length-map, map-append}
-use Rattle.dwz_docs.specs.Lists.{In}
-use Rattle.dwz_docs.proofs.ListFacts.{in_cases}
+use Rattle.dwz_def_reading.specs.Lists.{In}
+use Rattle.dwz_def_reading.proofs.ListFacts.{in_cases}
 use Rattle.dwz_groups.specs.declared.tops.Tops.{Tops}
-use Rattle.dwz_gain.specs.Gaining.{AreNumbers}
+use Rattle.dwz_plan.specs.Gaining.{AreNumbers}
 use Rattle.dwz_groups.specs.Groups.{grouped, values_at}
 use Rattle.dwz_plan.specs.declared.plan.Home.{Home as Place}
 use Rattle.dwz_plan.specs.declared.plan.Home.TheVariants.{Stay as InUnit}
 use Rattle.dwz_plan.specs.declared.plan.Partial.{Partial}
-use Rattle.dwz_plan.specs.declared.plan.Sharing.{Sharing}
+use Rattle.dwz_plan.specs.declared.plan.Scope.{Scope}
 use Rattle.dwz_plan.specs.Gained.{among, group_of, home_after, kept_after, stand_after, staying_after}
 use Rattle.dwz_plan.specs.Planned.{alike, home, imports_from, number_in, numbers, partial_with, partials, partials_at, place, place_at, rep, representatives, reps_of, units_of, users}
 use Rattle.dwz_plan.specs.Rows.{Given, TopFacts, given, rows_from}
@@ -25,7 +25,7 @@ use Rattle.dwz_plan.proofs.LedLemmas.{counted_below, numbers_counted}
 use Rattle.dwz_plan.proofs.PartialLemmas.{represents}
 use Rattle.dwz_plan.proofs.StepLemmas.{at_number, counted, part_of, users_low}
 use Rattle.dwz_plan.proofs.TurnedLemmas.{values_at-append}
-use Rattle.dwz_seen.proofs.Members.{in_filter_from, in_map_from}
+use Rattle.dwz_def_tops.proofs.Members.{in_filter_from, in_map_from}
 
 pub among_in : {X : Type 0} (marks : List Bool) (xs : List X) (x : X) → In x (among marks xs) → In x xs
 unfolding among
@@ -50,7 +50,7 @@ among_few (b ∷ marks) [] = omega arith
 among_few (true ∷ marks) (x ∷ xs) = let l = among_few marks xs in omega (arith, l)
 among_few (false ∷ marks) (x ∷ xs) = let l = among_few marks xs in omega (arith, l)
 
-module _ (scope : Sharing) (tops : Tops) (least : List ℕ) (marks : List Bool) where
+module _ (scope : Scope) (tops : Tops) (least : List ℕ) (marks : List Bool) where
   abbrev rows : List TopFacts
   rows = rows_from tops.files_of_units 0 tops.rows least
 

@@ -2,23 +2,24 @@
 use Rattle.std.proofs.Common.{◌≡◌, ℕ, zero, suc, ◌+◌, ◌<◌, ◌==◌, ◌&&◌, ◌⊎◌, inl, inr, not, cond, Bool, true, false, List, [], ◌∷◌, ◌++◌, length, map, filter, refl, sym, ap, subst, ◌∙◌, arith, eq-eqb}
 use Rattle.std.specs.List.{flat_map, list_any, range_with_len}
 use Rattle.std.proofs.lemmas.Bool.{cases_eq, ne_eqb}
-use Rattle.dwz_docs.specs.Lists.{In, has}
-use Rattle.dwz_docs.proofs.ListFacts.{in_cases}
+use Rattle.dwz_def_reading.specs.Lists.{In}
+use Rattle.dwz_def_reading.specs.Rows.{has}
+use Rattle.dwz_def_reading.proofs.ListFacts.{in_cases}
 use Rattle.dwz_groups.specs.declared.tops.TopRow.{TopRow}
 use Rattle.dwz_groups.specs.declared.tops.Tops.{Tops}
-use Rattle.dwz_moving.specs.Homes.{Common, Home, Local}
-use Rattle.dwz_moving.specs.Plan.{distinct}
-use Rattle.dwz_moving.proofs.PlanLemmas.{distinct_in}
+use Rattle.dwz_def_plan.specs.Homes.{Common, Home, Local}
+use Rattle.dwz_def_plan.specs.Plan.{distinct}
+use Rattle.dwz_def_plan.proofs.PlanLemmas.{distinct_in}
 use Rattle.dwz_plan.specs.declared.plan.Home.{Home as Place}
 use Rattle.dwz_plan.specs.declared.plan.Partial.{Partial}
-use Rattle.dwz_plan.specs.declared.plan.Sharing.{Sharing}
+use Rattle.dwz_plan.specs.declared.plan.Scope.{Scope}
 use Rattle.dwz_groups.specs.Groups.{values_at}
 use Rattle.dwz_plan.specs.Planned.{alike, imports_from, numbers, partial_with, partials, partials_at, representatives, users}
 use Rattle.dwz_plan.specs.Rows.{Given, TopFacts, given, row_of, rows_from}
 use Rattle.dwz_plan.specs.Steps.{is_in_unit, pair, same_bool, staying_one, staying_pairs, turned}
-use Rattle.dwz_groups.specs.declared.groups.Pair.{Pair}
+use Rattle.dwz_groups.specs.declared.groups.Edge.{Edge}
 use Rattle.dwz_plan.proofs.TurnedLemmas.{repeats, values-turned_one, values_at-append}
-use Rattle.dwz_seen.proofs.Members.{in_map_from}
+use Rattle.dwz_def_tops.proofs.Members.{in_map_from}
 
 -- ---- what stays
 
@@ -26,7 +27,7 @@ values_one : (t : Bool) (u n k : ℕ) → values_at (cond t (pair u n ∷ []) []
 unfolding values_at
 values_one true u n k = by (u == k)
   where
-    by : (b : Bool) → map (λ (p : Pair). p.value) (cond b (pair u n ∷ []) []) ≡ cond b (n ∷ []) []
+    by : (b : Bool) → map (λ (p : Edge). p.value) (cond b (pair u n ∷ []) []) ≡ cond b (n ∷ []) []
     by true = refl
     by false = refl
 values_one false u n k = refl
@@ -70,7 +71,7 @@ pub same_other : (b : Bool) → same_bool b false ≡ not b
 same_other true = refl
 same_other false = refl
 
-module _ (scope : Sharing) (tops : Tops) (least : List ℕ) where
+module _ (scope : Scope) (tops : Tops) (least : List ℕ) where
   abbrev rows : List TopFacts
   rows = rows_from tops.files_of_units 0 tops.rows least
 

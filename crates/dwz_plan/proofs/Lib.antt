@@ -1,3 +1,8 @@
+pub mod ApartLemmas
+pub mod EdgeLemmas
+pub mod FilterLemmas
+pub mod GainLemmas
+pub mod MarkedLemmas
 pub mod BridgeLemmas
 pub mod DistinctLemmas
 pub mod GainedLemmas

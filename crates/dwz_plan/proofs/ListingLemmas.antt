@@ -10,11 +10,11 @@ use Rattle.std.proofs.lemmas.List.Folds.{list_any-append, position_or_len_push}
 use Rattle.std.proofs.lemmas.List.Sums.{fold-append}
 use lib.Pointwise.{pointwise}
 use denote.Bor.{Bor}
-use Rattle.dwz_moving.specs.Plan.{distinct}
-use Rattle.dwz_alike.specs.Spots.{same_numbers}
+use Rattle.dwz_def_plan.specs.Plan.{distinct}
+use Rattle.dwz_def_tops.specs.Spots.{same_numbers}
 use Rattle.dwz_plan.specs.Steps.{lists_of, number_of, numbered, pair, users_at}
-use Rattle.dwz_groups.specs.declared.groups.Pair.{Pair}
-use Rattle.dwz_alike.proofs.SpotLemmas.{numbers_same, numbers_true}
+use Rattle.dwz_groups.specs.declared.groups.Edge.{Edge}
+use Rattle.dwz_def_tops.proofs.SpotLemmas.{numbers_same, numbers_true}
 
 -- ---- equal lists
 
@@ -166,7 +166,7 @@ length_put ks us = by (has_list us ks)
 
 -- ---- movers, by their lists of users
 
-pub record Numbers (users : List (List ℕ)) (ms : List ℕ) (keys : List (List ℕ)) (firsts : List ℕ) (pairs : List Pair) : Type 0 where
+pub record Numbers (users : List (List ℕ)) (ms : List ℕ) (keys : List (List ℕ)) (firsts : List ℕ) (pairs : List Edge) : Type 0 where
   pub keys_are : keys ≡ listed (map (users_at users) ms)
   pub firsts_are : map (users_at users) firsts ≡ keys
   pub pairs_are : pairs ≡ map (λ m. pair (number_of keys (users_at users m)) m) ms
@@ -181,7 +181,7 @@ map_agree : {X : Type 0} (f g : ℕ → X) (ms : List ℕ) → All (λ m. f m �
 map_agree f g [] all = refl
 map_agree f g (m ∷ ms) all = (λ i. All-head (λ m. f m ≡ g m) m ms all i ∷ map_agree f g ms (All-tail (λ m. f m ≡ g m) m ms all) i)
 
-pub numbers-more : (users : List (List ℕ)) (ms : List ℕ) (keys : List (List ℕ)) (firsts : List ℕ) (pairs : List Pair) (m : ℕ) (keys' : List (List ℕ)) (firsts' : List ℕ) (pairs' : List Pair) (n : ℕ)
+pub numbers-more : (users : List (List ℕ)) (ms : List ℕ) (keys : List (List ℕ)) (firsts : List ℕ) (pairs : List Edge) (m : ℕ) (keys' : List (List ℕ)) (firsts' : List ℕ) (pairs' : List Edge) (n : ℕ)
     (is_new : Bool)
     → keys' ≡ put keys (users_at users m) → is_new ≡ not (has_list (users_at users m) keys) → n ≡ number_of keys (users_at users m)
     → firsts' ≡ firsts ++ cond is_new (m ∷ []) [] → pairs' ≡ pairs ++ pair n m ∷ []
@@ -222,7 +222,7 @@ numbers-more users ms keys firsts pairs m keys' firsts' pairs' n is_new put_is n
     stays : All (λ k. pair (number_of keys (f k)) k ≡ pair (number_of keys' (f k)) k) ms
     stays = λ k d l. ap (λ j. pair j (get_or ms k d)) (sym (ap (λ (ks : List (List ℕ)). number_of ks (f (get_or ms k d))) put_is ∙ number_stays keys us (f (get_or ms k d)) (h.has k d l)))
 
-pub numbers-all : (users : List (List ℕ)) (movers : List ℕ) (i : ℕ) (keys : List (List ℕ)) (firsts : List ℕ) (pairs : List Pair) → length movers ≤ i → Numbers users (take i movers) keys firsts pairs
+pub numbers-all : (users : List (List ℕ)) (movers : List ℕ) (i : ℕ) (keys : List (List ℕ)) (firsts : List ℕ) (pairs : List Edge) → length movers ≤ i → Numbers users (take i movers) keys firsts pairs
     → (map (users_at users) firsts ≡ lists_of users movers) × (pairs ≡ numbered users movers)
 unfolding lists_of numbered
 numbers-all users movers i keys firsts pairs l h =
@@ -231,14 +231,14 @@ numbers-all users movers i keys firsts pairs l h =
     (h.firsts_are ∙ keys_all, h.pairs_are ∙ (λ j. map (λ m. pair (number_of (keys_all j) (users_at users m)) m) (all j)))
 
 -- each number is that of a list, there are no more lists than movers, and each has a mover
-pub numbers-low : (users : List (List ℕ)) (ms : List ℕ) (keys : List (List ℕ)) (firsts : List ℕ) (pairs : List Pair) → Numbers users ms keys firsts pairs → All (λ p. p.key < length firsts) pairs
+pub numbers-low : (users : List (List ℕ)) (ms : List ℕ) (keys : List (List ℕ)) (firsts : List ℕ) (pairs : List Edge) → Numbers users ms keys firsts pairs → All (λ p. p.key < length firsts) pairs
 numbers-low users ms keys firsts pairs h =
     let len : length firsts ≡ length keys = sym (length-map firsts (users_at users)) ∙ ap (λ (ks : List (List ℕ)). length ks) h.firsts_are in
-    subst (λ (ps : List Pair). All (λ p. p.key < length firsts) ps) (sym h.pairs_are)
-    (All-map (λ (p : Pair). p.key < length firsts) (λ m. pair (number_of keys (users_at users m)) m) ms
+    subst (λ (ps : List Edge). All (λ p. p.key < length firsts) ps) (sym h.pairs_are)
+    (All-map (λ (p : Edge). p.key < length firsts) (λ m. pair (number_of keys (users_at users m)) m) ms
     (λ k d l. omega (arith, len, position_found (same_numbers (users_at users (get_or ms k d))) keys (h.has k d l))))
 
-pub numbers-few : (users : List (List ℕ)) (ms : List ℕ) (keys : List (List ℕ)) (firsts : List ℕ) (pairs : List Pair) → Numbers users ms keys firsts pairs → length firsts ≤ length ms
+pub numbers-few : (users : List (List ℕ)) (ms : List ℕ) (keys : List (List ℕ)) (firsts : List ℕ) (pairs : List Edge) → Numbers users ms keys firsts pairs → length firsts ≤ length ms
 numbers-few users ms keys firsts pairs h = omega (arith, length-map firsts (users_at users), ap (λ (ks : List (List ℕ)). length ks) h.firsts_are, h.few)
 
 -- ---- the keys of a set of slices

@@ -3,15 +3,15 @@ use Rattle.std.proofs.Common.{◌≡◌, ℕ, zero, suc, ◌+◌, ◌==◌, ◌&
 use Rattle.std.specs.List.{concat, flat_map, range_with_len}
 use Rattle.std.proofs.lemmas.Bool.{cases_eq, ne_eqb}
 use Rattle.std.proofs.lemmas.List.{map-append}
-use Rattle.dwz_docs.specs.Lists.{In}
+use Rattle.dwz_def_reading.specs.Lists.{In}
 use Rattle.dwz_groups.specs.declared.tops.Tops.{Tops}
-use Rattle.dwz_moving.specs.Homes.{Common, Home, Local, Stay, same_home}
-use Rattle.dwz_plan.specs.declared.plan.Sharing.{Sharing}
+use Rattle.dwz_def_plan.specs.Homes.{Common, Home, Local, Stay, same_home}
+use Rattle.dwz_plan.specs.declared.plan.Scope.{Scope}
 use Rattle.dwz_groups.specs.Groups.{grouped, values_at}
 use Rattle.dwz_plan.specs.Planned.{home, home_of, numbers, rep, reps_of, representatives}
 use Rattle.dwz_plan.specs.Rows.{Given, TopFacts, given, rows_from}
 use Rattle.dwz_plan.specs.Steps.{all_keys, pair, rank_of, ranked, ranked_one, unit_pairs}
-use Rattle.dwz_groups.specs.declared.groups.Pair.{Pair}
+use Rattle.dwz_groups.specs.declared.groups.Edge.{Edge}
 use Rattle.dwz_plan.proofs.LedLemmas.{Counted, numbers_counted, rows_counted}
 use Rattle.dwz_plan.proofs.ListFacts.{concat_map, filter_in, map_map, range_shift}
 use Rattle.dwz_plan.proofs.RowLemmas.{length-rows_from}
@@ -33,11 +33,11 @@ same_suc f g = by (cases_eq f g)
 ranked_at : (h : Home) (n r : ℕ) → values_at (ranked_one (rank_of h) n) r ≡ cond (same_home h (home_at r)) (n ∷ []) []
 unfolding values_at
 ranked_at Common n zero = refl
-ranked_at Common n (suc r) = ap (λ t. map (λ (p : Pair). p.value) (cond t (pair 0 n ∷ []) [])) (ne_eqb 0 (suc r) (λ e. omega (arith, e)))
-ranked_at (Local f) n zero = ap (λ t. map (λ (p : Pair). p.value) (cond t (pair (f + 1) n ∷ []) [])) (ne_eqb (f + 1) 0 (λ e. omega (arith, e)))
+ranked_at Common n (suc r) = ap (λ t. map (λ (p : Edge). p.value) (cond t (pair 0 n ∷ []) [])) (ne_eqb 0 (suc r) (λ e. omega (arith, e)))
+ranked_at (Local f) n zero = ap (λ t. map (λ (p : Edge). p.value) (cond t (pair (f + 1) n ∷ []) [])) (ne_eqb (f + 1) 0 (λ e. omega (arith, e)))
 ranked_at (Local f) n (suc r) = by (f + 1 == suc r) ∙ ap (λ t. cond t (n ∷ []) []) (same_suc f r)
   where
-    by : (t : Bool) → map (λ (p : Pair). p.value) (cond t (pair (f + 1) n ∷ []) []) ≡ cond t (n ∷ []) []
+    by : (t : Bool) → map (λ (p : Edge). p.value) (cond t (pair (f + 1) n ∷ []) []) ≡ cond t (n ∷ []) []
     by true = refl
     by false = refl
 ranked_at Stay n zero = refl
@@ -69,7 +69,7 @@ stays_apart (suc r) = refl
 abbrev pub movers_of : Given → List TopFacts
 movers_of g = representatives g Common ++ flat_map (λ file. representatives g (Local file)) (range_with_len 0 g.files)
 
-module _ (scope : Sharing) (tops : Tops) (least : List ℕ) where
+module _ (scope : Scope) (tops : Tops) (least : List ℕ) where
   rank_of_led : (a : TopFacts) → In a (rows_from tops.files_of_units 0 tops.rows least) → (r : ℕ)
       → same_home (home_of tops.files_of_units (led_users tops least scope a.number)) (home_at r)
       ≡ (same_home (home (given scope tops least) a) (home_at r) && rep (given scope tops least) a == a.number)
@@ -123,7 +123,7 @@ module _ (scope : Sharing) (tops : Tops) (least : List ℕ) where
   unfolding grouped
   movers_are =
       let g : Given = given scope tops least in
-      let pairs : List Pair = ranked tops.files_of_units 0 (map (λ (a : TopFacts). led_users tops least scope a.number) (rows_from tops.files_of_units 0 tops.rows least)) in
+      let pairs : List Edge = ranked tops.files_of_units 0 (map (λ (a : TopFacts). led_users tops least scope a.number) (rows_from tops.files_of_units 0 tops.rows least)) in
       let more : tops.files + 1 ≡ suc tops.files = omega arith in
       let one : 0 + 1 ≡ 1 = refl in
       let rest : concat (map (values_at pairs) (range_with_len 1 tops.files)) ≡ numbers (flat_map (λ file. representatives g (Local file)) (range_with_len 0 tops.files)) =

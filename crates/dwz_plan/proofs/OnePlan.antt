@@ -2,8 +2,8 @@
 use Rattle.std.proofs.Common.{◌≡◌, ◌↔◌, ℕ, suc, Bool, List, [], ◌∷◌, length, refl, sym, ap, subst, ◌∙◌, arith}
 use Rattle.std.proofs.lemmas.List.{length-map}
 use Rattle.std.proofs.lemmas.List.FromFn.{length-map-range_with_len}
-use Rattle.dwz_docs.proofs.CaseFacts.{same_bool}
-use Rattle.dwz_spread.specs.Spreading.{IsMarked, IsSpread}
+use Rattle.dwz_def_reading.proofs.CaseFacts.{same_bool}
+use Rattle.dwz_groups.specs.Spreading.{IsMarked, IsSpread}
 use Rattle.dwz_plan.specs.Gained.{IsPlanOf, IsWhole, among, gained, home_after, kept_after, stand_after}
 use Rattle.dwz_plan.specs.Planned.{Planned, imports_from, partials}
 use Rattle.dwz_plan.specs.Rows.{Given}

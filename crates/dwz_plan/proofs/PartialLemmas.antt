@@ -5,12 +5,12 @@ use Rattle.std.proofs.lemmas.Bool.{and_parts, false_from_ne_true}
 use Rattle.std.proofs.lemmas.List.{append-nil, map-append}
 use Rattle.std.proofs.lemmas.List.Elements.{filter-append}
 use Rattle.std.proofs.lemmas.List.Folds.{flat_map-map}
-use Rattle.dwz_docs.specs.Lists.{In}
-use Rattle.dwz_docs.proofs.ListFacts.{in_cases}
-use Rattle.dwz_moving.specs.Homes.{Common, Home, Local, same_home}
-use Rattle.dwz_moving.specs.Plan.{distinct}
-use Rattle.dwz_moving.proofs.PlanLemmas.{distinct_in, home_true}
-use Rattle.dwz_alike.specs.Spots.{same_numbers}
+use Rattle.dwz_def_reading.specs.Lists.{In}
+use Rattle.dwz_def_reading.proofs.ListFacts.{in_cases}
+use Rattle.dwz_def_plan.specs.Homes.{Common, Home, Local, same_home}
+use Rattle.dwz_def_plan.specs.Plan.{distinct}
+use Rattle.dwz_def_plan.proofs.PlanLemmas.{distinct_in, home_true}
+use Rattle.dwz_def_tops.specs.Spots.{same_numbers}
 use Rattle.dwz_plan.specs.declared.plan.Partial.{Partial}
 use Rattle.dwz_plan.specs.Planned.{file_of_home, home, home_of, numbers, partial_with, partials, partials_at, rep, representatives, users}
 use Rattle.dwz_plan.specs.Rows.{Given, TopFacts}
@@ -18,8 +18,8 @@ use Rattle.dwz_plan.specs.Steps.{partial_of}
 use Rattle.dwz_plan.proofs.DistinctLemmas.{distinct_join}
 use Rattle.dwz_plan.proofs.ListFacts.{filter_no, map_in}
 use Rattle.dwz_plan.proofs.MoverLemmas.{movers_of}
-use Rattle.dwz_seen.proofs.Members.{From, in_filter_from, in_map_from}
-use Rattle.dwz_alike.proofs.SpotLemmas.{numbers_true}
+use Rattle.dwz_def_tops.proofs.Members.{From, in_filter_from, in_map_from}
+use Rattle.dwz_def_tops.proofs.SpotLemmas.{numbers_true}
 
 -- ---- homes
 

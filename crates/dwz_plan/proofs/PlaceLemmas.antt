@@ -7,10 +7,10 @@ use Rattle.std.proofs.lemmas.List.{append-nil, append_assoc, get_or-map, get_or-
 use Rattle.std.proofs.lemmas.List.Elements.{All-append, All-cons, All-head, All-nil, All-tail}
 use Rattle.std.proofs.lemmas.List.Sums.{fold_more}
 use Rattle.dwz_groups.specs.declared.tops.TopRow.{TopRow}
-use Rattle.dwz_moving.specs.Homes.{Common, Home, Local, Stay}
+use Rattle.dwz_def_plan.specs.Homes.{Common, Home, Local, Stay}
 use Rattle.dwz_plan.specs.Planned.{file_of_home, home_of, place_at}
 use Rattle.dwz_plan.specs.Steps.{file_of_rank, is_in_unit, pair, same_bool, partial_of, partials_of, place_of_rank, placed, rank_of, staying_one, staying_pairs, users_at}
-use Rattle.dwz_groups.specs.declared.groups.Pair.{Pair}
+use Rattle.dwz_groups.specs.declared.groups.Edge.{Edge}
 use Rattle.dwz_plan.specs.declared.plan.Home.{Home as Place}
 use Rattle.dwz_plan.specs.declared.plan.Home.TheVariants.{Stay as InUnit}
 use Rattle.dwz_plan.specs.declared.plan.Partial.{Partial}
@@ -29,7 +29,7 @@ place_is Stay n = refl
 
 -- ---- the places of movers
 
-pub record Places (files : List ℕ) (users : List (List ℕ)) (pairs : List Pair) (homes : List Place) : Type 0 where
+pub record Places (files : List ℕ) (users : List (List ℕ)) (pairs : List Edge) (homes : List Place) : Type 0 where
   pub len : length homes ≡ length users
   pub each : (k : ℕ) → k < length users → get_or homes k InUnit ≡ placed files users pairs k
 
@@ -40,14 +40,14 @@ places-none files users homes is = record {
   each = λ k l. ap (λ (hs : List Place). get_or hs k InUnit) is ∙ get_or-replicate (length users) k InUnit InUnit l;
 }
 
-placed-more : (files : List ℕ) (users : List (List ℕ)) (pairs : List Pair) (i : ℕ) (p : Pair) (k : ℕ) → i < length pairs → get_or pairs i p ≡ p
+placed-more : (files : List ℕ) (users : List (List ℕ)) (pairs : List Edge) (i : ℕ) (p : Edge) (k : ℕ) → i < length pairs → get_or pairs i p ≡ p
     → placed files users (take (i + 1) pairs) k ≡ cond (p.value == k) (place_at (home_of files (users_at users k)) p.key) (placed files users (take i pairs) k)
 unfolding placed
 placed-more files users pairs i p k l is =
-    let f : Place → Pair → Place = λ h q. cond (q.value == k) (place_at (home_of files (users_at users k)) q.key) h in
-    fold_more f InUnit pairs i p l ∙ ap (λ (q : Pair). f (fold f InUnit (take i pairs)) q) is
+    let f : Place → Edge → Place = λ h q. cond (q.value == k) (place_at (home_of files (users_at users k)) q.key) h in
+    fold_more f InUnit pairs i p l ∙ ap (λ (q : Edge). f (fold f InUnit (take i pairs)) q) is
 
-pub places-more : (files : List ℕ) (users : List (List ℕ)) (pairs : List Pair) (i : ℕ) (p : Pair) (homes : List Place) (rank : Option ℕ) (place : Place) (us : List ℕ) → i < length pairs
+pub places-more : (files : List ℕ) (users : List (List ℕ)) (pairs : List Edge) (i : ℕ) (p : Edge) (homes : List Place) (rank : Option ℕ) (place : Place) (us : List ℕ) → i < length pairs
     → get_or pairs i p ≡ p → p.value < length users
     → us ≡ users_at users p.value → rank ≡ rank_of (home_of files us) → place ≡ place_of_rank rank p.key
     → Places files users (take i pairs) homes → Places files users (take (i + 1) pairs) (set homes p.value place)
@@ -70,9 +70,9 @@ places-more files users pairs i p homes rank place us l is in' list ranked home 
         ∙ (ap (λ t. cond t (place_at (home_of files (users_at users k)) p.key) (placed files users (take i pairs) k)) (sym (ne_eqb p.value k (λ e. ne (sym e))))
         ∙ sym (placed-more files users pairs i p k l is)))
 
-pub places-all : (files : List ℕ) (users : List (List ℕ)) (pairs : List Pair) (i : ℕ) (homes : List Place) → length pairs ≤ i → Places files users (take i pairs) homes → (k : ℕ) → k < length users
+pub places-all : (files : List ℕ) (users : List (List ℕ)) (pairs : List Edge) (i : ℕ) (homes : List Place) → length pairs ≤ i → Places files users (take i pairs) homes → (k : ℕ) → k < length users
     → get_or homes k InUnit ≡ placed files users pairs k
-places-all files users pairs i homes l h k m = h.each k m ∙ ap (λ (ps : List Pair). placed files users ps k) (take_all i pairs l)
+places-all files users pairs i homes l h k m = h.each k m ∙ ap (λ (ps : List Edge). placed files users ps k) (take_all i pairs l)
 
 -- ---- partial units, one more
 
@@ -116,18 +116,18 @@ staying-more pinned n (r ∷ rows) (h ∷ homes) (suc i) d l e =
     let z : n + 1 + i ≡ n + suc i = omega arith in
     let more = staying-more pinned (n + 1) rows homes i d (omega arith) (omega (arith, e)) in
     ap (λ j. staying_pairs pinned n (take j (r ∷ rows)) (take j (h ∷ homes))) s
-    ∙ (ap (λ (ps : List Pair). staying_one pinned r h n ++ ps) (more
+    ∙ (ap (λ (ps : List Edge). staying_one pinned r h n ++ ps) (more
     ∙ ap (λ j. staying_pairs pinned (n + 1) (take i rows) (take i homes) ++ staying_one pinned (get_or rows i d) (get_or homes i InUnit) j) z)
     ∙ sym (append_assoc (staying_one pinned r h n) (staying_pairs pinned (n + 1) (take i rows) (take i homes)) (staying_one pinned (get_or rows i d) (get_or homes i InUnit) (n + suc i))))
 
 pub staying_keys : (units : ℕ) (pinned : Bool) (n : ℕ) (rows : List TopRow) (homes : List Place) → All (λ r. r.unit < units) rows → All (λ p. p.key < units) (staying_pairs pinned n rows homes)
 unfolding staying_pairs
-staying_keys units pinned n [] homes all = All-nil (λ (p : Pair). p.key < units)
-staying_keys units pinned n (r ∷ rows) [] all = All-nil (λ (p : Pair). p.key < units)
+staying_keys units pinned n [] homes all = All-nil (λ (p : Edge). p.key < units)
+staying_keys units pinned n (r ∷ rows) [] all = All-nil (λ (p : Edge). p.key < units)
 staying_keys units pinned n (r ∷ rows) (h ∷ homes) all =
-    All-append (λ (p : Pair). p.key < units) (staying_one pinned r h n) (staying_pairs pinned (n + 1) rows homes) (by (same_bool r.pinned pinned && is_in_unit h))
+    All-append (λ (p : Edge). p.key < units) (staying_one pinned r h n) (staying_pairs pinned (n + 1) rows homes) (by (same_bool r.pinned pinned && is_in_unit h))
     (staying_keys units pinned (n + 1) rows homes (All-tail (λ (r : TopRow). r.unit < units) r rows all))
   where
     by : (t : Bool) → All (λ p. p.key < units) (cond t (pair r.unit n ∷ []) [])
-    by true = All-cons (λ (p : Pair). p.key < units) (pair r.unit n) [] (All-head (λ (r : TopRow). r.unit < units) r rows all) (All-nil (λ (p : Pair). p.key < units))
-    by false = All-nil (λ (p : Pair). p.key < units)
+    by true = All-cons (λ (p : Edge). p.key < units) (pair r.unit n) [] (All-head (λ (r : TopRow). r.unit < units) r rows all) (All-nil (λ (p : Edge). p.key < units))
+    by false = All-nil (λ (p : Edge). p.key < units)

@@ -1,10 +1,10 @@
 -- Rows and the tops that they show.
 use Rattle.std.proofs.Common.{◌≡◌, ℕ, suc, inl, inr, cond, Bool, true, false, List, [], ◌∷◌, length, map, filter, refl, sym, arith}
-use Rattle.dwz_docs.specs.Lists.{In}
+use Rattle.dwz_def_reading.specs.Lists.{In}
 use Rattle.dwz_groups.specs.declared.tops.TopRow.{TopRow}
-use Rattle.dwz_moving.specs.Plan.{is_pinned}
-use Rattle.dwz_alike.specs.Spots.{FileUnit, Spot, Top, tops_from}
-use Rattle.dwz_alike.proofs.TopNumbers.{Numbered, from_numbered}
+use Rattle.dwz_def_plan.specs.Plan.{is_pinned}
+use Rattle.dwz_def_tops.specs.Spots.{EntryName, FileUnit, Top, tops_from}
+use Rattle.dwz_def_tops.proofs.TopNumbers.{Numbered, from_numbered}
 use Rattle.dwz_plan.specs.Planned.{numbers}
 use Rattle.dwz_plan.specs.Rows.{TopFacts, rows_from}
 use Rattle.dwz_plan.specs.Shows.{ShowsRows}
@@ -14,22 +14,22 @@ use Rattle.dwz_plan.specs.Shows.{ShowsRows}
 abbrev pub TopsFrom : ℕ → List Top → Type 0
 TopsFrom n tops = Numbered n tops
 
-pub tops_counted : (unit n : ℕ) (units : List (FileUnit Spot)) → TopsFrom n (tops_from unit n units)
+pub tops_counted : (unit n : ℕ) (units : List (FileUnit EntryName)) → TopsFrom n (tops_from unit n units)
 tops_counted unit n units = from_numbered unit n units
 
 -- ---- a row for each top
 
-pub record SameRow (units : List (FileUnit Spot)) (a : TopFacts) (t : Top) : Type 0 where
+pub record SameRow (units : List (FileUnit EntryName)) (a : TopFacts) (t : Top) : Type 0 where
   pub number : a.number ≡ t.number
   pub unit : a.unit ≡ t.unit
   pub pinned : a.pinned ≡ is_pinned units t.number
 
-abbrev pub SameRows : List (FileUnit Spot) → List TopFacts → List Top → Type 0
+abbrev pub SameRows : List (FileUnit EntryName) → List TopFacts → List Top → Type 0
 SameRows units [] [] = Unit {0}
 SameRows units (a ∷ rows) (t ∷ tops) = SameRow units a t × SameRows units rows tops
 SameRows units _ _ = ⊥
 
-pub rows_shown : (units : List (FileUnit Spot)) (files : List ℕ) (s : ℕ) (rows : List TopRow) (least : List ℕ) (tops : List Top) → length least ≡ length rows → ShowsRows units rows tops
+pub rows_shown : (units : List (FileUnit EntryName)) (files : List ℕ) (s : ℕ) (rows : List TopRow) (least : List ℕ) (tops : List Top) → length least ≡ length rows → ShowsRows units rows tops
     → TopsFrom s tops → SameRows units (rows_from files s rows least) tops
 unfolding rows_from
 rows_shown units files s [] least [] e h c = tt
@@ -42,13 +42,13 @@ rows_shown units files s (r ∷ rows) (l ∷ least) (t ∷ tops) e h c = (
       h.1 c.1,
 )
 
-pub numbers_shown : (units : List (FileUnit Spot)) (rows : List TopFacts) (tops : List Top) → SameRows units rows tops → map (λ (t : Top). t.number) tops ≡ numbers rows
+pub numbers_shown : (units : List (FileUnit EntryName)) (rows : List TopFacts) (tops : List Top) → SameRows units rows tops → map (λ (t : Top). t.number) tops ≡ numbers rows
 numbers_shown units [] [] h = refl
 numbers_shown units [] (t ∷ tops) h = absurd h
 numbers_shown units (a ∷ rows) [] h = absurd h
 numbers_shown units (a ∷ rows) (t ∷ tops) h = (λ i. sym h.0.number i ∷ numbers_shown units rows tops h.1 i)
 
-pub filter_shown : (units : List (FileUnit Spot)) (p : TopFacts → Bool) (q : Top → Bool) (rows : List TopFacts) (tops : List Top) → SameRows units rows tops
+pub filter_shown : (units : List (FileUnit EntryName)) (p : TopFacts → Bool) (q : Top → Bool) (rows : List TopFacts) (tops : List Top) → SameRows units rows tops
     → ((a : TopFacts) (t : Top) → In a rows → SameRow units a t → p a ≡ q t) → SameRows units (filter p rows) (filter q tops)
 filter_shown units p q [] [] h e = tt
 filter_shown units p q [] (t ∷ tops) h e = absurd h
@@ -61,7 +61,7 @@ filter_shown units p q (a ∷ rows) (t ∷ tops) h e = by (p a) (q t) (e a t (in
     by false true e more = absurd cc
     by false false e more = more
 
-pub map_shown : {X : Type 0} (units : List (FileUnit Spot)) (f : TopFacts → X) (g : Top → X) (rows : List TopFacts) (tops : List Top) → SameRows units rows tops
+pub map_shown : {X : Type 0} (units : List (FileUnit EntryName)) (f : TopFacts → X) (g : Top → X) (rows : List TopFacts) (tops : List Top) → SameRows units rows tops
     → ((a : TopFacts) (t : Top) → In a rows → SameRow units a t → f a ≡ g t) → map g tops ≡ map f rows
 map_shown units f g [] [] h e = refl
 map_shown units f g [] (t ∷ tops) h e = absurd h

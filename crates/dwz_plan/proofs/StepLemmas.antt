@@ -5,23 +5,23 @@ use Rattle.std.specs.List.{flat_map, list_any, range_with_len, zip}
 use Rattle.std.proofs.lemmas.Bool.{and_from, cases_eq, ne_eqb}
 use Rattle.std.proofs.lemmas.List.{get_or-map, length-map}
 use Rattle.std.proofs.lemmas.List.Elements.{All-map, filter_agree}
-use Rattle.dwz_docs.specs.Lists.{In}
-use Rattle.dwz_docs.proofs.ListFacts.{in_left, in_map, in_right}
+use Rattle.dwz_def_reading.specs.Lists.{In}
+use Rattle.dwz_def_reading.proofs.ListFacts.{in_left, in_map, in_right}
 use Rattle.dwz_groups.specs.declared.tops.TopRow.{TopRow}
 use Rattle.dwz_groups.specs.declared.tops.Tops.{Tops}
-use Rattle.dwz_moving.specs.Homes.{Common, Home, Local, Stay, same_home}
-use Rattle.dwz_moving.specs.Plan.{distinct}
-use Rattle.dwz_moving.proofs.PlanLemmas.{in_distinct}
-use Rattle.dwz_alike.specs.Spots.{same_numbers}
+use Rattle.dwz_def_plan.specs.Homes.{Common, Home, Local, Stay, same_home}
+use Rattle.dwz_def_plan.specs.Plan.{distinct}
+use Rattle.dwz_def_plan.proofs.PlanLemmas.{in_distinct}
+use Rattle.dwz_def_tops.specs.Spots.{same_numbers}
 use Rattle.dwz_plan.specs.declared.plan.Home.{Home as Place}
 use Rattle.dwz_plan.specs.declared.plan.Home.TheVariants.{Stay as InUnit}
 use Rattle.dwz_plan.specs.declared.plan.Partial.{Partial}
-use Rattle.dwz_plan.specs.declared.plan.Sharing.{Sharing}
+use Rattle.dwz_plan.specs.declared.plan.Scope.{Scope}
 use Rattle.dwz_groups.specs.Groups.{grouped, values_at}
 use Rattle.dwz_plan.specs.Planned.{alike, home, home_of, number_in, numbers, partials, place, place_at, rep, reps_of, representatives, units_of, users}
 use Rattle.dwz_plan.specs.Rows.{Given, TopFacts, given, rows_from}
 use Rattle.dwz_plan.specs.Steps.{all_keys, keys_under, lists_of, movers_by, number_of, numbered, pair, partial_of, partials_of, parts_by, placed, placed_by, unit_pairs, users_at}
-use Rattle.dwz_groups.specs.declared.groups.Pair.{Pair}
+use Rattle.dwz_groups.specs.declared.groups.Edge.{Edge}
 use Rattle.dwz_plan.proofs.DistinctLemmas.{distinct_apart, has_from, number_is, zip_range}
 use Rattle.dwz_plan.proofs.HomeLemmas.{local_low}
 use Rattle.dwz_plan.proofs.LedLemmas.{Counted, counted_below, counted_from, row_in, row_number, rows_counted, same_row, stood, stood_leads}
@@ -31,8 +31,8 @@ use Rattle.dwz_plan.proofs.MoverLemmas.{led_lists, movers_are, movers_of}
 use Rattle.dwz_plan.proofs.PartialLemmas.{Homed, all_homes, homed, movers_split, part_among, partials_among, tops_with}
 use Rattle.dwz_plan.proofs.RowLemmas.{alike_same, length-rows_from, rep_stays}
 use Rattle.dwz_plan.proofs.UserLemmas.{led_users, led_users_yes}
-use Rattle.dwz_seen.proofs.Members.{in_filter, in_filter_from, in_map_from}
-use Rattle.dwz_alike.proofs.SpotLemmas.{numbers_same, numbers_true}
+use Rattle.dwz_def_tops.proofs.Members.{in_filter, in_filter_from, in_map_from}
+use Rattle.dwz_def_tops.proofs.SpotLemmas.{numbers_same, numbers_true}
 
 -- ---- the row of a number
 
@@ -55,10 +55,10 @@ unfolding values_at
 values_of f [] k = refl
 values_of f (a ∷ rows) k = by (f a == k) (values_of f rows k)
   where
-    rest : List Pair
-    rest = filter (λ (p : Pair). p.key == k) (map (λ (b : TopFacts). pair (f b) b.number) rows)
+    rest : List Edge
+    rest = filter (λ (p : Edge). p.key == k) (map (λ (b : TopFacts). pair (f b) b.number) rows)
 
-    by : (t : Bool) → map (λ (p : Pair). p.value) rest ≡ numbers (filter (λ b. f b == k) rows) → map (λ (p : Pair). p.value) (cond t (pair (f a) a.number ∷ rest) rest)
+    by : (t : Bool) → map (λ (p : Edge). p.value) rest ≡ numbers (filter (λ b. f b == k) rows) → map (λ (p : Edge). p.value) (cond t (pair (f a) a.number ∷ rest) rest)
         ≡ numbers (cond t (a ∷ filter (λ b. f b == k) rows) (filter (λ b. f b == k) rows))
     by true more = ap (λ (ns : List ℕ). a.number ∷ ns) more
     by false more = more
@@ -117,7 +117,7 @@ place_stays n = refl
 
 -- ---- the steps, on the rows that tops are
 
-module _ (scope : Sharing) (tops : Tops) (least : List ℕ) where
+module _ (scope : Scope) (tops : Tops) (least : List ℕ) where
   abbrev pub the_rows : List TopFacts
   the_rows = rows_from tops.files_of_units 0 tops.rows least
 

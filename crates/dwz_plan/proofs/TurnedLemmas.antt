@@ -8,7 +8,7 @@ use Rattle.std.proofs.lemmas.List.Elements.{All-append, All-cons, All-filter, Al
 use Rattle.dwz_groups.specs.declared.tops.TopRow.{TopRow}
 use Rattle.dwz_groups.specs.Groups.{grouped, values_at}
 use Rattle.dwz_plan.specs.Steps.{all_keys, keys_under, pair, turned, unit_pairs}
-use Rattle.dwz_groups.specs.declared.groups.Pair.{Pair}
+use Rattle.dwz_groups.specs.declared.groups.Edge.{Edge}
 
 -- ---- what stands in the pairs
 
@@ -18,12 +18,12 @@ unit_keys units [] reps all = λ k d l. absurd (omega arith)
 unit_keys units (r ∷ rows) [] all = λ k d l. absurd (omega arith)
 unit_keys units (r ∷ rows) (n ∷ reps) all = by r.movable (unit_keys units rows reps (All-tail (λ (r : TopRow). r.unit < units) r rows all))
   where
-    rest : List Pair
+    rest : List Edge
     rest = map (λ (p : TopRow × ℕ). pair p.0.unit p.1) (filter (λ (p : TopRow × ℕ). p.0.movable) (zip rows reps))
 
     by : (t : Bool) → All (λ p. p.key < units) (unit_pairs rows reps) → All (λ p. p.key < units)
         (map (λ (p : TopRow × ℕ). pair p.0.unit p.1) (cond t ((r, n) ∷ filter (λ (p : TopRow × ℕ). p.0.movable) (zip rows reps)) (filter (λ (p : TopRow × ℕ). p.0.movable) (zip rows reps))))
-    by true more = All-cons (λ (p : Pair). p.key < units) (pair r.unit n) rest (All-head (λ (r : TopRow). r.unit < units) r rows all) more
+    by true more = All-cons (λ (p : Edge). p.key < units) (pair r.unit n) rest (All-head (λ (r : TopRow). r.unit < units) r rows all) more
     by false more = more
 
 pub unit_values : (m : ℕ) (rows : List TopRow) (reps : List ℕ) → All (λ n. n < m) reps → All (λ p. p.value < m) (unit_pairs rows reps)
@@ -32,19 +32,19 @@ unit_values m [] reps all = λ k d l. absurd (omega arith)
 unit_values m (r ∷ rows) [] all = λ k d l. absurd (omega arith)
 unit_values m (r ∷ rows) (n ∷ reps) all = by r.movable (unit_values m rows reps (All-tail (λ n. n < m) n reps all))
   where
-    rest : List Pair
+    rest : List Edge
     rest = map (λ (p : TopRow × ℕ). pair p.0.unit p.1) (filter (λ (p : TopRow × ℕ). p.0.movable) (zip rows reps))
 
     by : (t : Bool) → All (λ p. p.value < m) (unit_pairs rows reps) → All (λ p. p.value < m)
         (map (λ (p : TopRow × ℕ). pair p.0.unit p.1) (cond t ((r, n) ∷ filter (λ (p : TopRow × ℕ). p.0.movable) (zip rows reps)) (filter (λ (p : TopRow × ℕ). p.0.movable) (zip rows reps))))
-    by true more = All-cons (λ (p : Pair). p.value < m) (pair r.unit n) rest (All-head (λ n. n < m) n reps all) more
+    by true more = All-cons (λ (p : Edge). p.value < m) (pair r.unit n) rest (All-head (λ n. n < m) n reps all) more
     by false more = more
 
-pub values_all : (P : ℕ → Type 0) (pairs : List Pair) (k : ℕ) → All (λ p. P p.value) pairs → All P (values_at pairs k)
+pub values_all : (P : ℕ → Type 0) (pairs : List Edge) (k : ℕ) → All (λ p. P p.value) pairs → All P (values_at pairs k)
 unfolding values_at
-values_all P pairs k all = All-map P (λ (p : Pair). p.value) (filter (λ (p : Pair). p.key == k) pairs) (All-filter (λ (p : Pair). p.key == k) (λ (p : Pair). P p.value) pairs all)
+values_all P pairs k all = All-map P (λ (p : Edge). p.value) (filter (λ (p : Edge). p.key == k) pairs) (All-filter (λ (p : Edge). p.key == k) (λ (p : Edge). P p.value) pairs all)
 
-pub grouped_all : (P : ℕ → Type 0) (n : ℕ) (pairs : List Pair) → All (λ p. P p.value) pairs → All (λ ns. All P ns) (grouped n pairs)
+pub grouped_all : (P : ℕ → Type 0) (n : ℕ) (pairs : List Edge) → All (λ p. P p.value) pairs → All (λ ns. All P ns) (grouped n pairs)
 unfolding grouped
 grouped_all P n pairs all = All-map (λ (ns : List ℕ). All P ns) (values_at pairs) (range_with_len 0 n) (λ k d l. values_all P pairs (get_or (range_with_len 0 n) k d) all)
 
@@ -52,14 +52,14 @@ pub turned_all : (P : ℕ → Type 0) (n : ℕ) (lists : List (List ℕ)) → Al
 unfolding turned
 turned_all P n [] all = λ k d l. absurd (omega arith)
 turned_all P n (ns ∷ lists) all =
-    All-append (λ (p : Pair). P p.key) (map (λ k. pair k n) ns) (turned (n + 1) lists) (All-map (λ (p : Pair). P p.key) (λ k. pair k n) ns (All-head (λ (ns : List ℕ). All P ns) ns lists all))
+    All-append (λ (p : Edge). P p.key) (map (λ k. pair k n) ns) (turned (n + 1) lists) (All-map (λ (p : Edge). P p.key) (λ k. pair k n) ns (All-head (λ (ns : List ℕ). All P ns) ns lists all))
     (turned_all P (n + 1) lists (All-tail (λ (ns : List ℕ). All P ns) ns lists all))
 
 turned_values : (s n : ℕ) (lists : List (List ℕ)) → s < n → All (λ p. s < p.value) (turned n lists)
 unfolding turned
 turned_values s n [] l = λ k d l. absurd (omega arith)
 turned_values s n (ns ∷ lists) l =
-    All-append (λ (p : Pair). s < p.value) (map (λ k. pair k n) ns) (turned (n + 1) lists) (All-map (λ (p : Pair). s < p.value) (λ k. pair k n) ns (λ k d in'. l))
+    All-append (λ (p : Edge). s < p.value) (map (λ k. pair k n) ns) (turned (n + 1) lists) (All-map (λ (p : Edge). s < p.value) (λ k. pair k n) ns (λ k d in'. l))
     (turned_values s (n + 1) lists (omega arith))
 
 -- ---- one more list
@@ -69,7 +69,7 @@ unfolding turned
 turned-push n [] ns = append-nil (map (λ k. pair k n) ns) ∙ (let e : n ≡ n + 0 = omega arith in ap (λ m. map (λ k. pair k m) ns) e)
 turned-push n (l ∷ lists) ns =
     let e : n + 1 + length lists ≡ n + suc (length lists) = omega arith in
-    ap (λ (ps : List Pair). map (λ k. pair k n) l ++ ps) (turned-push (n + 1) lists ns ∙ ap (λ m. turned (n + 1) lists ++ map (λ k. pair k m) ns) e)
+    ap (λ (ps : List Edge). map (λ k. pair k n) l ++ ps) (turned-push (n + 1) lists ns ∙ ap (λ m. turned (n + 1) lists ++ map (λ k. pair k m) ns) e)
     ∙ sym (append_assoc (map (λ k. pair k n) l) (turned (n + 1) lists) (map (λ k. pair k (n + suc (length lists))) ns))
 
 pub turned-none : turned 0 [] ≡ []
@@ -94,15 +94,15 @@ values-turned_one s v [] = refl
 values-turned_one s v (n ∷ ns) = by (n == v) (values-turned_one s v ns)
   where
     by : (t : Bool) → values_at (map (λ k. pair k s) ns) v ≡ repeats s v ns
-        → map (λ (p : Pair). p.value) (cond t (pair n s ∷ filter (λ (p : Pair). p.key == v) (map (λ k. pair k s) ns)) (filter (λ (p : Pair). p.key == v) (map (λ k. pair k s) ns)))
+        → map (λ (p : Edge). p.value) (cond t (pair n s ∷ filter (λ (p : Edge). p.key == v) (map (λ k. pair k s) ns)) (filter (λ (p : Edge). p.key == v) (map (λ k. pair k s) ns)))
         ≡ cond t (s ∷ repeats s v ns) (repeats s v ns)
     by true more = ap (λ (xs : List ℕ). s ∷ xs) more
     by false more = more
 
-pub values_at-append : (ps qs : List Pair) (v : ℕ) → values_at (ps ++ qs) v ≡ values_at ps v ++ values_at qs v
+pub values_at-append : (ps qs : List Edge) (v : ℕ) → values_at (ps ++ qs) v ≡ values_at ps v ++ values_at qs v
 unfolding values_at
-values_at-append ps qs v = ap (map (λ (p : Pair). p.value)) (filter-append (λ (p : Pair). p.key == v) ps qs) ∙ map-append (λ (p : Pair). p.value) (filter (λ (p : Pair). p.key == v) ps)
-    (filter (λ (p : Pair). p.key == v) qs)
+values_at-append ps qs v = ap (map (λ (p : Edge). p.value)) (filter-append (λ (p : Edge). p.key == v) ps qs) ∙ map-append (λ (p : Edge). p.value) (filter (λ (p : Edge). p.key == v) ps)
+    (filter (λ (p : Edge). p.key == v) qs)
 
 dedup_from-above : (s : ℕ) (ys : List ℕ) → All (λ y. s < y) ys → dedup_from nat_eq s ys ≡ s ∷ dedup nat_eq ys
 dedup_from-above s [] all = refl
@@ -129,25 +129,25 @@ dedup-repeats s v (n ∷ ns) ys all = by (n == v) (dedup-repeats s v ns ys all)
     by false more = more
 
 -- the value is among those under the key
-any_value : (pairs : List Pair) (k v : ℕ) → list_any (λ n. n == v) (values_at pairs k) ≡ list_any (λ p. p.key == k && p.value == v) pairs
+any_value : (pairs : List Edge) (k v : ℕ) → list_any (λ n. n == v) (values_at pairs k) ≡ list_any (λ p. p.key == k && p.value == v) pairs
 unfolding values_at
 any_value [] k v = refl
 any_value (p ∷ pairs) k v = by (p.key == k) (any_value pairs k v)
   where
     by : (t : Bool) → list_any (λ n. n == v) (values_at pairs k) ≡ list_any (λ p. p.key == k && p.value == v) pairs
-        → list_any (λ n. n == v) (map (λ (p : Pair). p.value) (cond t (p ∷ filter (λ (q : Pair). q.key == k) pairs) (filter (λ (q : Pair). q.key == k) pairs)))
+        → list_any (λ n. n == v) (map (λ (p : Edge). p.value) (cond t (p ∷ filter (λ (q : Edge). q.key == k) pairs) (filter (λ (q : Edge). q.key == k) pairs)))
         ≡ ((t && p.value == v) || list_any (λ p. p.key == k && p.value == v) pairs)
     by true more = ap (λ b. p.value == v || b) more
     by false more = more
 
-keys_from : (pairs : List Pair) (v s n : ℕ) → dedup nat_eq (values_at (turned s (map (values_at pairs) (range_with_len s n))) v) ≡ filter (λ k. list_any (λ p. p.key == k && p.value == v) pairs)
+keys_from : (pairs : List Edge) (v s n : ℕ) → dedup nat_eq (values_at (turned s (map (values_at pairs) (range_with_len s n))) v) ≡ filter (λ k. list_any (λ p. p.key == k && p.value == v) pairs)
     (range_with_len s n)
 unfolding turned values_at
 keys_from pairs v s zero = refl
 keys_from pairs v s (suc n) =
     let ns : List ℕ = values_at pairs s in
     let lists : List (List ℕ) = map (values_at pairs) (range_with_len (s + 1) n) in
-    let rest : List Pair = turned (s + 1) lists in
+    let rest : List Edge = turned (s + 1) lists in
     let above : All (λ y. s < y) (values_at rest v) = values_all (λ y. s < y) rest v (turned_values s (s + 1) lists (omega arith)) in
     ap (dedup nat_eq) (values_at-append (map (λ k. pair k s) ns) rest v ∙ ap (λ (xs : List ℕ). xs ++ values_at rest v) (values-turned_one s v ns))
     ∙ (dedup-repeats s v ns (values_at rest v) above
@@ -157,7 +157,7 @@ map_same : {X Y Z : Type 0} (f : Y → Z) (g : X → Y) (h : X → Z) (xs : List
 map_same f g h [] e = refl
 map_same f g h (x ∷ xs) e = (λ i. e x i ∷ map_same f g h xs e i)
 
-pub all_keys_is : (m n : ℕ) (pairs : List Pair) → map (dedup nat_eq) (grouped m (turned 0 (grouped n pairs))) ≡ all_keys m n pairs
+pub all_keys_is : (m n : ℕ) (pairs : List Edge) → map (dedup nat_eq) (grouped m (turned 0 (grouped n pairs))) ≡ all_keys m n pairs
 unfolding all_keys grouped keys_under
 all_keys_is m n pairs = map_same (dedup nat_eq) (values_at (turned 0 (map (values_at pairs) (range_with_len 0 n))))
     (λ v. filter (λ k. list_any (λ p. p.key == k && p.value == v) pairs) (range_with_len 0 n)) (range_with_len 0 m) (λ v. keys_from pairs v 0 n)

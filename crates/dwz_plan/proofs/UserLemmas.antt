@@ -2,14 +2,14 @@
 use Rattle.std.proofs.Common.{◌≡◌, ℕ, suc, ◌==◌, ◌&&◌, ◌||◌, cond, Bool, true, false, List, [], ◌∷◌, length, map, filter, refl, sym, ap, ◌∙◌}
 use Rattle.std.specs.List.{list_any, range_with_len, zip}
 use Rattle.std.proofs.lemmas.List.Elements.{filter_agree}
-use Rattle.dwz_docs.specs.Lists.{In}
+use Rattle.dwz_def_reading.specs.Lists.{In}
 use Rattle.dwz_groups.specs.declared.tops.TopRow.{TopRow}
 use Rattle.dwz_groups.specs.declared.tops.Tops.{Tops}
-use Rattle.dwz_plan.specs.declared.plan.Sharing.{Sharing}
+use Rattle.dwz_plan.specs.declared.plan.Scope.{Scope}
 use Rattle.dwz_plan.specs.Planned.{alike, rep, reps_of, users}
 use Rattle.dwz_plan.specs.Rows.{TopFacts, given, row_of, rows_from}
 use Rattle.dwz_plan.specs.Steps.{keys_under, pair, unit_pairs}
-use Rattle.dwz_groups.specs.declared.groups.Pair.{Pair}
+use Rattle.dwz_groups.specs.declared.groups.Edge.{Edge}
 use Rattle.dwz_plan.proofs.ListFacts.{any_in, any_not, filter_no}
 use Rattle.dwz_plan.proofs.LedLemmas.{Counted, is_led, led_is, led_none, rows_counted}
 
@@ -20,7 +20,7 @@ any_pairs f files s [] least k v = refl
 any_pairs f files s (t ∷ tops) [] k v = refl
 any_pairs f files s (t ∷ tops) (l ∷ least) k v = by t.movable (any_pairs f files (suc s) tops least k v)
   where
-    test : Pair → Bool
+    test : Edge → Bool
     test p = p.key == k && p.value == v
 
     rest : List (TopRow × ℕ)
@@ -37,10 +37,10 @@ any_pairs f files s (t ∷ tops) (l ∷ least) k v = by t.movable (any_pairs f f
     by false more = more ∙ ap (λ u. u || list_any (λ b. b.unit == k && (b.movable && f b == v)) (rows_from files (suc s) tops least)) (sym (fixed (t.unit == k)))
 
 -- the users of the row with a number, by the steps
-abbrev pub led_users : Tops → List ℕ → Sharing → ℕ → List ℕ
+abbrev pub led_users : Tops → List ℕ → Scope → ℕ → List ℕ
 led_users tops least scope n = keys_under (length tops.files_of_units) (unit_pairs tops.rows (reps_of (given scope tops least))) n
 
-module _ (scope : Sharing) (tops : Tops) (least : List ℕ) where
+module _ (scope : Scope) (tops : Tops) (least : List ℕ) where
   rows_are : Counted 0 (rows_from tops.files_of_units 0 tops.rows least)
   rows_are = rows_counted tops.files_of_units 0 tops.rows least
 

@@ -2,8 +2,8 @@
 use Rattle.std.specs.Prelude.{◌≡◌, ℕ, zero, suc, ◌+◌, Bool, true, false, List, [], ◌∷◌, ◌++◌, Option, Some, None, ◌==◌, ◌&&◌, not, filter}
 use Rattle.std.specs.Prelude.{length, map, slice_index_or, if◌then◌else◌}
 use Rattle.dwz_groups.specs.Groups.{grouped}
-use Rattle.dwz_gain.specs.Gaining.{edges_from, gains_alone, weight_of}
-use Rattle.dwz_spread.specs.Spreading.{IsSpread}
+use Rattle.dwz_plan.specs.Gaining.{edges_from, gains_alone, weight_of}
+use Rattle.dwz_groups.specs.Spreading.{IsSpread}
 use Rattle.dwz_plan.specs.declared.plan.Home.{Home as Place}
 use Rattle.dwz_plan.specs.declared.plan.Home.TheVariants.{Common as InCommon, Local as InFile, Stay as InUnit}
 use Rattle.dwz_plan.specs.declared.plan.Partial.{Partial}

@@ -1,3 +1,6 @@
+pub mod GainLaws
+pub mod Gaining
+pub mod Groups
 pub mod Classes
 pub mod Gained
 pub mod PlanLaws

@@ -2,25 +2,25 @@
 use Rattle.std.specs.Prelude.{ℕ, suc, Bool, true, List, [], ◌∷◌, ◌++◌, ◌==◌, ◌&&◌, filter, find, length, map, slice_index, if◌then◌else◌}
 use Rattle.std.specs.Option.{option_map_or}
 use Rattle.std.specs.List.{flat_map, list_any, position_or_len, range_with_len}
-use Rattle.dwz_docs.specs.Lists.{has}
-use Rattle.dwz_moving.specs.Homes.{Common, Home, Local, Stay, home_in, same_home}
-use Rattle.dwz_moving.specs.Plan.{distinct}
-use Rattle.dwz_alike.specs.Spots.{same_numbers}
+use Rattle.dwz_def_reading.specs.Rows.{has}
+use Rattle.dwz_def_plan.specs.Homes.{Common, Home, Local, Stay, home_in, same_home}
+use Rattle.dwz_def_plan.specs.Plan.{distinct}
+use Rattle.dwz_def_tops.specs.Spots.{same_numbers}
 use Rattle.dwz_plan.specs.declared.plan.Home.{Home as Place}
 use Rattle.dwz_plan.specs.declared.plan.Home.TheVariants.{Common as InCommon, Local as InFile, Stay as InUnit}
 use Rattle.dwz_plan.specs.declared.plan.Partial.{Partial}
-use Rattle.dwz_plan.specs.declared.plan.Sharing.{Sharing}
-use Rattle.dwz_plan.specs.declared.plan.Sharing.TheVariants.{Together, Each}
+use Rattle.dwz_plan.specs.declared.plan.Scope.{Scope}
+use Rattle.dwz_plan.specs.declared.plan.Scope.TheVariants.{Together, Each}
 use Rattle.dwz_plan.specs.Rows.{Given, TopFacts}
 
 -- ---- alike, users, the one that stands for all
 
-abbrev pub in_scope : Sharing → TopFacts → TopFacts → Bool
+abbrev pub in_scope : Scope → TopFacts → TopFacts → Bool
 in_scope Together a b = true
 in_scope Each a b = a.file == b.file
 
 -- both may move, in one scope, with one least
-abbrev pub alike : Sharing → TopFacts → TopFacts → Bool
+abbrev pub alike : Scope → TopFacts → TopFacts → Bool
 alike scope a b = a.movable && (b.movable && (in_scope scope a b && a.least == b.least))
 
 abbrev pub units_of : Given → List ℕ

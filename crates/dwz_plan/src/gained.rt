@@ -1,10 +1,10 @@
 //! What is left of a plan: the partial units that gain.
 ghost use Rattle.std.specs.Prelude.{◌≡◌, ℕ, ◌+◌, ◌-◌, ◌<◌, ◌≤◌, ◌^◌, ◌++◌, All, length, map, IfOk, slice_index, slice_index_or, ◌∷◌, []};
-ghost use Rattle.dwz_gain.specs.Gaining.{AreNumbers, weights_of};
+ghost use Rattle.dwz_plan.specs.Gaining.{AreNumbers, weights_of};
 ghost use Rattle.dwz_plan.specs.Gained.{AreMarks, among, before, group_of, part_seed, place_after};
 
 use crate::plan::{Home, Partial};
-use dwz_gain::{gaining_groups, gains_by_itself};
+use crate::{gaining_groups, gains_by_itself};
 use dwz_groups::{TopRow, Tops};
 use dwz_model::NoMemory;
 use std::alloc::Global;

@@ -17,7 +17,7 @@ use std::marker::Model;
 
 /// Which files may share.
 #[derive(Clone, Copy, Debug, PartialEq, Eq)]
-pub enum Sharing {
+pub enum Scope {
     /// All files together.
     Together,
     /// Each file by itself.
@@ -55,7 +55,7 @@ struct Moves {
     reps: Vec<u32>,
 }
 
-fn find_moves(alloc: Global, tops: &Tops, least: &[u32], scope: Sharing) -> Result<Moves, NoMemory>
+fn find_moves(alloc: Global, tops: &Tops, least: &[u32], scope: Scope) -> Result<Moves, NoMemory>
     requires rows { length tops.now.rows < 2 ^ 32 }
     requires units { length tops.now.files_of_units < 2 ^ 32 }
     requires least { length least.now ≡ length tops.now.rows }
@@ -116,7 +116,7 @@ impl Plan {
     /// are alike to none. Where each file is by itself, equal numbers in different files don't make tops alike.
     /// A group of tops, those with the same users, moves if that saves more than it takes, or if a top of a group that
     /// moves refers into it; all else stays.
-    pub fn make(alloc: Global, tops: &Tops, least: &[u32], scope: Sharing) -> Result<Plan, NoMemory>
+    pub fn make(alloc: Global, tops: &Tops, least: &[u32], scope: Scope) -> Result<Plan, NoMemory>
         requires rows { length tops.now.rows < 2 ^ 32 }
         requires units { length tops.now.files_of_units < 2 ^ 32 }
         requires least { length least.now ≡ length tops.now.rows }
@@ -174,7 +174,7 @@ impl Plan {
     }
 
     /// The tops of a unit that stay: first the pinned ones and then the others, both in order.
-    pub fn kept_tops(&self, unit: u32) -> &[u32]
+    pub fn kept(&self, unit: u32) -> &[u32]
         requires { unit < length self.now.kept }
         ensures { result.now ≡ slice_index_or self.now.kept unit [] }
     {

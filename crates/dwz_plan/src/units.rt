@@ -7,12 +7,12 @@ ghost use Rattle.dwz_plan.specs.Steps.{is_in_unit, same_bool, staying_pairs, tur
 use crate::homes::stays;
 use crate::plan::{Home, Partial};
 use crate::users::push_turned;
-use dwz_groups::{Groups, Pair, TopRow, group};
+use dwz_groups::{Edge, Groups, TopRow, group};
 use dwz_model::NoMemory;
 use std::alloc::Global;
 
 // Appends a pair if it is wanted.
-fn push_if(pairs: &mut Vec<Pair>, wanted: bool, pair: Pair) -> Result<(), NoMemory>
+fn push_if(pairs: &mut Vec<Edge>, wanted: bool, pair: Edge) -> Result<(), NoMemory>
     ensures { OnOk result (pairs.new.items ≡ pairs.old.items ++ (if wanted then pair ∷ [] else [])) }
 {
     if wanted {
@@ -30,7 +30,7 @@ fn is_kept(pinned: bool, home: Home, wanted: bool) -> bool
 
 // Appends under its unit each top that stays, of those that are pinned or of the others.
 fn push_staying(
-    pairs: &mut Vec<Pair>,
+    pairs: &mut Vec<Edge>,
     rows: &[TopRow],
     homes: &[Home],
     pinned: bool,
@@ -41,7 +41,7 @@ fn push_staying(
 {
     for (top, row) in rows.iter().enumerate() {
         let wanted = is_kept(row.pinned, homes[top], pinned);
-        let pair = Pair {
+        let pair = Edge {
             key: row.unit,
             value: top as u32,
         };

@@ -2,19 +2,19 @@
 ghost use Rattle.std.specs.Prelude.{◌≡◌, ℕ, ◌+◌, ◌-◌, ◌<◌, ◌≤◌, ◌^◌, ◌++◌, All, length, map, IfOk, OnOk};
 ghost use Rattle.dwz_plan.specs.Steps.{all_keys, pair, turned, unit_pairs};
 
-use dwz_groups::{Groups, Pair, TopRow, group};
+use dwz_groups::{Edge, Groups, TopRow, group};
 use dwz_model::NoMemory;
 use std::alloc::Global;
 
 // Under the unit of each top that can be moved, the top that stands for it.
 #[tactic(auto, unfolding(crate::specs::Steps::unit_pairs))]
-fn unit_pairs(alloc: Global, rows: &[TopRow], reps: &[u32]) -> Result<Vec<Pair>, NoMemory>
+fn unit_pairs(alloc: Global, rows: &[TopRow], reps: &[u32]) -> Result<Vec<Edge>, NoMemory>
     ensures { IfOk result (λ pairs. pairs.items ≡ unit_pairs rows.now reps.now) }
 {
     rows.iter()
         .zip(reps)
         .filter(|(row, _)| row.movable)
-        .map(|(row, rep)| Pair {
+        .map(|(row, rep)| Edge {
             key: row.unit,
             value: *rep,
         })
@@ -22,17 +22,17 @@ fn unit_pairs(alloc: Global, rows: &[TopRow], reps: &[u32]) -> Result<Vec<Pair>,
 }
 
 /// Appends a value under each of these keys.
-pub(crate) fn push_turned(pairs: &mut Vec<Pair>, keys: &[u32], value: u32) -> Result<(), NoMemory>
+pub(crate) fn push_turned(pairs: &mut Vec<Edge>, keys: &[u32], value: u32) -> Result<(), NoMemory>
     ensures { OnOk result (pairs.new.items ≡ pairs.old.items ++ map (λ k. pair k value) keys.now) }
 {
     for key in keys {
-        pairs.push(Pair { key: *key, value })?;
+        pairs.push(Edge { key: *key, value })?;
     }
     Ok(())
 }
 
 // Each number of a list as a key, with the number of the list.
-fn turn_lists(alloc: Global, lists: &Groups) -> Result<Vec<Pair>, NoMemory>
+fn turn_lists(alloc: Global, lists: &Groups) -> Result<Vec<Edge>, NoMemory>
     requires { length lists.now < 2 ^ 32 }
     ensures { IfOk result (λ pairs. pairs.items ≡ turned 0 lists.now) }
 {

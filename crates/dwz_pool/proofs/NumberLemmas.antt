@@ -5,9 +5,9 @@ use Rattle.std.proofs.lemmas.Bool.{cases_Bool, eqb-true, eq-eqb, false_from_ne_t
 use Rattle.std.proofs.lemmas.List.{length-append}
 use Rattle.std.proofs.lemmas.List.Folds.{position_or_len_push}
 use Rattle.std.proofs.lemmas.Slice.Eq.{bytes_eq-Decides}
-use Rattle.dwz_docs.specs.TextRows.{number_of}
-use Rattle.dwz_docs.proofs.ListFacts.{get_last}
-use Rattle.dwz_docs.proofs.TextRowLemmas.{first_nowhere, first_stays, new_number, place_of_none, same_text}
+use Rattle.dwz_def_reading.specs.TextRows.{text_number}
+use Rattle.dwz_def_reading.proofs.ListFacts.{get_last}
+use Rattle.dwz_def_reading.proofs.TextRowLemmas.{first_nowhere, first_stays, new_number, place_of_none, same_text}
 use Rattle.dwz_pool.specs.declared.numbers.Numbers.{Numbers}
 use Rattle.dwz_pool.specs.Numbered.{AreNumbered, IsAdded, IsFirst, IsOther, first_in, found_from, found_in, is_text, other_in, text_hash}
 
@@ -26,9 +26,9 @@ module _ (texts : List (List ℕ)) (text : List ℕ) where
       by : bytes_eq text other ≡ true → ⊥
       by same = cc
 
-    number_stays : number_of more other ≡ number_of texts other
-    number_stays = go (number_of texts other) refl where
-      go : (o : Option ℕ) → number_of texts other ≡ o → number_of more other ≡ number_of texts other
+    number_stays : text_number more other ≡ text_number texts other
+    number_stays = go (text_number texts other) refl where
+      go : (o : Option ℕ) → text_number texts other ≡ o → text_number more other ≡ text_number texts other
       go (Some n) e = first_stays (bytes_eq other) texts n text e ∙ sym e
       go None e =
           let before = position_or_len (bytes_eq other) texts in
@@ -63,7 +63,7 @@ module _ (texts : List (List ℕ)) (text : List ℕ) where
     before : is_text (slice_get texts n) text ≡ false
     before = false_from_ne_true _ (λ is. none_is_some (sym none ∙ ap (λ (b : Bool). cond b (Some n) rest) is))
 
-  module _ (old new : Numbers) (numbered : AreNumbered texts old) (is_new : number_of texts text ≡ None) where
+  module _ (old new : Numbers) (numbered : AreNumbered texts old) (is_new : text_number texts text ≡ None) where
     abbrev hash : ℕ
     hash = text_hash text
 
@@ -81,9 +81,9 @@ module _ (texts : List (List ℕ)) (text : List ℕ) where
       last_is : (other : List ℕ) (rest : Option ℕ) → found_from more (Some (length texts)) rest other ≡ cond (bytes_eq text other) (Some (length texts)) rest
       last_is other rest = ap (λ (o : Option (List ℕ)). cond (is_text o other) (Some (length texts)) rest) (get_last texts text)
 
-      found_first : (other : List ℕ) → found_in more new (text_hash other) other ≡ number_of more other
+      found_first : (other : List ℕ) → found_in more new (text_hash other) other ≡ text_number more other
       found_first other = elim (cases_Bool (bytes_eq text other)) [
-        | inl same ↦ subst (λ (t : List ℕ). found_in more new (text_hash t) t ≡ number_of more t) ((bytes_eq-Decides text other).0 same)
+        | inl same ↦ subst (λ (t : List ℕ). found_in more new (text_hash t) t ≡ text_number more t) ((bytes_eq-Decides text other).0 same)
             (ap (λ (o : Option ℕ). found_from more o (other_in new text) text) (first_here hash (eq-eqb hash hash refl))
             ∙ last_is text (other_in new text) ∙ ap (λ (b : Bool). cond b (Some (length texts)) (other_in new text)) (same_text text)
             ∙ sym (new_number texts text is_new))
@@ -124,9 +124,9 @@ module _ (texts : List (List ℕ)) (text : List ℕ) where
         go None is_there e = absurd cc
         go (Some n) is_there e = found_last n (other_in old text) (ap (λ (o : Option ℕ). found_from texts o (other_in old text) text) (sym e) ∙ numbered.found text ∙ is_new)
 
-      found_other : (other : List ℕ) → found_in more new (text_hash other) other ≡ number_of more other
+      found_other : (other : List ℕ) → found_in more new (text_hash other) other ≡ text_number more other
       found_other other = elim (cases_Bool (bytes_eq text other)) [
-        | inl same ↦ subst (λ (t : List ℕ). found_in more new (text_hash t) t ≡ number_of more t) ((bytes_eq-Decides text other).0 same)
+        | inl same ↦ subst (λ (t : List ℕ). found_in more new (text_hash t) t ≡ text_number more t) ((bytes_eq-Decides text other).0 same)
             (found_here ∙ sym (new_number texts text is_new))
         | inr differ ↦
             (λ j. found_from more (behind.firsts (text_hash other) j) (other_there other differ j) other)

@@ -5,8 +5,8 @@ use Rattle.std.proofs.lemmas.Grind.{flat_map-append}
 use Rattle.std.proofs.lemmas.List.{append-nil, drop-append-le, length-append, length-drop, length-map, length-take-le, map-append, take-append-le}
 use Rattle.std.proofs.lemmas.Option.{slice_get_read}
 use Rattle.std.proofs.Math.Seq.{drop-append_seam, take-append_seam}
-use Rattle.dwz_docs.specs.TextRows.{number_of, start_of_number, text_section}
-use Rattle.dwz_docs.proofs.TextRowLemmas.{different_more}
+use Rattle.dwz_def_reading.specs.TextRows.{start_of_number, text_number, text_section}
+use Rattle.dwz_def_reading.proofs.TextRowLemmas.{different_more}
 use Rattle.dwz_pool.specs.declared.rows.Place.{Place}
 use Rattle.dwz_pool.specs.declared.rows.Rows.{Rows}
 use Rattle.dwz_pool.specs.Stored.{AreSame, FollowEachOther, HasTexts, bytes_at, texts_in, texts_of}
@@ -73,7 +73,7 @@ texts_stay section more at end (p ∷ places) le follow =
     λ j. here j ∷ rest j
 
 -- room was made, and the text was appended
-module _ (old room new : Rows) (text : List ℕ) (has : HasTexts old) (is_new : number_of (texts_of old) text ≡ None) (few : length (texts_of old) < 2 ^ 32 - 1) (same : AreSame old room)
+module _ (old room new : Rows) (text : List ℕ) (has : HasTexts old) (is_new : text_number (texts_of old) text ≡ None) (few : length (texts_of old) < 2 ^ 32 - 1) (same : AreSame old room)
     (section_is : new.section.items ≡ room.section.items ++ (text ++ 0 ∷ []))
     (places_are : new.places.items ≡ room.places.items ++ record { start = length room.section.items; len = length text } ∷ []) where
   abbrev section : List ℕ

@@ -6,7 +6,7 @@ use Rattle.std.specs.Hash.FoldHasher.{finish, initial, write}
 use Rattle.std.specs.Option.{option_and_then}
 use Rattle.std.specs.Ordering.{nat_cmp}
 use Rattle.std.specs.Str.{bytes_eq}
-use Rattle.dwz_docs.specs.TextRows.{number_of}
+use Rattle.dwz_def_reading.specs.TextRows.{text_number}
 use Rattle.dwz_pool.specs.declared.numbers.Numbers.{Numbers}
 
 -- the hash of a text. Where hashes are equal the texts themselves are compared, so any function would do
@@ -40,7 +40,7 @@ found_in texts numbers hash text = found_from texts (first_in numbers hash) (oth
 
 pub record AreNumbered (texts : List (List ℕ)) (numbers : Numbers) : Type 0 where
   -- what is found for a text is its number
-  pub found : (text : List ℕ) → found_in texts numbers (text_hash text) text ≡ number_of texts text
+  pub found : (text : List ℕ) → found_in texts numbers (text_hash text) text ≡ text_number texts text
   -- a number is kept for a text itself only where one is kept for its hash
   pub behind : (text : List ℕ) → first_in numbers (text_hash text) ≡ None → other_in numbers text ≡ None
 

@@ -1,7 +1,7 @@
 -- How texts are held in memory.
 use Rattle.std.specs.Prelude.{◌≡◌, ℕ, ◌+◌, ◌^◌, ◌<◌, ◌≤◌, List, [], ◌∷◌, drop, length, map, take}
 use Rattle.std.specs.Vec.{vec_capacity, vec_len}
-use Rattle.dwz_docs.specs.TextRows.{AreDifferent, text_section}
+use Rattle.dwz_def_reading.specs.TextRows.{AreDifferent, text_section}
 use Rattle.dwz_pool.specs.declared.rows.Place.{Place}
 use Rattle.dwz_pool.specs.declared.rows.Rows.{Rows}
 

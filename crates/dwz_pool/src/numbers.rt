@@ -1,4 +1,7 @@
 //! The numbers of texts, by their hashes.
+//!
+//! They stand in ordered maps, so that n texts take n log n comparisons, whatever they are. The library's hash map has a fixed seed: a file
+//! could be made whose texts all meet in it.
 
 ghost use Rattle.std.specs.Prelude.{◌≡◌, ◌<◌, ◌%◌, [], All, IfOk, None, OnErr, OnOk, length, slice_get};
 ghost use Rattle.dwz_pool.specs.Numbered;

@@ -2,7 +2,7 @@
 
 ghost use Rattle.std.specs.Prelude.{◌≡◌, ◌+◌, ◌-◌, ◌^◌, ◌<◌, ◌++◌, ◌∷◌, [], None, Some, IfOk, OnErr, OnOk, length, slice_get};
 ghost use Rattle.std.specs.Option.{option_map};
-ghost use Rattle.dwz_docs.specs.TextRows.{AreDifferent, number_of, start_of, text_section, with_text};
+ghost use Rattle.dwz_def_reading.specs.TextRows.{AreDifferent, start_of, text_number, text_section, with_text};
 
 use crate::numbers::{Numbers, hash_of};
 use crate::rows::Rows;
@@ -67,7 +67,7 @@ impl Texts {
 
     /// The number of a text. None exactly where it isn't there.
     pub fn find(&self, text: &[u8]) -> Option<u32>
-        ensures { result ≡ number_of self.now text.now }
+        ensures { result ≡ text_number self.now text.now }
     {
         self.numbers.find(&self.rows, hash_of(text), text)
     }
@@ -84,7 +84,7 @@ impl Texts {
 
     // Appends a text that isn't there. After an error nothing has changed.
     fn add(&mut self, text: &[u8]) -> Result<(), NoMemory>
-        requires new { number_of self.old text.now ≡ None }
+        requires new { text_number self.old text.now ≡ None }
         requires few { length self.old < 2 ^ 32 - 1 }
         ensures ok { OnOk result (self.new ≡ self.old ++ text.now ∷ []) }
         ensures err { OnErr result (self.new ≡ self.old) }
@@ -103,7 +103,7 @@ impl Texts {
         requires few { length self.old < 2 ^ 32 - 1 }
         requires short { length (text_section self.old) + (length text.now + 1) < 2 ^ 64 }
         ensures ok { OnOk result (self.new ≡ with_text self.old text.now) }
-        ensures number { IfOk result (λ n. number_of self.new text.now ≡ Some n) }
+        ensures number { IfOk result (λ n. text_number self.new text.now ≡ Some n) }
         ensures err { OnErr result (self.new ≡ self.old) }
     {
         if let Some(number) = self.find(text) {

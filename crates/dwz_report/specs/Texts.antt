@@ -7,7 +7,8 @@ use Rattle.dwz_model.specs.declared.fault.Reason.TheVariants.{NotElf, FileType, 
 use Rattle.dwz_model.specs.declared.fault.Reason.TheVariants.{TooLarge, BadAbbrev, UnsupportedForm, Truncated, BadNumber, BadString}
 use Rattle.dwz_model.specs.declared.fault.Reason.TheVariants.{BadLineTable, BadFile, BadExpr, UnsupportedOp, BadList, SharedList}
 use Rattle.dwz_model.specs.declared.fault.Reason.TheVariants.{BadAranges, DwarfFormat, Version, UnitType, AddressSize, NoSuchCode, BadRoot}
-use Rattle.dwz_model.specs.declared.fault.Reason.TheVariants.{TooDeep, TooMany, BadReference, BadOperand, Machine, OperandWidth, FileSize}
+use Rattle.dwz_model.specs.declared.fault.Reason.TheVariants.{TooDeep, TooMany, BadReference, BadOperand, Machine, OperandWidth, FileSize, BadSup}
+use Rattle.dwz_model.specs.declared.fault.Reason.TheVariants.{Checksum, NotMovable, NotImported, NoRow, SupMissing}
 use Rattle.dwz_model.specs.declared.fault.Refusal.{Refusal}
 use Rattle.dwz_report.specs.declared.summary.Summary.{Summary}
 
@@ -26,13 +27,13 @@ line parts = concat parts ++ 10 ∷ []
 -- ---- refusals
 
 -- the name of the section of each code, and `file` for the file itself
-abbrev pub section_names : List Text
-section_names = codes "file" ∷ codes ".debug_info" ∷ codes ".debug_abbrev" ∷ codes ".debug_str"
+abbrev pub section_labels : List Text
+section_labels = codes "file" ∷ codes ".debug_info" ∷ codes ".debug_abbrev" ∷ codes ".debug_str"
     ∷ codes ".debug_line_str" ∷ codes ".debug_str_offsets" ∷ codes ".debug_line" ∷ codes ".debug_loclists"
     ∷ codes ".debug_aranges" ∷ codes ".debug_sup" ∷ []
 
 abbrev pub section_name : ℕ → Text
-section_name code = get_or section_names code []
+section_name code = get_or section_labels code []
 
 -- the words of a reason
 abbrev pub reason_words : Reason → Text
@@ -69,6 +70,12 @@ reason_words BadOperand = codes "bad operand"
 reason_words Machine = codes "files of different machines"
 reason_words OperandWidth = codes "operand too narrow"
 reason_words FileSize = codes "file too large"
+reason_words BadSup = codes "bad supplementary section"
+reason_words Checksum = codes "checksum differs"
+reason_words NotMovable = codes "no movable entry here"
+reason_words NotImported = codes "partial unit not imported"
+reason_words NoRow = codes "no row for this path"
+reason_words SupMissing = codes "supplementary file not given"
 
 -- and the number behind them
 abbrev pub reason_number : Reason → Text
@@ -102,9 +109,9 @@ usage_text = line (codes "usage: dwz [-q] [--dwarf-5] [-m COMMON [-M NAME]] [-o 
 -- ---- what was done
 
 -- the common file, if it was put, with its length
-abbrev pub common_text : Option (Text × ℕ) → Text
-common_text None = []
-common_text (Some (name, new)) = line (name ∷ codes ": " ∷ decimal new ∷ codes " bytes" ∷ [])
+abbrev pub common_file_text : Option (Text × ℕ) → Text
+common_file_text None = []
+common_file_text (Some (name, new)) = line (name ∷ codes ": " ∷ decimal new ∷ codes " bytes" ∷ [])
 
 -- a file, its length before, and its length afterwards, if something of it moved
 abbrev pub file_text : Text × ℕ × Option ℕ → Text
@@ -112,7 +119,7 @@ file_text (name, old, None) = line (name ∷ codes ": nothing moves" ∷ [])
 file_text (name, old, Some new) = line (name ∷ codes ": " ∷ decimal old ∷ codes " -> " ∷ decimal new ∷ codes " bytes" ∷ [])
 
 abbrev pub summary_text : Summary → Text
-summary_text s = common_text s.common ++ flat_map file_text s.files
+summary_text s = common_file_text s.common ++ flat_map file_text s.files
 
 -- n units in each of two files: their bytes before and after, and the partial units
 abbrev pub demo_text : ℕ → ℕ → ℕ → ℕ → Text

@@ -110,7 +110,7 @@ pub fn usage_text() -> &'static [u8]
 }
 
 fn common_text(alloc: Global, common: &Option<(Blob, u64)>) -> Result<Vec<u8>, NoMemory>
-    ensures { IfOk result (λ v. v.items ≡ Texts.common_text common.now) }
+    ensures { IfOk result (λ v. v.items ≡ Texts.common_file_text common.now) }
 {
     match common {
         None => Ok(Vec::new(alloc)),

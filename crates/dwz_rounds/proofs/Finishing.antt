@@ -7,8 +7,8 @@ use mathlib.Core.Logic.{dite}
 use native.Mathlib.Decide.{ℕ_discrete, dec_le}
 use Rattle.dwz_nodes.specs.Graph.{Node, targets_at, IsClosed}
 use Rattle.dwz_nodes.specs.Looks.{LookEqual, IsLeastBelow}
-use Rattle.dwz_keys.specs.Keys.{key}
-use Rattle.dwz_keys.specs.Among.{Among}
+use Rattle.dwz_nodes.specs.Keys.{key}
+use Rattle.dwz_nodes.specs.Among.{Among}
 use Rattle.dwz_rounds.specs.Rounds.{IsLevel, IsRound}
 use Rattle.dwz_rounds.specs.Pending.{IsPending}
 use Rattle.dwz_rounds.specs.Start.{IsLed, AreNumbered, AreMoved}

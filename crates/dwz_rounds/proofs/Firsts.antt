@@ -6,12 +6,12 @@ use Rattle.std.proofs.lemmas.List.{length-map}
 use Rattle.std.proofs.lemmas.List.Sorted.{All-permutation, Contains-permutation, IsPermutation-map, IsPermutation-sym}
 use mathlib.Core.Logic.{dite}
 use native.Mathlib.Decide.{ℕ_discrete, dec_le}
-use Rattle.dwz_keys.specs.Keys.{key_at}
-use Rattle.dwz_keys.specs.declared.order.Keyed.{Keyed}
-use Rattle.dwz_keys.specs.Order.{nodes_of, keys_of, AreGroups}
-use Rattle.dwz_keys.specs.Among.{Among}
-use Rattle.dwz_keys.proofs.Among.{among-from, among-to}
-use Rattle.dwz_keys.proofs.Ordering.{no_row, row-key}
+use Rattle.dwz_nodes.specs.Keys.{key_at}
+use Rattle.dwz_nodes.specs.declared.order.Keyed.{Keyed}
+use Rattle.dwz_nodes.specs.Order.{nodes_of, keys_of, AreGroups}
+use Rattle.dwz_nodes.specs.Among.{Among}
+use Rattle.dwz_nodes.proofs.Among.{among-from, among-to}
+use Rattle.dwz_nodes.proofs.Ordering.{no_row, row-key}
 use Rattle.dwz_rounds.specs.Settling.{IsFirst, IsPartly, AreByKey, IsPutTo}
 use Rattle.dwz_rounds.proofs.Splitting.{before-or}
 

@@ -4,11 +4,11 @@ use Rattle.std.specs.Prelude.{slice_index}
 use Rattle.std.proofs.Math.ListN.{get_or-map as map-get_or}
 use Rattle.std.proofs.lemmas.List.{get_or_default, length-map}
 use Rattle.std.proofs.lemmas.List.Sorted.{All-permutation, Contains-permutation, IsPermutation-map, IsPermutation-sym}
-use Rattle.dwz_keys.specs.Keys.{key_at, AreKeysOf}
-use Rattle.dwz_keys.specs.declared.order.Keyed.{Keyed}
-use Rattle.dwz_keys.specs.Order.{nodes_of, keys_of, AreGroups}
-use Rattle.dwz_keys.proofs.Among.{among-from, among-to}
-use Rattle.dwz_keys.proofs.Ordering.{no_row, row-key}
+use Rattle.dwz_nodes.specs.Keys.{key_at, AreKeysOf}
+use Rattle.dwz_nodes.specs.declared.order.Keyed.{Keyed}
+use Rattle.dwz_nodes.specs.Order.{nodes_of, keys_of, AreGroups}
+use Rattle.dwz_nodes.proofs.Among.{among-from, among-to}
+use Rattle.dwz_nodes.proofs.Ordering.{no_row, row-key}
 use Rattle.dwz_rounds.specs.Pending.{AreSame}
 use Rattle.dwz_rounds.specs.Split.{IsGrouped}
 

@@ -6,7 +6,7 @@ use Rattle.std.proofs.Math.ListN.{length-set}
 use Rattle.std.proofs.lemmas.List.{get_or_default}
 use mathlib.Core.Logic.{dite}
 use native.Mathlib.Decide.{ℕ_discrete}
-use Rattle.dwz_keys.specs.Among.{Among}
+use Rattle.dwz_nodes.specs.Among.{Among}
 use Rattle.dwz_rounds.specs.Marked.{IsMarked, AreMarked, ArePut}
 use Rattle.dwz_rounds.proofs.Settling.{among-push_old, among-push_new, among-push_cases}
 

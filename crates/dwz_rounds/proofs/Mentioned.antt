@@ -11,13 +11,13 @@ use native.Mathlib.Decide.{ℕ_discrete}
 use Rattle.dwz_nodes.specs.Graph.{Node, targets_at, IsClosed}
 use Rattle.dwz_nodes.specs.Uses.{AreUses, uses_at}
 use Rattle.dwz_nodes.specs.declared.uses.Use.{Use}
-use Rattle.dwz_keys.specs.Keys.{key}
-use Rattle.dwz_keys.specs.Mentions.{mention, ComesBefore, AreMentions, sources_of, run_of, words_of, part_key}
-use Rattle.dwz_keys.specs.Among.{Among}
-use Rattle.dwz_keys.specs.declared.mentions.Mention.{Mention}
-use Rattle.dwz_keys.proofs.Contained.{contains-filter, contains-map, filter-contained, map-contained}
-use Rattle.dwz_keys.proofs.Among.{among-from, among-to}
-use Rattle.dwz_keys.proofs.Runs.{AreRising, Has, words-same, words-told}
+use Rattle.dwz_nodes.specs.Keys.{key}
+use Rattle.dwz_nodes.specs.Mentions.{mention, ComesBefore, AreMentions, sources_of, run_of, words_of, part_key}
+use Rattle.dwz_nodes.specs.Among.{Among}
+use Rattle.dwz_nodes.specs.declared.mentions.Mention.{Mention}
+use Rattle.dwz_nodes.proofs.Contained.{contains-filter, contains-map, filter-contained, map-contained}
+use Rattle.dwz_nodes.proofs.Among.{among-from, among-to}
+use Rattle.dwz_nodes.proofs.Runs.{AreRising, Has, words-same, words-told}
 use Rattle.dwz_rounds.specs.Pending.{PointsAt, AreWithWholes, IsPending, IsVisit, TellApart}
 use Rattle.dwz_rounds.proofs.Levels.{heads, tails}
 use Rattle.dwz_rounds.proofs.Numberings.{among_or, key-kept, key-length, key-target}

@@ -6,8 +6,8 @@ use mathlib.Core.Logic.{dite}
 use native.Mathlib.Decide.{ℕ_discrete, dec_le}
 use Rattle.dwz_nodes.specs.Graph.{Node, label_at, targets_at, IsClosed}
 use Rattle.dwz_nodes.specs.Looks.{LookEqual, Alike, IsLeastBelow, IsRefined}
-use Rattle.dwz_keys.specs.Keys.{key}
-use Rattle.dwz_keys.specs.Among.{Among}
+use Rattle.dwz_nodes.specs.Keys.{key}
+use Rattle.dwz_nodes.specs.Among.{Among}
 use Rattle.dwz_rounds.specs.Pending.{PointsAt, IsPending, IsVisit, IsSplit, TellApart}
 use Rattle.dwz_rounds.proofs.Levels.{heads, tails, map-same, map-length, map-at, least-same, look-sym}
 

@@ -6,9 +6,9 @@ use Rattle.dwz_nodes.specs.Uses.{AreUses, uses_at}
 use Rattle.dwz_nodes.specs.declared.uses.Use.{Use}
 use mathlib.Core.Logic.{dite}
 use native.Mathlib.Decide.{dec_le}
-use Rattle.dwz_keys.specs.Mentions.{sources_of, part_key, AreMentions}
-use Rattle.dwz_keys.specs.declared.mentions.Mention.{Mention}
-use Rattle.dwz_keys.specs.Among.{Among}
+use Rattle.dwz_nodes.specs.Mentions.{sources_of, part_key, AreMentions}
+use Rattle.dwz_nodes.specs.declared.mentions.Mention.{Mention}
+use Rattle.dwz_nodes.specs.Among.{Among}
 use Rattle.dwz_rounds.specs.Marked.{IsMarked, AreMarked}
 use Rattle.dwz_rounds.specs.Pending.{AreSame, AreWithWholes, IsPending, IsSplit}
 use Rattle.dwz_rounds.specs.Split.{IsSplitting}

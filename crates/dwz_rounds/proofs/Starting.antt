@@ -9,7 +9,7 @@ use mathlib.Core.Logic.{dite}
 use native.Mathlib.Decide.{ℕ_discrete, dec_le}
 use Rattle.dwz_nodes.specs.Back.{AreBack, sources_at}
 use Rattle.dwz_nodes.specs.Graph.{Node, node, targets_at}
-use Rattle.dwz_keys.specs.Among.{Among}
+use Rattle.dwz_nodes.specs.Among.{Among}
 use Rattle.dwz_rounds.specs.declared.members.Range.{Range}
 use Rattle.dwz_rounds.specs.Members.{range_at, IsMember, AreMembers}
 use Rattle.dwz_rounds.specs.Start.{IsLed, AreNumbered, IsClassGraph, AreMoved}

@@ -3,7 +3,7 @@ use Rattle.std.proofs.Common.{◌≡◌, ℕ, ◌+◌, ◌<◌, ◌≤◌, ◌�
 use Rattle.std.specs.Prelude.{slice_index}
 use mathlib.Core.Logic.{dite}
 use native.Mathlib.Decide.{ℕ_discrete}
-use Rattle.dwz_keys.specs.Among.{Among}
+use Rattle.dwz_nodes.specs.Among.{Among}
 use Rattle.dwz_rounds.specs.Marked.{ArePut}
 use Rattle.dwz_rounds.specs.Members.{range_at, AreMembers}
 use Rattle.dwz_rounds.specs.declared.members.Range.{Range}

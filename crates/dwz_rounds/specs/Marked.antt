@@ -1,6 +1,6 @@
 -- Numbers that are marked, and the list of them.
 use Rattle.std.specs.Prelude.{◌≡◌, ℕ, ◌<◌, ◌⊎◌, Bool, true, List, length, slice_index_or}
-use Rattle.dwz_keys.specs.Among.{Among}
+use Rattle.dwz_nodes.specs.Among.{Among}
 
 -- whether a is marked
 abbrev pub IsMarked : List Bool → ℕ → Type 0

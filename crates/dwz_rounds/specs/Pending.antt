@@ -2,8 +2,8 @@
 use Rattle.std.specs.Prelude.{◌≡◌, ℕ, ◌<◌, ◌≤◌, ◌⊎◌, Contains, List, length, slice_index}
 use Rattle.dwz_nodes.specs.Graph.{Node, targets_at}
 use Rattle.dwz_nodes.specs.Looks.{Alike}
-use Rattle.dwz_keys.specs.Keys.{key}
-use Rattle.dwz_keys.specs.Among.{Among}
+use Rattle.dwz_nodes.specs.Keys.{key}
+use Rattle.dwz_nodes.specs.Among.{Among}
 
 -- a has one of these among its targets
 abbrev pub PointsAt : List Node → List ℕ → ℕ → Type 0

@@ -2,7 +2,7 @@
 use Rattle.std.specs.Prelude.{◌≡◌, ℕ, ◌<◌, List, length, slice_index}
 use Rattle.dwz_nodes.specs.Graph.{Node}
 use Rattle.dwz_nodes.specs.Looks.{LookEqual, IsLeastBelow}
-use Rattle.dwz_keys.specs.Keys.{key, key_at}
+use Rattle.dwz_nodes.specs.Keys.{key, key_at}
 
 -- each entry is the least place with an equal key
 pub record AreFirsts (keys : List (List ℕ)) (firsts : List ℕ) : Type 0 where

@@ -1,7 +1,7 @@
 -- New numbers for the parts of classes, node by node.
 use Rattle.std.specs.Prelude.{◌≡◌, ℕ, suc, ◌<◌, ◌≤◌, ◌⊎◌, true, false, Bool, List, [], ◌∷◌, ◌++◌, length, slice_index, slice_index_or}
-use Rattle.dwz_keys.specs.Order.{IsNewAt}
-use Rattle.dwz_keys.specs.Among.{Among}
+use Rattle.dwz_nodes.specs.Order.{IsNewAt}
+use Rattle.dwz_nodes.specs.Among.{Among}
 use Rattle.dwz_rounds.specs.Marked.{IsMarked}
 use Rattle.dwz_rounds.specs.declared.members.Range.{Range}
 use Rattle.dwz_rounds.specs.declared.split.Part.{Part}

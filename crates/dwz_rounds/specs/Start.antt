@@ -1,7 +1,7 @@
 -- From a whole round to numbers of classes.
 use Rattle.std.specs.Prelude.{◌≡◌, ℕ, ◌<◌, ◌≤◌, List, [], ◌∷◌, length, slice_index}
 use Rattle.dwz_nodes.specs.Graph.{Node, targets_at}
-use Rattle.dwz_keys.specs.Among.{Among}
+use Rattle.dwz_nodes.specs.Among.{Among}
 
 -- each class is a node of its own, and none of its nodes is less
 abbrev pub IsLed : List ℕ → Type 0

@@ -1,4 +1,7 @@
 //! From a whole round on: only what changed is looked at again, until nothing is pending.
+//!
+//! That begins after a round in which at most a sixteenth of the nodes changed. "Changed" leaves out the largest part of each class, so a
+//! class isn't named by its least node any more; the least nodes are found once, at the end.
 ghost use Rattle.std.specs.Prelude.{◌≡◌, ℕ, ◌+◌, ◌-◌, ◌*◌, ◌<◌, ◌≤◌, ◌^◌, ◌⊎◌, [], All, IfOk, IfSome, IsTrue, OnOk, length, min};
 ghost use Rattle.std.specs.Prelude.{slice_index, slice_set};
 ghost use Rattle.dwz_nodes.specs.Graph.{IsClosed};

@@ -1,9 +1,12 @@
 //! One pass: the nodes that point at pending ones are told apart by these, and the parts of their classes get numbers.
+//!
+//! That this is as good as whole keys is one lemma (`TellApart`). A pass gives a new number or leaves nothing pending, and there are no
+//! more numbers than nodes: so passes end.
 ghost use Rattle.std.specs.Prelude.{◌≡◌, ℕ, ◌+◌, ◌-◌, ◌*◌, ◌<◌, ◌≤◌, ◌^◌, [], All, IfOk, IsTrue, List, OnOk, length, min};
 ghost use Rattle.std.specs.List.Sorted.{IsNonDecreasingBy};
 ghost use Rattle.dwz_nodes.specs.Graph.{IsClosed};
 ghost use Rattle.dwz_nodes.specs.Uses.{AreUses, uses_at};
-ghost use Rattle.dwz_keys.specs.Mentions.{part_key, sources_of, AreMentions};
+ghost use Rattle.dwz_nodes.specs.Mentions.{part_key, sources_of, AreMentions};
 ghost use Rattle.dwz_rounds.specs.Marked.{AreMarked};
 ghost use Rattle.dwz_rounds.specs.Members.{AreMembers};
 ghost use Rattle.dwz_rounds.specs.Pending.{AreSame, AreWithWholes, IsPending};
@@ -14,9 +17,10 @@ use crate::marked::clear;
 use crate::members::Range;
 use crate::split::{NO_PART, Part, find_parts, split};
 use crate::visit::{visit_sources, visit_wholes};
-use dwz_keys::{Groups, Keys, Mention, fill_parts, groups_of, list_mentions, rows_of};
 use dwz_model::NoMemory;
-use dwz_nodes::{Nodes, Uses};
+use dwz_nodes::{
+    Groups, Keys, Mention, Nodes, Uses, fill_parts, groups_of, list_mentions, rows_of,
+};
 use std::alloc::Global;
 
 // The nodes of the list, those together that have one number and the same numbers at the same places. What `keys` held is
@@ -43,7 +47,7 @@ fn group_nodes(
 
 /// Room that passes use again and again.
 #[derive(Drop)]
-pub(crate) struct Room {
+pub(crate) struct Scratch {
     mentions: Vec<Mention>,
     marks: Vec<bool>,
     visit: Vec<u32>,
@@ -55,10 +59,10 @@ pub(crate) struct Room {
 }
 
 /// Room for so many nodes.
-pub(crate) fn new_room(alloc: Global, count: usize) -> Result<Room, NoMemory>
+pub(crate) fn new_room(alloc: Global, count: usize) -> Result<Scratch, NoMemory>
     ensures { IfOk result (λ room. IsRoom count room) }
 {
-    Ok(Room {
+    Ok(Scratch {
         mentions: Vec::new(alloc),
         marks: vec![in alloc; false; count]?,
         visit: Vec::new(alloc),
@@ -77,7 +81,7 @@ fn look(
     ranges: &[Range],
     members: &[u32],
     pending: &[u32],
-    room: &mut Room,
+    room: &mut Scratch,
 ) -> Result<(), NoMemory>
     requires rows { length uses.now ≡ length numbers.now }
     requires sources { (t : ℕ) → t < length uses.now → All (λ u. u.source < length numbers.now) (uses_at uses.now t) }
@@ -109,7 +113,7 @@ fn look(
 }
 
 // Clears what was marked.
-fn forget(room: &mut Room, count: usize)
+fn forget(room: &mut Scratch, count: usize)
     requires { HasMarks count room.old }
     ensures { IsRoom count room.new }
 {
@@ -127,7 +131,7 @@ pub(crate) fn pass(
     ranges: &mut Vec<Range>,
     members: &mut Vec<u32>,
     pending: &mut Vec<u32>,
-    room: &mut Room,
+    room: &mut Scratch,
 ) -> Result<bool, NoMemory>
     requires closed { IsClosed nodes.now }
     requires few { length nodes.now < 2 ^ 32 - 1 }

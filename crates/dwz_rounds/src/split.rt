@@ -1,4 +1,7 @@
 //! New numbers for the parts of classes.
+//!
+//! Which part of a class is the largest, and how many nodes it has left, is looked up in tables that no clause speaks of: they say what is
+//! cheap, not what is right.
 ghost use Rattle.std.specs.Prelude.{◌≡◌, ℕ, ◌<◌, ◌≤◌, ◌^◌, ◌∷◌, ◌++◌, [], All, IfOk, IsTrue, OnOk, List, length, slice_index, slice_set};
 ghost use Rattle.dwz_rounds.specs.Members.{AreMembers};
 ghost use Rattle.dwz_rounds.specs.Split.{IsChoice, IsGrouped, IsSplitting};

@@ -1,16 +1,16 @@
 //! The nodes whose keys are looked at again: those that point at a pending node, and the whole class of them where
 //! they are most of it.
 ghost use Rattle.std.specs.Prelude.{◌≡◌, ℕ, ◌<◌, ◌≤◌, ◌⊎◌, [], All, Contains, OnOk, length, slice_index};
-ghost use Rattle.dwz_keys.specs.Mentions.{sources_of};
-ghost use Rattle.dwz_keys.specs.Among.{Among};
+ghost use Rattle.dwz_nodes.specs.Mentions.{sources_of};
+ghost use Rattle.dwz_nodes.specs.Among.{Among};
 ghost use Rattle.dwz_rounds.specs.Marked.{AreMarked, ArePut};
 ghost use Rattle.dwz_rounds.specs.Members.{AreMembers};
 ghost use Rattle.dwz_rounds.specs.Pending.{AreOfClass, AreWithWholes};
 
 use crate::marked::put;
 use crate::members::Range;
-use dwz_keys::Mention;
 use dwz_model::NoMemory;
+use dwz_nodes::Mention;
 
 /// Lists the nodes that have these mentions.
 pub(crate) fn visit_sources(

@@ -1,23 +1,23 @@
 -- Which status is answered where nothing outside fails: each fault is excluded, and of what is asked for just one thing comes.
-use Rattle.std.proofs.Common.{◌≡◌, ◌⊎◌, ℕ, List, Bool, Option, Some, refl, sym, subst, inl, inr}
-use Rattle.dwz_meanings.specs.Documents.{Doc}
+use Rattle.std.proofs.Common.{◌≡◌, ◌⊎◌, ℕ, List, Option, Some, refl, sym, subst, inl, inr}
 use Rattle.dwz_model.specs.declared.fault.Refusal.{Refusal}
 use Rattle.dwz_outside.specs.Counts.{Rose}
 use Rattle.dwz_outside.specs.Store.{Store}
-use Rattle.dwz_outside.specs.Told.{Shown, Told}
+use Rattle.dwz_outside.specs.Told.{ConsoleSeen, FilesSeen}
 use Rattle.dwz_words.specs.declared.options.Options.{Options}
 use Rattle.dwz_words.specs.Lawful.{Lawful}
-use Rattle.dwz_course.specs.declared.status.Status.{Status}
-use Rattle.dwz_course.specs.declared.status.Status.TheVariants.{Done, Refused, Usage, ReadFault, WriteFault, NoMemory, ConsoleFault}
-use Rattle.dwz_course.specs.Demo.{asked_by}
-use Rattle.dwz_course.specs.Ends.{AreHeld, AsksFor, Complete, Refuses}
-use Rattle.dwz_course.specs.Outcome.{Outcome, refuses, writes}
-use Rattle.dwz_course.proofs.Completeness.{unwritten}
-use Rattle.dwz_demo.specs.Demo.{demo_files}
-use Rattle.dwz_out.specs.Out.{IsWritten, Out, output_of, run_for}
+use Rattle.dwz_run_course.specs.declared.status.Status.{Status}
+use Rattle.dwz_run_course.specs.declared.status.Status.TheVariants.{Done, Refused, Usage, ReadFault, WriteFault, NoMemory, ConsoleFault}
+use Rattle.dwz_run_course.specs.Demo.{asked_by}
+use Rattle.dwz_run_course.specs.Ends.{AreHeld, AsksFor, Complete, Refuses}
+use Rattle.dwz_run_course.specs.Outcome.{Outcome, refuses, writes}
+use Rattle.dwz_run_course.proofs.Completeness.{unwritten}
+use Rattle.dwz_gen.specs.Demo.{demo_files}
+use Rattle.dwz_def_run.specs.Out.{Out}
+use Rattle.dwz_def_run.proofs.SomeOutcome.{some_outcome}
 use Rattle.dwz_run.specs.Laws.{Asks, IsFirstRefusal, NoneFailed, RunEnds, for_demo, for_files, work_contents, work_options}
 
-pub answered : (words : List (List ℕ)) (old new : Told) (shown shown_new : Shown) (status : Status)
+pub answered : (words : List (List ℕ)) (old new : FilesSeen) (shown shown_new : ConsoleSeen) (status : Status)
     → RunEnds words old new shown shown_new status
     → NoneFailed old new shown shown_new → (o : Options) → Lawful words o → (status ≡ Done) ⊎ (status ≡ Refused) ⊎ (status ≡ NoMemory)
 answered words old new shown shown_new Done e none o lawful = inl refl
@@ -28,7 +28,7 @@ answered words old new shown shown_new WriteFault e none o lawful = absurd (none
 answered words old new shown shown_new NoMemory e none o lawful = inr (inr refl)
 answered words old new shown shown_new ConsoleFault e none o lawful = absurd (none.texts (unwritten shown shown_new e.text e.console))
 
-module _ (words : List (List ℕ)) (old : Told) (store : Store) (told : old.held ≡ Some store) where
+module _ (words : List (List ℕ)) (old : FilesSeen) (store : Store) (told : old.held ≡ Some store) where
   -- what comes of FILEs, and of a demonstration, is asked for
   asked_for : (a : Asks words store) (outcome : Outcome) → Out (work_options a) (work_contents a) outcome
       → AsksFor demo_files Out words old outcome
@@ -47,15 +47,19 @@ module _ (words : List (List ℕ)) (old : Told) (store : Store) (told : old.held
     given = subst (λ (d : Option ℕ). Out (asked_by d a.options) (demo_files a.units) outcome) (sym a.is_demo) given;
   }
 
-  pub completes : (new : Told) (shown shown_new : Shown) (status : Status)
+  pub completes : (new : FilesSeen) (shown shown_new : ConsoleSeen) (status : Status)
       → Complete demo_files Out words old new shown shown_new status
-      → NoneFailed old new shown shown_new → (a : Asks words store) (docs : List (Doc ℕ)) (prunes : List Bool)
-      → IsWritten (work_options a) (work_contents a) docs prunes → (status ≡ Done) ⊎ (status ≡ NoMemory)
-  completes new shown shown_new status complete none a docs prunes written =
-      let out = output_of (work_options a) (run_for (work_options a) (work_contents a) docs prunes) in
-      complete out (asked_for a (writes out) (docs, prunes, written, refl)) none.reads none.writes none.texts
+      → NoneFailed old new shown shown_new → (a : Asks words store)
+      → ((r : Refusal) → ¬ IsFirstRefusal (work_options a) (work_contents a) r) → (status ≡ Done) ⊎ (status ≡ NoMemory)
+  completes new shown shown_new status complete none a free = by some.0 some.1 where
+    some : (outcome : Outcome) × Out (work_options a) (work_contents a) outcome
+    some = some_outcome (work_options a) (work_contents a)
 
-  pub is_refused : (new : Told) (status : Status) → Refuses demo_files Out words old new status
+    by : (outcome : Outcome) → Out (work_options a) (work_contents a) outcome → (status ≡ Done) ⊎ (status ≡ NoMemory)
+    by (writes out) given = complete out (asked_for a (writes out) given) none.reads none.writes none.texts
+    by (refuses q) given = absurd (free q given)
+
+  pub is_refused : (new : FilesSeen) (status : Status) → Refuses demo_files Out words old new status
       → ¬ (Rose old.read_faults new.read_faults)
       → (a : Asks words store) (r : Refusal) → IsFirstRefusal (work_options a) (work_contents a) r → (status ≡ Refused) ⊎ (status ≡ NoMemory)
   is_refused new status all none a r first = all r (asked_for a (refuses r) first) none

@@ -2,17 +2,17 @@
 use Rattle.std.proofs.Common.{◌≡◌, ◌⊎◌, ℕ, List, Option, Some, None, refl, ap, subst, inl, inr}
 use Rattle.dwz_model.specs.declared.fault.Refusal.{Refusal}
 use Rattle.dwz_outside.specs.Store.{Store}
-use Rattle.dwz_outside.specs.Told.{LeavesPuts, Shown, Told}
+use Rattle.dwz_outside.specs.Told.{ConsoleSeen, FilesSeen, LeavesPuts}
 use Rattle.dwz_words.specs.declared.options.Options.{Options}
 use Rattle.dwz_words.specs.Lawful.{Lawful}
-use Rattle.dwz_course.specs.declared.status.Status.{Status}
-use Rattle.dwz_course.specs.declared.status.Status.TheVariants.{Done, Refused, Usage, ReadFault, WriteFault, NoMemory, ConsoleFault}
+use Rattle.dwz_run_course.specs.declared.status.Status.{Status}
+use Rattle.dwz_run_course.specs.declared.status.Status.TheVariants.{Done, Refused, Usage, ReadFault, WriteFault, NoMemory, ConsoleFault}
 use Rattle.dwz_report.specs.Texts.{refusal_text}
-use Rattle.dwz_course.specs.Demo.{asked, asked_by, demo_options}
-use Rattle.dwz_course.specs.Ends.{AreContents, Came, Says}
-use Rattle.dwz_course.specs.Outcome.{name_of, refuses}
-use Rattle.dwz_demo.specs.Demo.{demo_files}
-use Rattle.dwz_out.specs.Out.{Out}
+use Rattle.dwz_run_course.specs.Demo.{asked, asked_by, demo_options}
+use Rattle.dwz_run_course.specs.Ends.{AreContents, Came, Says}
+use Rattle.dwz_run_course.specs.Outcome.{name_of_file, refuses}
+use Rattle.dwz_gen.specs.Demo.{demo_files}
+use Rattle.dwz_def_run.specs.Out.{Out}
 use Rattle.dwz_run.specs.Laws.{IsFirstRefusal, PutsNothing, RunEnds, WasRefused, for_demo, for_files}
 use Rattle.dwz_run.proofs.Outputs.{got_of}
 
@@ -21,14 +21,15 @@ pub demo_refused : (r : Refusal) (o : Options) (n : ℕ) (contents : List (List 
     → IsFirstRefusal (demo_options o) (demo_files n) r
 demo_refused r o n contents are given = subst (λ (cs : List (List ℕ)). Out (demo_options o) cs (refuses r)) are given
 
-module _ (words : List (List ℕ)) (old new : Told) (shown shown_new : Shown) where
+module _ (words : List (List ℕ)) (old new : FilesSeen) (shown shown_new : ConsoleSeen) where
   -- ---- nothing is put
 
   unchanged : new ≡ old → LeavesPuts old new
   unchanged same = record {
-    held = ap (λ (t : Told). t.held) same;
-    faults = ap (λ (t : Told). t.write_faults) same;
-    last = ap (λ (t : Told). t.last_write) same;
+    held = ap (λ (t : FilesSeen). t.held) same;
+    stored = ap (λ (t : FilesSeen). t.stored) same;
+    faults = ap (λ (t : FilesSeen). t.write_faults) same;
+    last = ap (λ (t : FilesSeen). t.last_write) same;
   }
 
   pub puts_nothing : (status : Status) → RunEnds words old new shown shown_new status → PutsNothing status → LeavesPuts old new
@@ -62,7 +63,7 @@ module _ (words : List (List ℕ)) (old new : Told) (shown shown_new : Shown) wh
 
   module _ (store : Store) (told : old.held ≡ Some store) where
     refused_with : (r : Refusal) (came : Came demo_files Out words old (refuses r)) (text : List ℕ)
-        → text ≡ refusal_text (name_of (asked came.options) r.file) r → WasRefused words store text
+        → text ≡ refusal_text (name_of_file (asked came.options) r.file) r → WasRefused words store text
     refused_with r came text is = by came.options.demo refl came.are came.given is where
       o : Options
       o = came.options
@@ -71,7 +72,7 @@ module _ (words : List (List ℕ)) (old new : Told) (shown shown_new : Shown) wh
       contents = came.contents
 
       by : (d : Option ℕ) → o.demo ≡ d → AreContents demo_files d old o.files contents → Out (asked_by d o) contents (refuses r)
-          → text ≡ refusal_text (name_of (asked_by d o) r.file) r → WasRefused words store text
+          → text ≡ refusal_text (name_of_file (asked_by d o) r.file) r → WasRefused words store text
       by None e are given is = record {
         asks = for_files (record { options = o; lawful = came.lawful; no_demo = e; contents = contents; got = got_of words old store told o.files contents are });
         refusal = r;

@@ -2,22 +2,22 @@
 use Rattle.std.proofs.Common.{◌≡◌, ◌&&◌, ◌==◌, ℕ, suc, ◌+◌, Bool, true, List, [], ◌∷◌, length, map, sym, ap, subst, ◌∙◌, inl, inr, eqb-true}
 use Rattle.std.proofs.lemmas.Bool.{and_parts}
 use Rattle.std.specs.List.{list_any}
-use Rattle.dwz_docs.specs.Lists.{In}
-use Rattle.dwz_docs.proofs.ListFacts.{in_cases}
-use Rattle.dwz_meanings.specs.Documents.{Doc, DwUnit}
-use Rattle.dwz_seen.proofs.Members.{any_from, nth_in}
-use Rattle.dwz_alike.specs.Spots.{FileUnit, Spot, Top, file_numbers, in_file, named, named_files, tops_among, tops_of, units_of}
-use Rattle.dwz_alike.proofs.Tops.{unit_of}
-use Rattle.dwz_same.specs.Units.{changes}
+use Rattle.dwz_def_reading.specs.Lists.{In}
+use Rattle.dwz_def_reading.proofs.ListFacts.{in_cases}
+use Rattle.dwz_def_reading.specs.Documents.{Doc, DwUnit}
+use Rattle.dwz_def_tops.proofs.Members.{any_from, nth_in}
+use Rattle.dwz_def_tops.specs.Spots.{EntryName, FileUnit, Top, file_numbers, in_file, named, named_files, tops_among, tops_of, units_of}
+use Rattle.dwz_def_tops.proofs.Tops.{unit_of}
+use Rattle.dwz_def_images.specs.Units.{changes}
 use Rattle.dwz_words.specs.declared.options.Options.{Options}
-use Rattle.dwz_out.specs.Out.{run_for}
+use Rattle.dwz_def_run.specs.Out.{run_for}
 
-of_block : (file : ℕ) (units : List (DwUnit Spot)) (u : FileUnit Spot) → In u (map (in_file file) units) → file ≡ u.file
+of_block : (file : ℕ) (units : List (DwUnit EntryName)) (u : FileUnit EntryName) → In u (map (in_file file) units) → file ≡ u.file
 of_block file [] u there = absurd there
-of_block file (v ∷ units) u (inl e) = ap (λ (w : FileUnit Spot). w.file) e
+of_block file (v ∷ units) u (inl e) = ap (λ (w : FileUnit EntryName). w.file) e
 of_block file (v ∷ units) u (inr r) = of_block file units u r
 
-in_numbers : (own unit top : ℕ) (docs : List (Doc ℕ)) (u : FileUnit Spot) → In u (named_files own unit top docs) → In u.file (file_numbers own docs)
+in_numbers : (own unit top : ℕ) (docs : List (Doc ℕ)) (u : FileUnit EntryName) → In u (named_files own unit top docs) → In u.file (file_numbers own docs)
 unfolding named_files file_numbers
 in_numbers own unit top [] u there = absurd there
 in_numbers own unit top (d ∷ docs) u there =

@@ -4,11 +4,11 @@ use Rattle.std.specs.Prelude.{◌==◌, ◌||◌, ◌&&◌, codes, nat_lt, not}
 use Rattle.std.specs.List.{list_all, list_any}
 use Rattle.std.specs.Option.{option_map_or}
 use Rattle.std.proofs.lemmas.Bool.{and_parts, eqb-false}
-use Rattle.dwz_docs.specs.Texts.{NoZero}
+use Rattle.dwz_def_reading.specs.Texts.{NoZero}
 use Rattle.dwz_words.specs.Conditions.{FitTogether, is_file_name}
 use Rattle.dwz_words.specs.declared.options.Options.{Options}
-use Rattle.dwz_course.specs.Demo.{demo_options}
-use Rattle.dwz_out.specs.Out.{sup_name}
+use Rattle.dwz_run_course.specs.Demo.{demo_options}
+use Rattle.dwz_def_run.specs.Out.{sup_name}
 
 no_zero : (word : List ℕ) → not (list_any (λ (byte : ℕ). byte == 0) word) ≡ true → NoZero word
 no_zero [] e = tt

@@ -4,19 +4,19 @@ use Rattle.std.specs.Prelude.{Contains, if◌then◌else◌, is_none, is_some, n
 use Rattle.std.proofs.lemmas.Bool.{and_parts}
 use Rattle.dwz_model.specs.declared.fault.Refusal.{Refusal}
 use Rattle.dwz_outside.specs.Store.{Store}
-use Rattle.dwz_outside.specs.Told.{LeavesPuts, Shown, Told}
+use Rattle.dwz_outside.specs.Told.{ConsoleSeen, FilesSeen, LeavesPuts}
 use Rattle.dwz_report.specs.Texts.{refusal_text}
 use Rattle.dwz_words.specs.declared.options.Options.{Options}
 use Rattle.dwz_words.specs.Lawful.{Lawful}
-use Rattle.dwz_course.specs.declared.output.Output.{Output}
-use Rattle.dwz_course.specs.declared.status.Status.{Status}
-use Rattle.dwz_course.specs.declared.status.Status.TheVariants.{Done, Refused, Usage, ReadFault, WriteFault, NoMemory, ConsoleFault}
-use Rattle.dwz_course.specs.Demo.{asked, asked_by, demo_options}
-use Rattle.dwz_course.specs.Ends.{AreContents, Came, Says, done_text, puts_by}
-use Rattle.dwz_course.specs.Outcome.{Outcome, name_of, refuses, writes}
-use Rattle.dwz_course.specs.Puts.{PutsDone}
-use Rattle.dwz_demo.specs.Demo.{demo_files}
-use Rattle.dwz_out.specs.Out.{Out}
+use Rattle.dwz_run_course.specs.declared.output.Output.{Output}
+use Rattle.dwz_run_course.specs.declared.status.Status.{Status}
+use Rattle.dwz_run_course.specs.declared.status.Status.TheVariants.{Done, Refused, Usage, ReadFault, WriteFault, NoMemory, ConsoleFault}
+use Rattle.dwz_run_course.specs.Demo.{asked, asked_by, demo_options}
+use Rattle.dwz_run_course.specs.Ends.{AreContents, Came, Says, done_text, puts_unless_demo}
+use Rattle.dwz_run_course.specs.Outcome.{Outcome, name_of_file, refuses, writes}
+use Rattle.dwz_run_course.specs.Puts.{PutsDone}
+use Rattle.dwz_gen.specs.Demo.{demo_files}
+use Rattle.dwz_def_run.specs.Out.{Out}
 use Rattle.dwz_run.specs.Laws.{AsksForDemo, DemoEnds, IsDemoText, RunEnds}
 use Rattle.dwz_run.proofs.AllDone.{with_puts}
 use Rattle.dwz_run.proofs.Causes.{demo_refused}
@@ -31,7 +31,7 @@ one_asked words a b x y = x.values ∙ sym y.values
 none_named : (files : List (List ℕ)) (name : List ℕ) → length files ≡ 0 → Contains files name → ⊥
 none_named files name none there = let less = there.1 in omega (arith, none, less)
 
-module _ (words : List (List ℕ)) (old new : Told) (shown shown_new : Shown) (a : AsksForDemo words) where
+module _ (words : List (List ℕ)) (old new : FilesSeen) (shown shown_new : ConsoleSeen) (a : AsksForDemo words) where
   abbrev o : Options
   o = a.options
 
@@ -63,14 +63,14 @@ module _ (words : List (List ℕ)) (old new : Told) (shown shown_new : Shown) (a
       subst (IsDemoText a) (sym same) (demo_said_of words a came.contents out (are_made (writes out) came) came.bytes (of_made (writes out) came))
 
   -- of such an output nothing is put
-  no_puts : (out : Output) (other : Options) → Lawful words other → puts_by other.demo out ≡ []
-  no_puts out other lawful = ap (λ (d : Option ℕ). puts_by d out) (is_demo other lawful)
+  no_puts : (out : Output) (other : Options) → Lawful words other → puts_unless_demo other.demo out ≡ []
+  no_puts out other lawful = ap (λ (d : Option ℕ). puts_unless_demo d out) (is_demo other lawful)
 
   refused_text : (r : Refusal) (came : Came demo_files Out words old (refuses r)) (text : List ℕ)
-      → text ≡ refusal_text (name_of (asked came.options) r.file) r → text ≡ refusal_text (name_of (demo_options o) r.file) r
+      → text ≡ refusal_text (name_of_file (asked came.options) r.file) r → text ≡ refusal_text (name_of_file (demo_options o) r.file) r
   refused_text r came text is =
-      is ∙ (ap (λ (d : Option ℕ). refusal_text (name_of (asked_by d came.options) r.file) r) (is_demo came.options came.lawful)
-      ∙ ap (λ (x : Options). refusal_text (name_of (demo_options x) r.file) r) (same_options came.options came.lawful))
+      is ∙ (ap (λ (d : Option ℕ). refusal_text (name_of_file (asked_by d came.options) r.file) r) (is_demo came.options came.lawful)
+      ∙ ap (λ (x : Options). refusal_text (name_of_file (demo_options x) r.file) r) (same_options came.options came.lawful))
 
   ends : (status : Status) → RunEnds words old new shown shown_new status → DemoEnds a shown shown_new status
   ends Done e = (e.text, made e.files.0 e.files.1 e.text e.files.3, e.console)
@@ -97,8 +97,8 @@ module _ (words : List (List ℕ)) (old new : Told) (shown shown_new : Shown) (a
     left : LeavesPuts old new → new.held ≡ Some store
     left leaves = leaves.held ∙ told
 
-    nothing_put : (out : Output) (other : Options) → Lawful words other → PutsDone old new (puts_by other.demo out) → new.held ≡ Some store
-    nothing_put out other lawful puts = with_puts old new store (puts_by other.demo out) [] told (no_puts out other lawful) puts.held
+    nothing_put : (out : Output) (other : Options) → Lawful words other → PutsDone old new (puts_unless_demo other.demo out) → new.held ≡ Some store
+    nothing_put out other lawful puts = with_puts old new store (puts_unless_demo other.demo out) [] told (no_puts out other lawful) puts.held
 
     held_still : (status : Status) → RunEnds words old new shown shown_new status → DemoEnds a shown shown_new status → new.held ≡ Some store
     held_still Done e is = nothing_put e.files.0 e.files.1.options e.files.1.lawful e.files.2

@@ -4,28 +4,29 @@ use Rattle.std.proofs.lemmas.List.{length-map}
 use Rattle.std.proofs.lemmas.List.FromFn.{length-range_with_len}
 use Rattle.dwz_model.specs.declared.fault.GraphErr.{GraphErr}
 use Rattle.dwz_model.specs.declared.fault.GraphErr.TheVariants.{NoMemory, Refused}
-use Rattle.dwz_model.specs.declared.sections.NewSections.{NewSections}
-use Rattle.dwz_meanings.specs.Documents.{Doc}
-use Rattle.dwz_meanings.specs.Files.{ReadAll, files_meaning, no_files_before}
-use Rattle.dwz_meanings.proofs.FileLemmas.{files_agree}
-use Rattle.dwz_alike.specs.Alike.{TopScope}
-use Rattle.dwz_alike.specs.Deciding.{alike_test}
-use Rattle.dwz_alike.specs.Spots.{units_of}
-use Rattle.dwz_alike.proofs.FileNumbers.{numbers_long}
-use Rattle.dwz_moving.specs.Gain.{gain_rule}
-use Rattle.dwz_moving.specs.Homes.{Rule}
-use Rattle.dwz_back.specs.Back.{run_of}
-use Rattle.dwz_back.specs.Files.{Run}
+use Rattle.dwz_model.specs.declared.sections.Sections.{Sections}
+use Rattle.dwz_def_reading.specs.Documents.{Doc}
+use Rattle.dwz_def_reading.specs.Files.{ReadAll, files_meaning, no_files_before}
+use Rattle.dwz_def_reading.proofs.FileLemmas.{files_agree}
+use Rattle.dwz_def_tops.specs.Alike.{TopScope}
+use Rattle.dwz_def_tops.specs.Deciding.{alike_test}
+use Rattle.dwz_def_tops.specs.Spots.{units_of}
+use Rattle.dwz_def_tops.proofs.FileNumbers.{numbers_long}
+use Rattle.dwz_def_plan.specs.Gain.{gain_rule}
+use Rattle.dwz_def_plan.specs.Homes.{Rule}
+use Rattle.dwz_def_readback.specs.Back.{run_of}
+use Rattle.dwz_def_readback.specs.Files.{Run}
 use Rattle.dwz_graph.specs.Files.{FilesFail, docs_of}
-use Rattle.dwz_plan.specs.declared.plan.Sharing.{Sharing}
-use Rattle.dwz_planned.specs.Rules.{alike_scope, rule_by}
-use Rattle.dwz_make.proofs.FirstFaults.{refused}
+use Rattle.dwz_plan.specs.declared.plan.Scope.{Scope}
+use Rattle.dwz_plan_files.specs.Rules.{alike_scope, rule_by}
+use Rattle.dwz_run_files.proofs.FirstFaults.{refused}
 use Rattle.dwz_words.specs.declared.options.Options.{Options}
-use Rattle.dwz_course.specs.Answers.{IsAnswer}
-use Rattle.dwz_out.specs.Out.{ArePrunable, Out, ReadAs, rule_of, run_for, scope_of, stored_of}
-use Rattle.dwz_after.specs.declared.new_file.NewFile.{NewFile}
-use Rattle.dwz_after.specs.NewFiles.{AreNew, IsNewCommon}
-use Rattle.dwz_after.proofs.RunReady.{as_many}
+use Rattle.dwz_run_course.specs.Answers.{IsAnswer}
+use Rattle.dwz_def_output.specs.Written.{ArePrunable, ReadAs, stored_of}
+use Rattle.dwz_def_run.specs.Out.{Out, rule_of, run_for, top_scope_of}
+use Rattle.dwz_def_output.specs.declared.new_file.NewFile.{NewFile}
+use Rattle.dwz_def_output.specs.NewFiles.{AreNew, IsNewCommon}
+use Rattle.dwz_run_output.proofs.RunReady.{as_many}
 
 -- files that don't read are refused with their first fault
 pub read_refused : (o : Options) (contents : List (List ℕ)) (e : GraphErr) → FilesFail e (files_meaning no_files_before 0 contents)
@@ -34,11 +35,11 @@ read_refused o contents NoMemory fail = tt
 read_refused o contents (Refused r) fail = let first = refused contents r fail in (inl first.0, first.1)
 
 -- the rule is that of files which share as the options ask
-rule_is : (o : Options) (sharing : Sharing) (docs : List (Doc ℕ)) → alike_scope sharing ≡ scope_of o → rule_by sharing docs ≡ rule_of o docs
+rule_is : (o : Options) (sharing : Scope) (docs : List (Doc ℕ)) → alike_scope sharing ≡ top_scope_of o → rule_by sharing docs ≡ rule_of o docs
 rule_is o sharing docs same = ap (λ (s : TopScope). gain_rule (alike_test s (units_of docs)) (units_of docs)) same
 
 -- the files of a graph, which stands for its contents
-module _ (o : Options) (sharing : Sharing) (graph : List (List ℕ)) (flags : List Bool) (same_scope : alike_scope sharing ≡ scope_of o) where
+module _ (o : Options) (sharing : Scope) (graph : List (List ℕ)) (flags : List Bool) (same_scope : alike_scope sharing ≡ top_scope_of o) where
   abbrev docs : List (Doc ℕ)
   docs = docs_of graph
 
@@ -51,7 +52,7 @@ module _ (o : Options) (sharing : Sharing) (graph : List (List ℕ)) (flags : Li
   pub new_in : (made : List (Option NewFile)) (partials : ℕ) → AreNew r made partials → AreNew (run_for o graph docs flags) made partials
   new_in made partials are = subst (λ (rule : Rule). AreNew (run_by rule) made partials) (rule_is o sharing docs same_scope) are
 
-  pub common_in : (common : Option NewSections) → IsNewCommon r common → IsNewCommon (run_for o graph docs flags) common
+  pub common_in : (common : Option Sections) → IsNewCommon r common → IsNewCommon (run_for o graph docs flags) common
   common_in common is = subst (λ (rule : Rule). IsNewCommon (run_by rule) common) (rule_is o sharing docs same_scope) is
 
   module _ (contents : List (Vec ℕ Global)) (same : graph ≡ map (λ (v : Vec ℕ Global). v.items) contents)

@@ -5,16 +5,17 @@ use Rattle.std.specs.Prelude.{◌||◌, ◌&&◌, ◌==◌, not, is_none, if◌t
 use Rattle.std.specs.Option.{option_map_or}
 use Rattle.std.specs.Str.{bytes_eq}
 use Rattle.std.proofs.lemmas.Bool.{and_parts, eqb-true, or_parts}
-use Rattle.dwz_seen.specs.Lists.{Nth}
-use Rattle.dwz_same.specs.Units.{changes}
-use Rattle.dwz_back.specs.Files.{Run}
+use Rattle.dwz_def_tops.specs.Lists.{Nth}
+use Rattle.dwz_def_images.specs.Units.{changes}
+use Rattle.dwz_def_readback.specs.Files.{Run}
 use Rattle.dwz_outside.specs.declared.puts.Put.{Put}
 use Rattle.dwz_outside.specs.Store.{Store, done, put_in}
 use Rattle.dwz_words.specs.Conditions.{FitTogether, are_distinct, is_among}
 use Rattle.dwz_words.specs.declared.options.Options.{Options}
-use Rattle.dwz_out.specs.FilesAfter.{bytes_after, bytes_by, common_bytes, file_after, has_common}
-use Rattle.dwz_out.specs.Out.{all_puts, common_puts, file_puts, files_puts, put_of, puts_by, sup_name}
-use Rattle.dwz_out.proofs.Stopping.{done_append, not_named, other_way, put_other, put_own}
+use Rattle.dwz_def_run.specs.Out.{files_puts_by}
+use Rattle.dwz_def_output.specs.FilesAfter.{bytes_after, bytes_by, common_bytes, file_after, has_common}
+use Rattle.dwz_def_run.specs.Out.{all_puts, common_puts, file_puts, files_puts, put_of, puts_by, sup_name}
+use Rattle.dwz_def_run.proofs.Stopping.{done_append, not_named, other_way, put_other, put_own}
 use Rattle.dwz_run.specs.Laws.{HoldAfter, goes_to}
 
 -- ---- names that differ
@@ -48,7 +49,7 @@ module _ (o : Options) (r : Run) (in_place : o.out ≡ None) where
     by false = refl
 
   leaves : (x : List ℕ) (s : ℕ) (names : List (List ℕ)) (st : Store) → is_among names x ≡ false → done (files_puts o r s names) st x ≡ st x
-  unfolding files_puts
+  unfolding files_puts_by
   leaves x s [] st e = refl
   leaves x s (n ∷ names) st e =
       let both = or_parts (bytes_eq n x) (is_among names x) e in
@@ -59,7 +60,7 @@ module _ (o : Options) (r : Run) (in_place : o.out ≡ None) where
   all : (s : ℕ) (names : List (List ℕ)) (st : Store) → are_distinct names ≡ true
       → ((file : ℕ) (name : List ℕ) → Nth s names file name → st name ≡ Some (r.input.bytes file))
       → (file : ℕ) (name : List ℕ) → Nth s names file name → done (files_puts o r s names) st name ≡ Some (new file)
-  unfolding files_puts
+  unfolding files_puts_by
   all s [] st e held file name nth = absurd nth
   all s (n ∷ names) st e held file name (inl is) =
       let both = and_parts (not (is_among names n)) (are_distinct names) e in
@@ -90,7 +91,7 @@ module _ (o : Options) (r : Run) (out : List ℕ) (elsewhere : o.out ≡ Some ou
 
   one_file : (names : List (List ℕ)) → length names ≡ 1 → (st : Store) (file : ℕ) (name : List ℕ) → Nth 0 names file name
       → done (files_puts o r 0 names) st out ≡ Some (bytes file)
-  unfolding files_puts
+  unfolding files_puts_by
   one_file [] len st file name nth = absurd nth
   one_file (x ∷ y ∷ names) len st file name nth = absurd (omega (arith, len))
   one_file (x ∷ []) len st file name (inr later) = absurd later

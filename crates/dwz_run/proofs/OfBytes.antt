@@ -1,9 +1,9 @@
 -- Contents whose elements are numbers below 256 are contents of bytes.
 use Rattle.std.proofs.Common.{ℕ, suc, ◌^◌, ◌<◌, List, [], ◌∷◌, arith}
 use Rattle.std.specs.Prelude.{All}
-use Rattle.dwz_docs.specs.Values.{AreBytes}
-use Rattle.dwz_docs.specs.Lists.{Each}
-use Rattle.dwz_course.specs.Gets.{AreOfBytes}
+use Rattle.dwz_def_reading.specs.Values.{AreBytes}
+use Rattle.dwz_def_reading.specs.Lists.{Each}
+use Rattle.dwz_run_course.specs.Gets.{AreOfBytes}
 
 are_bytes : (content : List ℕ) → All (λ byte. byte < 2 ^ 8) content → AreBytes content
 are_bytes [] all = tt

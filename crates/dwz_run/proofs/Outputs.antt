@@ -1,21 +1,21 @@
 -- What came of a run that did all is what is put of its FILEs, or of the two files of a demonstration, of which nothing is put.
 use Rattle.std.proofs.Common.{◌≡◌, ◌⊎◌, ℕ, List, [], Option, Some, None, refl, ap, subst, ◌∙◌, inl, inr}
 use Rattle.std.specs.Prelude.{IfSome, if◌then◌else◌}
-use Rattle.dwz_docs.specs.Texts.{NoZero}
+use Rattle.dwz_def_reading.specs.Texts.{NoZero}
 use Rattle.dwz_outside.specs.Store.{Store, done}
-use Rattle.dwz_outside.specs.Told.{Told}
+use Rattle.dwz_outside.specs.Told.{FilesSeen}
 use Rattle.dwz_report.specs.Texts.{demo_text, summary_text}
 use Rattle.dwz_words.specs.declared.options.Options.{Options}
 use Rattle.dwz_words.specs.Lawful.{Lawful}
-use Rattle.dwz_course.specs.declared.output.Output.{Output}
-use Rattle.dwz_course.specs.Demo.{asked_by, demo_options, new_length, old_length}
-use Rattle.dwz_course.specs.Ends.{AreContents, Came, done_text, output_text, puts_by}
-use Rattle.dwz_course.specs.Gets.{AreOfBytes, gets}
-use Rattle.dwz_course.specs.Outcome.{writes}
-use Rattle.dwz_demo.specs.Demo.{demo_files}
-use Rattle.dwz_out.specs.Out.{Out, output_of, sup_name}
-use Rattle.dwz_out.proofs.AllMade.{common_tied, file_tied, read_back}
-use Rattle.dwz_out.proofs.Gotten.{are_held}
+use Rattle.dwz_run_course.specs.declared.output.Output.{Output}
+use Rattle.dwz_run_course.specs.Demo.{asked_by, demo_options, new_length, old_length}
+use Rattle.dwz_run_course.specs.Ends.{AreContents, Came, done_text, output_text, puts_unless_demo}
+use Rattle.dwz_run_course.specs.Gets.{AreOfBytes, gets}
+use Rattle.dwz_run_course.specs.Outcome.{writes}
+use Rattle.dwz_gen.specs.Demo.{demo_files}
+use Rattle.dwz_def_run.specs.Out.{Out, output_of, sup_name, top_scope_of}
+use Rattle.dwz_def_output.proofs.AllMade.{common_tied, file_tied, read_back}
+use Rattle.dwz_def_run.proofs.Gotten.{are_held}
 use Rattle.dwz_run.specs.Laws.{AsksForDemo, AsksForFiles, HasOutput, HoldAfter, IsDemoText, puts_in, run_in, said}
 use Rattle.dwz_run.proofs.HeldAfter.{hold_after}
 use Rattle.dwz_run.proofs.CommonName.{demo_named, named_well}
@@ -36,10 +36,10 @@ given_of o contents out no_zero bytes given =
         docs = given.0;
         prunes = given.1;
         written = given.2;
-        back = read_back o contents given.0 given.1 are given.2;
+        back = read_back (top_scope_of o) (sup_name o) contents given.0 given.1 are given.2;
         tied = record {
-          common = common_tied o contents given.0 given.1 are given.2;
-          file = λ file there moves imports. file_tied o contents given.0 given.1 are given.2 file there moves imports no_zero;
+          common = common_tied (top_scope_of o) (sup_name o) contents given.0 given.1 are given.2;
+          file = λ file there moves imports. file_tied (top_scope_of o) (sup_name o) contents given.0 given.1 are given.2 file there moves imports no_zero;
         };
       };
       is = given.3;
@@ -51,13 +51,13 @@ given_of o contents out no_zero bytes given =
 pub record OfFiles (words : List (List ℕ)) (store : Store) (o : Options) (out : Output) : Type 0 where
   pub asks : AsksForFiles words store
   pub has : HasOutput asks.options asks.contents
-  pub puts_are : puts_by o.demo out ≡ puts_in has
+  pub puts_are : puts_unless_demo o.demo out ≡ puts_in has
   pub text_is : done_text o out ≡ said asks.options (run_in has)
 
 -- a demonstration was, and of what came of its two files nothing is put, and one line is said
 pub record OfDemo (words : List (List ℕ)) (o : Options) (out : Output) : Type 0 where
   pub asks : AsksForDemo words
-  pub puts_are : puts_by o.demo out ≡ []
+  pub puts_are : puts_unless_demo o.demo out ≡ []
   pub is_text : IsDemoText asks (done_text o out)
 
 abbrev demo_line : Options → ℕ → Output → List ℕ
@@ -73,7 +73,7 @@ demo_said_of words a contents out are bytes given =
       text_is = ap (λ (d : Option ℕ). if a.options.quiet then [] else output_text d out) a.is_demo ∙ ap (demo_line a.options a.units) g.is;
     }
 
-module _ (words : List (List ℕ)) (old : Told) (store : Store) (told : old.held ≡ Some store) where
+module _ (words : List (List ℕ)) (old : FilesSeen) (store : Store) (told : old.held ≡ Some store) where
   pub got_of : (names contents : List (List ℕ)) → IfSome old.held (λ s. gets s 0 names ≡ Some contents) → gets store 0 names ≡ Some contents
   got_of names contents is = subst (λ (h : Option Store). IfSome h (λ s. gets s 0 names ≡ Some contents)) told is
 
@@ -84,7 +84,7 @@ module _ (words : List (List ℕ)) (old : Told) (store : Store) (told : old.held
       record {
         asks = record { options = o; lawful = lawful; no_demo = no_demo; contents = contents; got = got };
         has = g.has;
-        puts_are = ap (λ (d : Option ℕ). puts_by d out) no_demo ∙ ap (λ (x : Output). x.puts) g.is;
+        puts_are = ap (λ (d : Option ℕ). puts_unless_demo d out) no_demo ∙ ap (λ (x : Output). x.puts) g.is;
         text_is = ap (λ (d : Option ℕ). if o.quiet then [] else output_text d out) no_demo
             ∙ ap (λ (x : Output). if o.quiet then [] else summary_text x.summary) g.is;
       }
@@ -103,7 +103,7 @@ module _ (words : List (List ℕ)) (old : Told) (store : Store) (told : old.held
         let a : AsksForDemo words = record { options = o; lawful = came.lawful; units = n; is_demo = e } in
         inr (record {
           asks = a;
-          puts_are = ap (λ (d : Option ℕ). puts_by d out) e;
+          puts_are = ap (λ (d : Option ℕ). puts_unless_demo d out) e;
           is_text = demo_said_of words a contents out are came.bytes given;
         })
     by None e are given = inl (of_files o contents out came.lawful e (got_of o.files contents are) came.bytes given)

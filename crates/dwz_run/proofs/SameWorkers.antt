@@ -1,13 +1,14 @@
 -- The number of workers is in nothing that comes of options: what is put and said is by names, contents and what moves.
 use Rattle.std.proofs.Common.{◌≡◌, ℕ, suc, List, [], ◌∷◌, ◌++◌, Option, length, refl, ap, ◌∙◌, inl, inr}
-use Rattle.dwz_same.specs.Units.{changes}
-use Rattle.dwz_back.specs.Files.{Run}
+use Rattle.dwz_def_images.specs.Units.{changes}
+use Rattle.dwz_def_readback.specs.Files.{Run}
 use Rattle.dwz_outside.specs.declared.puts.Put.{Put}
 use Rattle.dwz_words.specs.declared.options.Options.{Options}
-use Rattle.dwz_course.specs.declared.output.Output.{Output}
-use Rattle.dwz_course.specs.Outcome.{Outcome, refuses, writes}
-use Rattle.dwz_out.specs.FilesAfter.{bytes_after}
-use Rattle.dwz_out.specs.Out.{Out, common_length, common_puts, file_puts, files_puts, new_length, output_of, run_for, summary_lines, sup_name}
+use Rattle.dwz_run_course.specs.declared.output.Output.{Output}
+use Rattle.dwz_run_course.specs.Outcome.{Outcome, refuses, writes}
+use Rattle.dwz_def_run.specs.Out.{files_puts_by, summary_lines_by}
+use Rattle.dwz_def_output.specs.FilesAfter.{bytes_after}
+use Rattle.dwz_def_run.specs.Out.{Out, common_length_after, common_puts, file_puts, files_puts, length_if_new, output_of, run_for, summary_lines, sup_name}
 
 module _ (o : Options) (n : ℕ) where
   -- the same with so many workers
@@ -15,21 +16,21 @@ module _ (o : Options) (n : ℕ) where
   other = record o { workers = n }
 
   same_puts : (r : Run) (s : ℕ) (names : List (List ℕ)) → files_puts o r s names ≡ files_puts other r s names
-  unfolding files_puts
+  unfolding files_puts_by
   same_puts r s [] = refl
   same_puts r s (name ∷ names) = ap (λ (rest : List Put). file_puts o r s name ++ rest) (same_puts r (suc s) names)
 
   same_lines : (r : Run) (s : ℕ) (names : List (List ℕ)) → summary_lines o r s names ≡ summary_lines other r s names
-  unfolding summary_lines
+  unfolding summary_lines_by
   same_lines r s [] = refl
   same_lines r s (name ∷ names) =
-      ap (λ (rest : List (List ℕ × ℕ × Option ℕ)). (name, length (r.input.bytes s), new_length (changes r.move r.units s) (bytes_after (sup_name o) r s)) ∷ rest) (same_lines r (suc s) names)
+      ap (λ (rest : List (List ℕ × ℕ × Option ℕ)). (name, length (r.input.bytes s), length_if_new (changes r.move r.units s) (bytes_after (sup_name o) r s)) ∷ rest) (same_lines r (suc s) names)
 
   same_output : (r : Run) → output_of o r ≡ output_of other r
   same_output r =
       let by : List Put → List (List ℕ × ℕ × Option ℕ) → Output = λ ps ls. record {
         puts = common_puts o.common r ++ ps;
-        summary = record { common = common_length o.common r; files = ls };
+        summary = record { common = common_length_after o.common r; files = ls };
         partials = length r.move.parts;
       } in
       ap (λ (ps : List Put). by ps (summary_lines o r 0 o.files)) (same_puts r 0 o.files) ∙ ap (by (files_puts other r 0 o.files)) (same_lines r 0 o.files)

@@ -4,16 +4,16 @@ use Rattle.std.proofs.Math.Seq.{take-append_seam}
 use Rattle.std.specs.Prelude.{slice_get}
 use Rattle.dwz_outside.specs.declared.puts.Put.{Put}
 use Rattle.dwz_outside.specs.Store.{Store, done}
-use Rattle.dwz_outside.specs.Told.{FailedWrite, Shown, Told}
+use Rattle.dwz_outside.specs.Told.{FailedWrite, ConsoleSeen, StoredWith, FilesSeen}
 use Rattle.dwz_report.specs.Texts.{write_text}
-use Rattle.dwz_course.specs.declared.output.Output.{Output}
-use Rattle.dwz_course.specs.declared.status.Status.TheVariants.{WriteFault}
-use Rattle.dwz_course.specs.Ends.{Came, Says, puts_by}
-use Rattle.dwz_course.specs.Outcome.{writes}
-use Rattle.dwz_course.specs.Puts.{PutsStopped}
-use Rattle.dwz_demo.specs.Demo.{demo_files}
-use Rattle.dwz_out.specs.Out.{Out}
-use Rattle.dwz_out.proofs.Stopping.{stops}
+use Rattle.dwz_run_course.specs.declared.output.Output.{Output}
+use Rattle.dwz_run_course.specs.declared.status.Status.TheVariants.{WriteFault}
+use Rattle.dwz_run_course.specs.Ends.{Came, Says, puts_unless_demo}
+use Rattle.dwz_run_course.specs.Outcome.{writes}
+use Rattle.dwz_run_course.specs.Puts.{PutsStopped}
+use Rattle.dwz_gen.specs.Demo.{demo_files}
+use Rattle.dwz_def_run.specs.Out.{Out}
+use Rattle.dwz_def_run.proofs.Stopping.{stops}
 use Rattle.dwz_run.specs.Laws.{AsksForFiles, HasOutput, ReadOn, RunEnds, StoppedAt, puts_in}
 use Rattle.dwz_run.proofs.AllDone.{with_puts}
 use Rattle.dwz_run.proofs.ChangedFiles.{changed_there}
@@ -38,9 +38,9 @@ pub none_fails : (before : List Put) (p : Put) (after : List Put) → [] ≡ bef
 none_fails [] p after e = cc
 none_fails (b ∷ before) p after e = cc
 
-module _ (words : List (List ℕ)) (old new : Told) (shown shown_new : Shown) (store : Store) (told : old.held ≡ Some store) where
+module _ (words : List (List ℕ)) (old new : FilesSeen) (shown shown_new : ConsoleSeen) (store : Store) (told : old.held ≡ Some store) where
   stopped_at : (out : Output) (came : Came demo_files Out words old (writes out)) (name text : List ℕ)
-      → PutsStopped old new (puts_by came.options.demo out) name
+      → PutsStopped old new (puts_unless_demo came.options.demo out) name
       → text ≡ write_text name → StoppedAt words store old new text
   stopped_at out came name text s is = by (outputs words old store told out came) where
     by : OfFiles words store came.options out ⊎ OfDemo words came.options out → StoppedAt words store old new text
@@ -56,6 +56,7 @@ module _ (words : List (List ℕ)) (old new : Told) (shown shown_new : Shown) (s
           next = ap (λ (ps : List Put). slice_get ps (length s.before)) puts_are ∙ next_is s.before s.failed s.after;
           fault = subst (FailedWrite old new) s.name_is s.fault;
           held = with_puts old new store s.before (take (length s.before) (puts_in has)) told first s.held;
+          stored = subst (λ (ps : List Put). StoredWith old new ps) first s.stored;
           after = read_on words store f.asks has (length s.before);
           text_is = is ∙ ap write_text s.name_is;
         }

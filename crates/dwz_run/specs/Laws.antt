@@ -1,33 +1,34 @@
 -- What follows of how a run ends. What a run asks for, gets, puts and says is that of its words and of what was held.
 use Rattle.std.specs.Prelude.{◌≡◌, ◌⊎◌, ℕ, Bool, true, List, [], Option, Some, None, take, slice_get, length, if◌then◌else◌}
 use Rattle.dwz_model.specs.declared.fault.Refusal.{Refusal}
-use Rattle.dwz_meanings.specs.Documents.{Doc}
-use Rattle.dwz_meanings.specs.Files.{First, no_files_before}
-use Rattle.dwz_seen.specs.Lists.{Nth}
-use Rattle.dwz_back.specs.AllFiles.{ReadBack, SaysStill, given_if}
-use Rattle.dwz_back.specs.Back.{SaysPlaced}
-use Rattle.dwz_back.specs.Files.{Run, fitted}
+use Rattle.dwz_def_reading.specs.Documents.{Doc}
+use Rattle.dwz_def_reading.specs.Files.{First, no_files_before}
+use Rattle.dwz_def_tops.specs.Lists.{Nth}
+use Rattle.dwz_def_readback.specs.AllFiles.{ReadBack, SaysStill, given_if}
+use Rattle.dwz_def_readback.specs.Back.{SaysPlaced}
+use Rattle.dwz_def_readback.specs.Files.{Run, fitted}
 use Rattle.dwz_outside.specs.declared.puts.Put.{Put}
 use Rattle.dwz_outside.specs.Counts.{Rose}
 use Rattle.dwz_outside.specs.Store.{Store, done}
-use Rattle.dwz_outside.specs.Told.{FailedWrite, LeavesPuts, Shown, Told}
+use Rattle.dwz_outside.specs.Told.{FailedWrite, LeavesPuts, ConsoleSeen, StoredWith, FilesSeen}
 use Rattle.dwz_report.specs.Texts.{demo_text, refusal_text, summary_text, write_text}
 use Rattle.dwz_words.specs.declared.options.Options.{Options}
 use Rattle.dwz_words.specs.Lawful.{Lawful}
-use Rattle.dwz_course.specs.declared.status.Status.{Status}
-use Rattle.dwz_course.specs.declared.status.Status.TheVariants.{Done, Refused, Usage, ReadFault, WriteFault, NoMemory, ConsoleFault}
-use Rattle.dwz_course.specs.Demo.{demo_options, new_length, old_length}
-use Rattle.dwz_course.specs.Ends.{Complete, Ends, Refuses, Says, SaysAll, SaysNothing}
-use Rattle.dwz_course.specs.Gets.{gets}
-use Rattle.dwz_course.specs.Outcome.{Outcome, name_of}
-use Rattle.dwz_demo.specs.Demo.{demo_files}
-use Rattle.dwz_out.specs.FilesAfter.{bytes_after, common_bytes, file_after, has_common}
-use Rattle.dwz_out.specs.Laws.{AreTied}
-use Rattle.dwz_out.specs.Out.{IsRefused, IsWritten, Out, all_puts, common_of, rule_of, run_for, scope_of, stored_of, summary_of, sup_name}
-use Rattle.dwz_out.specs.Stops.{IsMade}
+use Rattle.dwz_run_course.specs.declared.status.Status.{Status}
+use Rattle.dwz_run_course.specs.declared.status.Status.TheVariants.{Done, Refused, Usage, ReadFault, WriteFault, NoMemory, ConsoleFault}
+use Rattle.dwz_run_course.specs.Demo.{demo_options, new_length, old_length}
+use Rattle.dwz_run_course.specs.Ends.{Complete, Ends, Refuses, Says, SaysAll, SaysNothing}
+use Rattle.dwz_run_course.specs.Gets.{gets}
+use Rattle.dwz_run_course.specs.Outcome.{Outcome, name_of_file}
+use Rattle.dwz_gen.specs.Demo.{demo_files}
+use Rattle.dwz_def_output.specs.FilesAfter.{bytes_after, common_bytes, file_after, has_common}
+use Rattle.dwz_def_output.specs.Laws.{AreTied}
+use Rattle.dwz_def_output.specs.Written.{stored_of}
+use Rattle.dwz_def_run.specs.Out.{IsRefused, IsWritten, Out, all_puts, common_of, rule_of, run_for, summary_of, sup_name, top_scope_of}
+use Rattle.dwz_def_run.specs.Stops.{IsMade}
 
 -- how a run ends, by its words, by what is told of the files and of the console before and after, and by its status
-abbrev pub RunEnds : List (List ℕ) → Told → Told → Shown → Shown → Status → Type 0
+abbrev pub RunEnds : List (List ℕ) → FilesSeen → FilesSeen → ConsoleSeen → ConsoleSeen → Status → Type 0
 RunEnds words old new shown shown_new status = Ends demo_files Out words old new shown shown_new status
 
 -- ---- what is asked for
@@ -71,7 +72,7 @@ pub record HasOutput (o : Options) (contents : List (List ℕ)) : Type 0 where
   pub docs : List (Doc ℕ)
   pub prunes : List Bool
   pub written : IsWritten o contents docs prunes
-  pub back : ReadBack (scope_of o) docs (rule_of o docs) (stored_of contents prunes)
+  pub back : ReadBack (top_scope_of o) docs (rule_of o docs) (stored_of contents prunes)
       (file_after (sup_name o) (run_for o contents docs prunes)) (common_of o.common (run_for o contents docs prunes))
   pub tied : AreTied (sup_name o) (run_for o contents docs prunes)
 
@@ -100,11 +101,12 @@ pub record HoldAfter (o : Options) (r : Run) (now : Store) : Type 0 where
 abbrev pub said : Options → Run → List ℕ
 said o r = if o.quiet then [] else summary_text (summary_of o r)
 
--- All is put, in order, and nothing else; so the FILEs hold what they have after, and the common file is there. And this is the text of it.
-pub record DidAll (words : List (List ℕ)) (store : Store) (new : Told) (text : List ℕ) : Type 0 where
+-- All is put, in order, each once, and nothing else; so the FILEs hold what they have after, and the common file is there. And this is the text of it.
+pub record DidAll (words : List (List ℕ)) (store : Store) (old new : FilesSeen) (text : List ℕ) : Type 0 where
   pub asks : AsksForFiles words store
   pub out : HasOutput asks.options asks.contents
   pub held : new.held ≡ Some (done (puts_in out) store)
+  pub stored : StoredWith old new (puts_in out)
   pub after : HoldAfter asks.options (run_in out) (done (puts_in out) store)
   pub text_is : text ≡ said asks.options (run_in out)
 
@@ -119,29 +121,30 @@ pub record IsDemoText {words : List (List ℕ)} (a : AsksForDemo words) (text : 
   pub out : HasOutput (demo_options a.options) (demo_files a.units)
   pub text_is : text ≡ demo_said a.options a.units (run_in out)
 
--- so it is, and nothing is held otherwise than before
-pub record DidDemo (words : List (List ℕ)) (store : Store) (new : Told) (text : List ℕ) : Type 0 where
+-- so it is, and nothing is put: nothing is held otherwise than before
+pub record DidDemo (words : List (List ℕ)) (store : Store) (old new : FilesSeen) (text : List ℕ) : Type 0 where
   pub asks : AsksForDemo words
   pub is_text : IsDemoText asks text
   pub held : new.held ≡ Some store
+  pub stored : StoredWith old new []
 
-abbrev pub Did : List (List ℕ) → Store → Told → List ℕ → Type 0
-Did words store new text = DidAll words store new text ⊎ DidDemo words store new text
+abbrev pub Did : List (List ℕ) → Store → FilesSeen → FilesSeen → List ℕ → Type 0
+Did words store old new text = DidAll words store old new text ⊎ DidDemo words store old new text
 
 -- Where a run answers Done its FILEs were held and read; all is put, and reads back; and its text is written, once. Or it is a
 -- demonstration.
 abbrev pub DoneLaw : Type 0
 DoneLaw =
-    (words : List (List ℕ)) (old new : Told) (shown shown_new : Shown) → RunEnds words old new shown shown_new Done
+    (words : List (List ℕ)) (old new : FilesSeen) (shown shown_new : ConsoleSeen) → RunEnds words old new shown shown_new Done
     → (store : Store) → old.held ≡ Some store
-    → (text : List ℕ) × Did words store new text × SaysAll shown shown_new text
+    → (text : List ℕ) × Did words store old new text × SaysAll shown shown_new text
 
 -- Where it answers ConsoleFault all is put as well. There is a text, and since the console failed nothing of it is written.
 abbrev pub SilentLaw : Type 0
 SilentLaw =
-    (words : List (List ℕ)) (old new : Told) (shown shown_new : Shown) → RunEnds words old new shown shown_new ConsoleFault
+    (words : List (List ℕ)) (old new : FilesSeen) (shown shown_new : ConsoleSeen) → RunEnds words old new shown shown_new ConsoleFault
     → (store : Store) → old.held ≡ Some store
-    → (text : List ℕ) × Did words store new text × SaysNothing shown shown_new text
+    → (text : List ℕ) × Did words store old new text × SaysNothing shown shown_new text
 
 -- what comes of options and contents is the same for every number of workers
 abbrev pub WorkersLaw : Type 0
@@ -161,7 +164,8 @@ PutsNothing _ = ⊥
 
 abbrev pub NothingLaw : Type 0
 NothingLaw =
-    (words : List (List ℕ)) (old new : Told) (shown shown_new : Shown) (status : Status) → RunEnds words old new shown shown_new status
+    (words : List (List ℕ)) (old new : FilesSeen) (shown shown_new : ConsoleSeen) (status : Status)
+    → RunEnds words old new shown shown_new status
     → PutsNothing status → LeavesPuts old new
 
 -- the first fault of reading these contents, or of what comes of them
@@ -175,48 +179,50 @@ pub record WasRefused (words : List (List ℕ)) (store : Store) (text : List ℕ
   pub asks : Asks words store
   pub refusal : Refusal
   pub is_first : IsFirstRefusal (work_options asks) (work_contents asks) refusal
-  pub text_is : text ≡ refusal_text (name_of (work_options asks) refusal.file) refusal
+  pub text_is : text ≡ refusal_text (name_of_file (work_options asks) refusal.file) refusal
 
 -- Where a run answers Refused there is such a fault, and the text names it.
 abbrev pub RefusedLaw : Type 0
 RefusedLaw =
-    (words : List (List ℕ)) (old new : Told) (shown shown_new : Shown) → RunEnds words old new shown shown_new Refused
+    (words : List (List ℕ)) (old new : FilesSeen) (shown shown_new : ConsoleSeen) → RunEnds words old new shown shown_new Refused
     → (store : Store) → old.held ≡ Some store
     → (text : List ℕ) × WasRefused words store text × Says shown shown_new Refused text
 
 -- where the words aren't lawful it answers Usage, unless memory ran out; and only there
 abbrev pub UsageLaw : Type 0
 UsageLaw =
-    (words : List (List ℕ)) (old new : Told) (shown shown_new : Shown) (status : Status) → RunEnds words old new shown shown_new status
+    (words : List (List ℕ)) (old new : FilesSeen) (shown shown_new : ConsoleSeen) (status : Status)
+    → RunEnds words old new shown shown_new status
     → (((o : Options) → ¬ (Lawful words o)) → (status ≡ Usage) ⊎ (status ≡ NoMemory))
     × (status ≡ Usage → (o : Options) → ¬ (Lawful words o))
 
 -- ---- which status is answered where nothing outside fails
 
 -- no get, no put and no writing of a text failed
-pub record NoneFailed (old new : Told) (shown shown_new : Shown) : Type 0 where
+pub record NoneFailed (old new : FilesSeen) (shown shown_new : ConsoleSeen) : Type 0 where
   pub reads : ¬ (Rose old.read_faults new.read_faults)
   pub writes : ¬ (Rose old.write_faults new.write_faults)
   pub texts : ¬ (Rose shown.faults shown_new.faults)
 
 abbrev pub AnswerLaw : Type 0
 AnswerLaw =
-    (words : List (List ℕ)) (old new : Told) (shown shown_new : Shown) (status : Status) → RunEnds words old new shown shown_new status
+    (words : List (List ℕ)) (old new : FilesSeen) (shown shown_new : ConsoleSeen) (status : Status)
+    → RunEnds words old new shown shown_new status
     → NoneFailed old new shown shown_new → (o : Options) → Lawful words o
     → (status ≡ Done) ⊎ (status ≡ Refused) ⊎ (status ≡ NoMemory)
 
--- Done, where what is asked for reads, and nothing refuses what comes of it
+-- Done, where there is no first refusal
 abbrev pub CompleteLaw : Type 0
 CompleteLaw =
-    (words : List (List ℕ)) (old new : Told) (shown shown_new : Shown) (status : Status)
+    (words : List (List ℕ)) (old new : FilesSeen) (shown shown_new : ConsoleSeen) (status : Status)
     → Complete demo_files Out words old new shown shown_new status → NoneFailed old new shown shown_new
-    → (store : Store) → old.held ≡ Some store → (a : Asks words store) (docs : List (Doc ℕ)) (prunes : List Bool)
-    → IsWritten (work_options a) (work_contents a) docs prunes → (status ≡ Done) ⊎ (status ≡ NoMemory)
+    → (store : Store) → old.held ≡ Some store → (a : Asks words store)
+    → ((r : Refusal) → ¬ IsFirstRefusal (work_options a) (work_contents a) r) → (status ≡ Done) ⊎ (status ≡ NoMemory)
 
 -- Refused, where there is a first refusal
 abbrev pub RefusesLaw : Type 0
 RefusesLaw =
-    (words : List (List ℕ)) (old new : Told) (status : Status) → Refuses demo_files Out words old new status
+    (words : List (List ℕ)) (old new : FilesSeen) (status : Status) → Refuses demo_files Out words old new status
     → ¬ (Rose old.read_faults new.read_faults)
     → (store : Store) → old.held ≡ Some store → (a : Asks words store) (r : Refusal) → IsFirstRefusal (work_options a) (work_contents a) r
     → (status ≡ Refused) ⊎ (status ≡ NoMemory)
@@ -236,9 +242,9 @@ ReadsOn {o} out now file name =
 abbrev pub ReadOn : {o : Options} {contents : List (List ℕ)} → HasOutput o contents → Store → Type 0
 ReadOn {o} out now = (file : ℕ) (name : List ℕ) → Nth 0 o.files file name → ReadsOn out now file name
 
--- The first puts are done, and the next one failed, and was the last that did. Each FILE is as it was, or as it is made, and reads as
+-- The first puts are done, each once, and the next one failed, and was the last that did. Each FILE is as it was, or as it is made, and reads as
 -- before.
-pub record StoppedAt (words : List (List ℕ)) (store : Store) (old new : Told) (text : List ℕ) : Type 0 where
+pub record StoppedAt (words : List (List ℕ)) (store : Store) (old new : FilesSeen) (text : List ℕ) : Type 0 where
   pub asks : AsksForFiles words store
   pub out : HasOutput asks.options asks.contents
   pub count : ℕ
@@ -246,12 +252,13 @@ pub record StoppedAt (words : List (List ℕ)) (store : Store) (old new : Told) 
   pub next : slice_get (puts_in out) count ≡ Some failed
   pub fault : FailedWrite old new failed.name
   pub held : new.held ≡ Some (done (take count (puts_in out)) store)
+  pub stored : StoredWith old new (take count (puts_in out))
   pub after : ReadOn out (done (take count (puts_in out)) store)
   pub text_is : text ≡ write_text failed.name
 
 abbrev pub StoppedLaw : Type 0
 StoppedLaw =
-    (words : List (List ℕ)) (old new : Told) (shown shown_new : Shown) → RunEnds words old new shown shown_new WriteFault
+    (words : List (List ℕ)) (old new : FilesSeen) (shown shown_new : ConsoleSeen) → RunEnds words old new shown shown_new WriteFault
     → (store : Store) → old.held ≡ Some store
     → (text : List ℕ) × StoppedAt words store old new text × Says shown shown_new WriteFault text
 
@@ -264,18 +271,19 @@ PrefixesLaw =
 -- ---- a demonstration
 
 -- What each status says of it: its text is of the two files with a common one, or of the first refusal of these.
-abbrev pub DemoEnds : {words : List (List ℕ)} → AsksForDemo words → Shown → Shown → Status → Type 0
+abbrev pub DemoEnds : {words : List (List ℕ)} → AsksForDemo words → ConsoleSeen → ConsoleSeen → Status → Type 0
 DemoEnds a shown shown_new Done = (text : List ℕ) × IsDemoText a text × SaysAll shown shown_new text
 DemoEnds a shown shown_new ConsoleFault = (text : List ℕ) × IsDemoText a text × SaysNothing shown shown_new text
 DemoEnds a shown shown_new Refused =
     (r : Refusal) × IsFirstRefusal (demo_options a.options) (demo_files a.units) r
-    × Says shown shown_new Refused (refusal_text (name_of (demo_options a.options) r.file) r)
+    × Says shown shown_new Refused (refusal_text (name_of_file (demo_options a.options) r.file) r)
 DemoEnds a shown shown_new NoMemory = Unit {0}
 DemoEnds a shown shown_new _ = ⊥
 
 -- Where words ask for a demonstration the run ends so, and nothing is held otherwise than before.
 abbrev pub DemoLaw : Type 0
 DemoLaw =
-    (words : List (List ℕ)) (old new : Told) (shown shown_new : Shown) (status : Status) → RunEnds words old new shown shown_new status
+    (words : List (List ℕ)) (old new : FilesSeen) (shown shown_new : ConsoleSeen) (status : Status)
+    → RunEnds words old new shown shown_new status
     → (a : AsksForDemo words)
     → DemoEnds a shown shown_new status × ((store : Store) → old.held ≡ Some store → new.held ≡ Some store)

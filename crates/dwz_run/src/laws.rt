@@ -1,4 +1,7 @@
 //! What follows of how a run ends.
+//!
+//! They are laws over how a run ended, and not more clauses of `run`: so they are proved without a look at code, and use nothing but
+//! `ends`, `complete` and `refuses`.
 
 ghost use Rattle.dwz_run.specs.Laws.{AnswerLaw, CompleteLaw, DemoLaw, DoneLaw, NothingLaw, PrefixesLaw, RefusedLaw, RefusesLaw, SilentLaw};
 ghost use Rattle.dwz_run.specs.Laws.{StoppedLaw, UsageLaw, WorkersLaw};
@@ -23,8 +26,8 @@ pub fn cause_laws()
     ensures usage { UsageLaw }
 {}
 
-/// Where no get, no put and no writing of the text failed, lawful words get Done, Refused or NoMemory: Done, where the FILEs are held and
-/// read and nothing refuses what is put of them; Refused, where there is a first refusal. Memory may always run out.
+/// Where no get, no put and no writing of the text failed, lawful words get Done, Refused or NoMemory: of FILEs that are held, Refused
+/// where there is a first refusal, and else Done. Memory may always run out.
 pub fn answer_laws()
     ensures answer { AnswerLaw }
     ensures complete { CompleteLaw }

@@ -1,4 +1,12 @@
-//! A run of the tool, from the words of the command line to the files that are put.
+//! A run of the tool, from the words of the command line to the files that are put, and what follows of how it ends.
+//!
+//! `run` takes words, files, a console and a gate, and answers a `Status`. It is `run_course` with the work of `written_files`:
+//! `Graph::read`, `prunable_files`, `make_files`, `outcome`, a line each. Its clauses: `ends` (each status with its cause), `complete` and
+//! `refuses` (what comes where nothing outside fails), `demo`, `reads`.
+//!
+//! The laws say what follows: `done_laws` (what is put reads back as what was read), `cause_laws`, `answer_laws`, `stop_laws`, `demo_laws`.
+//!
+//! Read first: `specs/Laws.antt`; then `Ends` (`Ends.antt` of `dwz_run_course`) and `Out` (`Out.antt` of `dwz_def_output`).
 #![tactic(auto)]
 
 mod laws;
@@ -6,6 +14,6 @@ mod running;
 mod work;
 mod written;
 
-pub use dwz_course::Status;
+pub use dwz_run_course::Status;
 pub use laws::{answer_laws, cause_laws, demo_laws, done_laws, stop_laws};
 pub use running::run;

@@ -1,15 +1,15 @@
 //! The whole run.
 
-ghost use Rattle.dwz_course.specs.Ends.{Complete, Ends, KeepsLastRead, LeavesFiles, Refuses};
-ghost use Rattle.dwz_demo.specs.Demo.{demo_files};
-ghost use Rattle.dwz_out.specs.Out.{Out};
-ghost use Rattle.dwz_words.specs.Lawful.{bytes_of};
+ghost use Rattle.dwz_run_course.specs.Ends.{Complete, Ends, KeepsLastRead, LeavesFiles, Refuses};
+ghost use Rattle.dwz_gen.specs.Demo.{demo_files};
+ghost use Rattle.dwz_def_run.specs.Out.{Out};
+ghost use Rattle.dwz_words.specs.Lawful.{word_bytes};
 
 use crate::work::FileWork;
 use crate::written::written_files;
-use dwz_course::{Status, run_course};
 use dwz_gate::Gate;
 use dwz_outside::{Console, Files};
+use dwz_run_course::{Status, run_course};
 use std::alloc::Global;
 use std::thread::Threads;
 
@@ -32,12 +32,12 @@ pub fn run<Rt: Threads + Sync, F: Files, C: Console, G: Gate>(
     console: &mut C,
     gate: &G,
 ) -> Status
-    ensures ends { Ends demo_files Out (bytes_of words.now) (F.told files.old) (F.told files.new) (C.shown console.old)
+    ensures ends { Ends demo_files Out (word_bytes words.now) (F.told files.old) (F.told files.new) (C.shown console.old)
         (C.shown console.new) result }
-    ensures complete { Complete demo_files Out (bytes_of words.now) (F.told files.old) (F.told files.new) (C.shown console.old)
+    ensures complete { Complete demo_files Out (word_bytes words.now) (F.told files.old) (F.told files.new) (C.shown console.old)
         (C.shown console.new) result }
-    ensures refuses { Refuses demo_files Out (bytes_of words.now) (F.told files.old) (F.told files.new) result }
-    ensures demo { LeavesFiles (bytes_of words.now) (F.told files.old) (F.told files.new) }
+    ensures refuses { Refuses demo_files Out (word_bytes words.now) (F.told files.old) (F.told files.new) result }
+    ensures demo { LeavesFiles (word_bytes words.now) (F.told files.old) (F.told files.new) }
     ensures reads { KeepsLastRead result (F.told files.old) (F.told files.new) }
 {
     run_course(

@@ -1,12 +1,15 @@
 //! The work of a run.
+//!
+//! What is made of files is no method of it but a closure (`written_files`): the toolchain proves no method of a trait that starts threads.
+//! That at most one thing comes is a law of the trait, from which completeness follows.
 
-ghost use Rattle.dwz_demo.specs.Demo.{demo_files};
-ghost use Rattle.dwz_out.specs.Out.{Out};
-ghost use Rattle.dwz_out.proofs.OneOutcome.{one_outcome};
+ghost use Rattle.dwz_gen.specs.Demo.{demo_files};
+ghost use Rattle.dwz_def_run.specs.Out.{Out};
+ghost use Rattle.dwz_def_run.proofs.OneOutcome.{one_outcome};
 
-use dwz_course::Work;
-use dwz_demo::make_files;
+use dwz_gen::{Two, make};
 use dwz_model::NoMemory;
+use dwz_run_course::Work;
 use std::alloc::Global;
 
 /// The work on files: what comes of them, and the two of a demonstration.
@@ -19,7 +22,11 @@ impl Work for FileWork {
     ghost gives = { Out };
 
     fn make(&self, alloc: Global, n: u32) -> Result<Vec<Vec<u8>>, NoMemory> {
-        make_files(alloc, n)
+        let Two { one, two } = make(alloc, n)?;
+        let mut files = Vec::new(alloc);
+        files.push(one.into_vec())?;
+        files.push(two.into_vec())?;
+        Ok(files)
     }
 
     ghost one = { one_outcome };

@@ -1,18 +1,21 @@
 //! Files, from their contents to what is put.
+//!
+//! Options are taken as they come. The number of workers is brought into its range, though words that are lawful have it there, and 2^32
+//! files or more count as memory that there isn't: so the contract of the work speaks of all options.
 
 ghost use Rattle.std.specs.Prelude.{◌≡◌, ◌<◌, ◌≤◌, map};
-ghost use Rattle.dwz_course.specs.Answers.{IsAnswer};
-ghost use Rattle.dwz_out.specs.Out.{Out, scope_of};
-ghost use Rattle.dwz_planned.specs.Rules.{alike_scope};
+ghost use Rattle.dwz_run_course.specs.Answers.{IsAnswer};
+ghost use Rattle.dwz_def_run.specs.Out.{Out, top_scope_of};
+ghost use Rattle.dwz_plan_files.specs.Rules.{alike_scope};
 
-use dwz_after::outcome;
-use dwz_course::Output;
 use dwz_gate::Gate;
 use dwz_graph::Graph;
-use dwz_make::make_files;
+use dwz_graph_pruning::prunable_files;
 use dwz_model::GraphErr;
-use dwz_plan::Sharing;
-use dwz_prunable::prunable_files;
+use dwz_plan::Scope;
+use dwz_run_course::Output;
+use dwz_run_files::make_files;
+use dwz_run_output::outcome;
 use dwz_words::Options;
 use std::alloc::Global;
 use std::thread::Threads;
@@ -30,12 +33,12 @@ fn workers_of(options: &Options) -> u32
 }
 
 // Which files share: all of them where a common file is asked for, and else each by itself.
-fn sharing_of(options: &Options) -> Sharing
-    ensures { alike_scope result ≡ scope_of options.now }
+fn sharing_of(options: &Options) -> Scope
+    ensures { alike_scope result ≡ top_scope_of options.now }
 {
     match options.common {
-        None => Sharing::Each,
-        Some(_) => Sharing::Together,
+        None => Scope::Each,
+        Some(_) => Scope::Together,
     }
 }
 

@@ -3,8 +3,8 @@ use Rattle.std.proofs.Common.{◌≡◌, ℕ, ◌≤◌, List, [], length, take,
 use Rattle.std.proofs.lemmas.Bool.{eq-eqb, eqb-true}
 use Rattle.std.proofs.Math.ListN.{drop_of_length-le}
 use Rattle.memchr.specs.Find.{IsFirstByte, is_byte}
-use Rattle.dwz_docs.specs.Texts.{text_in}
-use Rattle.dwz_docs.proofs.TextLemmas.{none_again, text_in-none, text_in-some}
+use Rattle.dwz_def_reading.specs.Texts.{text_in}
+use Rattle.dwz_def_reading.proofs.TextLemmas.{none_again, text_in-none, text_in-some}
 
 pub none_first : (bytes : List ℕ) → IsFirstByte (is_byte 0) bytes None → text_in bytes ≡ None
 none_first bytes is = text_in-none bytes (λ k lt e. is k (omega arith) lt (eq-eqb _ 0 e))

@@ -12,10 +12,10 @@ use Rattle.std.proofs.lemmas.List.Folds.{Any-from_list_any, list_any-from_Any}
 use Rattle.std.proofs.lemmas.List.Kept.{AllPairs-from_increasing}
 use Rattle.std.proofs.lemmas.List.Quantifiers.{position-Some}
 use Rattle.std.proofs.lemmas.List.Sums.{position_or_len_is}
-use Rattle.dwz_docs.specs.Pruning.{is_in_range, is_kept, new_number}
-use Rattle.dwz_docs.specs.Texts.{text_at}
-use Rattle.dwz_docs.proofs.TextRowLemmas.{first_at}
-use Rattle.dwz_docs.proofs.PruneLemmas.{same_kept}
+use Rattle.dwz_def_reading.specs.Pruning.{is_in_range, is_kept, new_number}
+use Rattle.dwz_def_reading.specs.Texts.{text_at}
+use Rattle.dwz_def_reading.proofs.TextRowLemmas.{first_at}
+use Rattle.dwz_def_reading.proofs.PruneLemmas.{same_kept}
 use Rattle.dwz_strs.specs.Pruned.{IsPruned, Pruning, RisesAlong, moved_in, pruning}
 
 -- ---- looking up

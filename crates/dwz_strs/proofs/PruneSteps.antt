@@ -10,11 +10,11 @@ use Rattle.std.proofs.lemmas.List.Folds.{list_any_none}
 use Rattle.std.proofs.lemmas.List.Kept.{AllPairs-from_increasing}
 use Rattle.std.proofs.lemmas.List.Sums.{fails_before_first}
 use Rattle.std.proofs.lemmas.List.Quantifiers.{position-Some}
-use Rattle.dwz_docs.specs.Pruning.{bytes_kept, is_in_range, is_kept, new_number, pruned, range_end}
-use Rattle.dwz_docs.specs.Texts.{NoZero, text_at, text_in}
-use Rattle.dwz_docs.proofs.PruneLemmas.{all_kept, end_of_text, kept-append, kept_in_range, length_kept, none_kept, some_text}
-use Rattle.dwz_docs.proofs.TextRowLemmas.{place_of_none}
-use Rattle.dwz_docs.proofs.TextLemmas.{text_again, text_begins}
+use Rattle.dwz_def_reading.specs.Pruning.{bytes_kept, is_in_range, is_kept, new_number, pruned, range_end}
+use Rattle.dwz_def_reading.specs.Texts.{NoZero, text_at, text_in}
+use Rattle.dwz_def_reading.proofs.PruneLemmas.{all_kept, end_of_text, kept-append, kept_in_range, length_kept, none_kept, some_text}
+use Rattle.dwz_def_reading.proofs.TextRowLemmas.{place_of_none}
+use Rattle.dwz_def_reading.proofs.TextLemmas.{text_again, text_begins}
 use Rattle.dwz_strs.specs.Pruned.{IsPruned, RisesAlong, pruning}
 use Rattle.dwz_strs.specs.Steps.{end_behind}
 

@@ -3,8 +3,8 @@ use Rattle.std.proofs.Common.{◌≡◌, ℕ, zero, suc, ◌+◌, ◌-◌, ◌*�
 use Rattle.std.proofs.Common.{append-nil, length-drop}
 use Rattle.std.specs.Option.{option_map}
 use Rattle.std.proofs.lemmas.List.{drop-drop, drop_all}
-use Rattle.dwz_docs.specs.OffsetTables.{count_at, counts_in, is_contribution, places_from, slot_places, slots_in}
-use Rattle.dwz_docs.proofs.OffsetLemmas.{counts_end, counts_step, whole}
+use Rattle.dwz_def_reading.specs.OffsetTables.{count_at, counts_in, is_contribution, places_from, slot_places, slots_in}
+use Rattle.dwz_def_reading.proofs.OffsetLemmas.{counts_end, counts_step, whole}
 
 -- ---- places
 

@@ -2,7 +2,7 @@
 use Rattle.std.specs.Prelude.{◌≡◌, ℕ, List, length, position, slice_index, Contains, Option, SomeIff, ◌==◌}
 use Rattle.std.specs.List.Sorted.{IsStrictlyIncreasing}
 use Rattle.std.specs.Option.{option_map}
-use Rattle.dwz_docs.specs.Pruning.{new_number, pruned}
+use Rattle.dwz_def_reading.specs.Pruning.{new_number, pruned}
 
 -- the new bytes; the uses; and the new number of each use, at its place
 pub record Pruning : Type 0 where

@@ -1,6 +1,6 @@
 -- One use after the other, in ascending order. This is of the inside alone.
 use Rattle.std.specs.Prelude.{ℕ, List, nat_le, if◌then◌else◌}
-use Rattle.dwz_docs.specs.Pruning.{range_end}
+use Rattle.dwz_def_reading.specs.Pruning.{range_end}
 
 -- where the ranges end, of which that of a use is the last
 abbrev pub end_behind : List ℕ → ℕ → ℕ → ℕ

@@ -1,10 +1,15 @@
-//! Texts and slots in the sections that hold strings (DWARF 5, 7.5.5 and 7.26), and sections from which what isn't used is
-//! taken out.
+//! Texts and slots in the sections that hold strings (DWARF 5, 7.5.5 and 7.26), and such a section without what isn't used.
+//!
+//! `text_at` is the text at an offset, `slot` the number in a slot; None exactly where none stands there. `slots` lists the places of all
+//! slots of `.debug_str_offsets`. `prune` takes out of a section of texts all bytes that no use needs: `Pruned::bytes` is what stays, and
+//! each use has its new number. Uses are sorted, and each byte of the section is looked at once.
+//!
+//! Read first: `specs/Pruned.antt`, and `Texts.antt`, `OffsetTables.antt` and `Pruning.antt` of `dwz_def_reading`.
 #![tactic(auto)]
 
 ghost use Rattle.std.specs.Prelude.{◌≡◌};
 ghost use Rattle.std.specs.Option.{option_map};
-ghost use Rattle.dwz_docs.specs.Texts;
+ghost use Rattle.dwz_def_reading.specs.Texts;
 
 mod offset_tables;
 mod pruned;

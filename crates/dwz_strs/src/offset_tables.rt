@@ -1,7 +1,7 @@
 //! Where the slots of string offsets tables are (DWARF 5, 7.26).
 
 ghost use Rattle.std.specs.Prelude.{◌≡◌, ◌+◌, ◌*◌, ◌^◌, ◌<◌, ◌≤◌, ◌++◌, IfOk, IsTrue, OnOk, drop, length, take};
-ghost use Rattle.dwz_docs.specs.OffsetTables.{count_at, is_contribution, places_from, size_at, slots_in};
+ghost use Rattle.dwz_def_reading.specs.OffsetTables.{count_at, is_contribution, places_from, size_at, slots_in};
 ghost use Rattle.dwz_bytes.specs.Spelling.{le_value};
 
 use dwz_model::{NoMemory, Numbers};
@@ -31,7 +31,7 @@ fn version_at(rest: &[u8]) -> u16
 }
 
 // Whether a contribution stands at the front.
-#[tactic(auto, unfolding(dwz_docs::specs::OffsetTables::is_contribution))]
+#[tactic(auto, unfolding(dwz_def_reading::specs::OffsetTables::is_contribution))]
 fn is_contribution(rest: &[u8]) -> bool
     ensures { result ≡ is_contribution rest.now }
 {
@@ -46,7 +46,7 @@ fn is_contribution(rest: &[u8]) -> bool
 }
 
 // How many slots it has then.
-#[tactic(auto, unfolding(dwz_docs::specs::OffsetTables::count_at))]
+#[tactic(auto, unfolding(dwz_def_reading::specs::OffsetTables::count_at))]
 fn count_at(rest: &[u8]) -> u32
     requires { IsTrue (is_contribution rest.now) }
     ensures { result ≡ count_at rest.now }

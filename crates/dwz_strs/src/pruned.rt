@@ -46,7 +46,7 @@ impl Pruned {
 
     /// The new number of a use: where its text stands in the new section, in bytes from the section's first. None exactly where
     /// the offset is no use.
-    pub fn new_place(&self, offset: u32) -> Option<u32>
+    pub fn moved(&self, offset: u32) -> Option<u32>
         ensures { result ≡ moved_in self.now offset }
     {
         match self.uses.binary_search(&offset) {

@@ -2,8 +2,8 @@
 
 ghost use Rattle.std.specs.Prelude.{◌≡◌, ℕ, All, Contains, IfOk, IsSome};
 ghost use Rattle.std.specs.List.Sorted.{IsStrictlyIncreasing};
-ghost use Rattle.dwz_docs.specs.Pruning;
-ghost use Rattle.dwz_docs.specs.Texts.{text_at};
+ghost use Rattle.dwz_def_reading.specs.Pruning;
+ghost use Rattle.dwz_def_reading.specs.Texts.{text_at};
 ghost use Rattle.dwz_strs.specs.Pruned.{IsPruned};
 ghost use Rattle.dwz_strs.specs.Steps.{end_behind};
 

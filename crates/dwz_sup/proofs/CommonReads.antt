@@ -1,14 +1,14 @@
 -- The sections of the supplementary file: their codes rise, so no two are one, and their numbers fit.
 use Rattle.std.proofs.Common.{◌≡◌, ℕ, ◌+◌, ◌^◌, ◌<◌, ◌≤◌, true, List, [], ◌∷◌, ◌++◌, length, All, AllPairs, Option, Some, None, refl, arith, codes, bit_and}
 use Rattle.std.proofs.lemmas.List.Kept.{AllPairs-cons}
-use Rattle.dwz_model.specs.declared.sections.NewSections.{NewSections}
-use Rattle.dwz_docs.specs.ElfLayout.{too_large}
-use Rattle.dwz_docs.specs.ElfNames.{code_of}
-use Rattle.dwz_docs.specs.PlainFile.{AreKnown, FitsPlain, PlainSection, common_sections, if_there, plain_file, plain_section, sections_with, text_section_of}
-use Rattle.dwz_docs.specs.Supplementary.{sup_bytes}
-use Rattle.dwz_docs.specs.Texts.{NoZero}
-use Rattle.dwz_docs.proofs.PlainReads.{no_zero_in}
-use Rattle.dwz_docs.proofs.ListFacts.{all_more}
+use Rattle.dwz_model.specs.declared.sections.Sections.{Sections}
+use Rattle.dwz_def_reading.specs.ElfLayout.{too_large}
+use Rattle.dwz_def_reading.specs.ElfNames.{code_of}
+use Rattle.dwz_def_reading.specs.PlainFile.{AreKnown, FitsPlain, PlainSection, if_there, plain_file, plain_section, sections_with, supplementary_sections, text_section_of}
+use Rattle.dwz_def_reading.specs.Supplementary.{sup_bytes}
+use Rattle.dwz_def_reading.specs.Texts.{NoZero}
+use Rattle.dwz_def_reading.proofs.PlainReads.{no_zero_in}
+use Rattle.dwz_def_reading.proofs.ListFacts.{all_more}
 
 -- what holds of a section by itself
 record IsGood (s : PlainSection) : Type 0 where
@@ -48,7 +48,7 @@ rising-if low c make (Some bytes) sections is good less r = rising-cons low c (m
 plain_good : (name bytes : List ℕ) → NoZero name → IsGood (plain_section name bytes)
 plain_good name bytes n = record { name = n; flags = omega arith; plain = refl }
 
-all_rise : (s : NewSections) (sup : List ℕ) → Rising 0 (sections_with s sup)
+all_rise : (s : Sections) (sup : List ℕ) → Rising 0 (sections_with s sup)
 all_rise s sup =
     let none : Rising 9 [] = record {
       pairs = λ i j d less lt. absurd (omega (arith, lt));
@@ -69,7 +69,7 @@ all_rise s sup =
     let abbrevs = rising-cons 1 2 (plain_section (codes ".debug_abbrev") s.abbrev) _ refl (plain_good (codes ".debug_abbrev") s.abbrev (no_zero_in (codes ".debug_abbrev") refl)) (omega arith) texts in
     rising-cons 0 1 (plain_section (codes ".debug_info") s.info) _ refl (plain_good (codes ".debug_info") s.info (no_zero_in (codes ".debug_info") refl)) (omega arith) abbrevs
 
-pub common_known : (s : NewSections) (sum : List ℕ) → AreKnown (common_sections s sum)
+pub common_known : (s : Sections) (sum : List ℕ) → AreKnown (supplementary_sections s sum)
 common_known s sum =
     let r = all_rise s (sup_bytes (record { supplementary = true; name = []; sum = sum })) in
     record {
@@ -79,8 +79,8 @@ common_known s sum =
       uncompressed = λ k d lt. (r.good k d lt).plain;
     }
 
-pub common_fits : (machine flags : ℕ) (s : NewSections) (sum : List ℕ) → machine < 2 ^ 16 → flags < 2 ^ 32 → length (plain_file machine flags (common_sections s sum)) < too_large
-    → FitsPlain machine flags (common_sections s sum)
+pub common_fits : (machine flags : ℕ) (s : Sections) (sum : List ℕ) → machine < 2 ^ 16 → flags < 2 ^ 32 → length (plain_file machine flags (supplementary_sections s sum)) < too_large
+    → FitsPlain machine flags (supplementary_sections s sum)
 common_fits machine flags s sum fits_machine fits_flags small =
     let r = all_rise s (sup_bytes (record { supplementary = true; name = []; sum = sum })) in
     record {

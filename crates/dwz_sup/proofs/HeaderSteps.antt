@@ -1,8 +1,8 @@
 -- How far section headers are written: those that are left follow at the next name and the next content.
 use Rattle.std.proofs.Common.{◌≡◌, ℕ, ◌+◌, ◌<◌, ◌≤◌, List, [], ◌∷◌, ◌++◌, length, drop, get_or, sym, ap, subst, ◌∙◌, arith, append_assoc, append-nil, length-append}
 use Rattle.std.proofs.lemmas.List.{drop_all, drop_more}
-use Rattle.dwz_docs.specs.ElfLayout.{numbers}
-use Rattle.dwz_docs.specs.PlainFile.{PlainSection, plain_contents, plain_headers, section_fields, section_names}
+use Rattle.dwz_def_reading.specs.ElfLayout.{numbers}
+use Rattle.dwz_def_reading.specs.PlainFile.{PlainSection, plain_contents, plain_headers, section_fields, section_names}
 use Rattle.dwz_sup.specs.declared.plain.PlainSection.{PlainSection as Given}
 use Rattle.dwz_sup.specs.Seen.{section_seen, sections_seen}
 

@@ -5,15 +5,16 @@ use Rattle.std.proofs.lemmas.Grind.{flat_map-append}
 use Rattle.std.proofs.lemmas.List.{map-append}
 use Rattle.std.specs.Prelude.{slice_index}
 use Rattle.sha2.specs.Sha256.{digest_bytes, final_hash, initial_hash_256, sha256}
-use Rattle.dwz_model.specs.declared.sections.NewSections.{NewSections}
+use Rattle.dwz_model.specs.declared.sections.Sections.{Sections}
 use Rattle.dwz_bytes.specs.Spelling.{le_bytes, uleb}
 use Rattle.dwz_bytes.proofs.PaddedLemmas.{uleb_small}
-use Rattle.dwz_docs.specs.ElfLayout.{too_large}
-use Rattle.dwz_docs.specs.PlainFile.{PlainSection, common_sections, if_there, plain_contents, plain_headers_at, plain_section, section_names, sections_with, text_section_of}
-use Rattle.dwz_docs.specs.Supplementary.{sup_bytes}
-use Rattle.dwz_docs.specs.TextRows.{text_section}
-use Rattle.dwz_docs.proofs.PlainLemmas.{length_number, length_plain}
-use Rattle.dwz_sup.specs.Common.{common_file, common_length, common_sum, sup_length}
+use Rattle.dwz_def_reading.specs.ElfLayout.{too_large}
+use Rattle.dwz_def_reading.specs.PlainFile.{PlainSection, if_there, plain_contents, plain_headers_at, plain_section, section_names, sections_with, supplementary_sections, text_section_of}
+use Rattle.dwz_def_reading.specs.Supplementary.{sup_bytes}
+use Rattle.dwz_def_reading.specs.TextRows.{text_section}
+use Rattle.dwz_def_reading.proofs.PlainLemmas.{length_number, length_plain}
+use Rattle.dwz_def_reading.specs.SupplementaryFile.{common_file, common_sum}
+use Rattle.dwz_sup.specs.Common.{common_length, sup_length}
 
 -- ---- the checksum, and the section
 
@@ -39,7 +40,7 @@ sup_len sum is =
 -- ---- the file
 
 -- all sections but the last
-abbrev front_of : NewSections → List PlainSection
+abbrev front_of : Sections → List PlainSection
 front_of s =
     plain_section (codes ".debug_info") s.info
     ∷ plain_section (codes ".debug_abbrev") s.abbrev
@@ -49,7 +50,7 @@ front_of s =
     ++ (if_there (plain_section (codes ".debug_loclists")) s.loclists
     ++ if_there (plain_section (codes ".debug_aranges")) s.aranges))))
 
-last_behind : (s : NewSections) (sup : List ℕ) → sections_with s sup ≡ front_of s ++ plain_section (codes ".debug_sup") sup ∷ []
+last_behind : (s : Sections) (sup : List ℕ) → sections_with s sup ≡ front_of s ++ plain_section (codes ".debug_sup") sup ∷ []
 last_behind s sup = simp append_assoc
 
 -- one content for another of its length changes no place
@@ -79,12 +80,12 @@ module _ (front : List PlainSection) (name a b : List ℕ) (same : length a ≡ 
       ≡ plain_headers_at (front ++ plain_section name b ∷ []) + 64 * (length (front ++ plain_section name b ∷ []) + 2)
   same_end = (λ j. next_multiple_of (64 + contents_len j + length (0 ∷ (same_names j ++ (codes ".shstrtab" ++ 0 ∷ [])))) 8 + 64 * (same_length j + 2))
 
-pub length_common : (machine flags : ℕ) (s : NewSections) → length (common_file machine flags s) ≡ common_length s
+pub length_common : (machine flags : ℕ) (s : Sections) → length (common_file machine flags s) ≡ common_length s
 length_common machine flags s =
     let sup = sup_bytes (record { supplementary = true; name = []; sum = common_sum s }) in
     let zeros = replicate {A = ℕ} sup_length 0 in
     let E : List PlainSection → ℕ = λ sections. plain_headers_at sections + 64 * (length sections + 2) in
-    length_plain machine flags (common_sections s (common_sum s))
+    length_plain machine flags (supplementary_sections s (common_sum s))
     ∙ ap E (last_behind s sup)
     ∙ same_end (front_of s) (codes ".debug_sup") sup zeros (sup_len (common_sum s) (sum_len (s.info ++ unwrap_or s.strs [] ++ s.abbrev)))
     ∙ ap E (sym (last_behind s zeros))

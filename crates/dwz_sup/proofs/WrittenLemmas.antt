@@ -1,12 +1,12 @@
 -- Parts that are written one behind the other.
 use Rattle.std.proofs.Common.{◌≡◌, ℕ, ◌+◌, ◌-◌, ◌*◌, ◌^◌, ◌<◌, ◌≤◌, Bool, List, Option, Some, None, [], ◌∷◌, ◌++◌, length, replicate, ap, ◌∙◌, arith, append_assoc, length-append, codes, unwrap_or}
-use Rattle.dwz_model.specs.declared.sections.NewSections.{NewSections}
+use Rattle.dwz_model.specs.declared.sections.Sections.{Sections}
 use Rattle.dwz_bytes.specs.Spelling.{le_bytes, uleb}
-use Rattle.dwz_docs.specs.ElfLayout.{numbers, too_large}
-use Rattle.dwz_docs.specs.PlainFile.{PlainSection, if_there, names_header_bytes, plain_contents, plain_end, plain_file, plain_front, plain_headers, plain_headers_at, plain_names, plain_names_at}
-use Rattle.dwz_docs.specs.PlainFile.{plain_section, section_fields, section_names, sections_with, text_section_of}
-use Rattle.dwz_docs.specs.Supplementary.{flag_byte, sup_bytes}
-use Rattle.dwz_docs.proofs.PlainLemmas.{length_plain}
+use Rattle.dwz_def_reading.specs.ElfLayout.{numbers, too_large}
+use Rattle.dwz_def_reading.specs.PlainFile.{PlainSection, if_there, names_header_bytes, plain_contents, plain_end, plain_file, plain_front, plain_headers, plain_headers_at, plain_names, plain_names_at}
+use Rattle.dwz_def_reading.specs.PlainFile.{plain_section, section_fields, section_names, sections_with, text_section_of}
+use Rattle.dwz_def_reading.specs.Supplementary.{flag_byte, sup_bytes}
+use Rattle.dwz_def_reading.proofs.PlainLemmas.{length_plain}
 
 -- ---- the file
 
@@ -78,7 +78,7 @@ texts_within None rest = omega arith
 texts_within (Some texts) rest = omega (arith, length-append texts (plain_contents rest))
 
 -- the parts of the checksum are parts of the file
-pub summed : (s : NewSections) (sup : List ℕ) → length (plain_contents (sections_with s sup)) < 2 ^ 32 → length s.info + length (unwrap_or s.strs []) + length s.abbrev < 2 ^ 61
+pub summed : (s : Sections) (sup : List ℕ) → length (plain_contents (sections_with s sup)) < 2 ^ 32 → length s.info + length (unwrap_or s.strs []) + length s.abbrev < 2 ^ 61
 summed s sup small =
     let rest = if_there (plain_section (codes ".debug_str_offsets")) s.offsets
     ++ (if_there (plain_section (codes ".debug_line")) s.line

@@ -1,6 +1,6 @@
 -- What definitions see of a section that is given to be written.
 use Rattle.std.specs.Prelude.{List, map}
-use Rattle.dwz_docs.specs.PlainFile.{PlainSection}
+use Rattle.dwz_def_reading.specs.PlainFile.{PlainSection}
 use Rattle.dwz_sup.specs.declared.plain.PlainSection.{PlainSection as Given}
 
 abbrev pub section_seen : Given → PlainSection

@@ -1,21 +1,21 @@
 //! The supplementary file.
 
 ghost use Rattle.std.specs.Prelude.{◌≡◌, ◌+◌, ◌^◌, ◌<◌, ◌++◌, ◌∷◌, [], IfOk, OnOk, length, unwrap_or};
-ghost use Rattle.dwz_docs.specs.ElfLayout.{too_large};
-ghost use Rattle.dwz_docs.specs.PlainFile.{if_there, plain_section, sections_with, text_section_of};
-ghost use Rattle.dwz_sup.specs.Common.{common_file, common_sum};
+ghost use Rattle.dwz_def_reading.specs.ElfLayout.{too_large};
+ghost use Rattle.dwz_def_reading.specs.PlainFile.{if_there, plain_section, sections_with, text_section_of};
+ghost use Rattle.dwz_def_reading.specs.SupplementaryFile.{common_file, common_sum};
 ghost use Rattle.dwz_sup.specs.Seen.{sections_seen};
 
 use crate::plain::{PlainSection, plain_file};
 use crate::sup::{checksum, debug_sup};
-use dwz_model::{Blob, NewSections, NoMemory};
+use dwz_model::{Blob, NoMemory, Sections};
 use std::alloc::Global;
 
 // SHF_MERGE and SHF_STRINGS: equal texts may be stored once.
 const TEXTS: u64 = 0x30;
 
 // The checksum of the file with these sections.
-fn common_sum(sections: &NewSections) -> [u8; 32]
+fn common_sum(sections: &Sections) -> [u8; 32]
     requires { length sections.now.info + length (unwrap_or sections.now.strs []) + length sections.now.abbrev < 2 ^ 61 }
     ensures { result ≡ common_sum sections.now }
 {
@@ -81,7 +81,7 @@ fn push_texts<'a>(
 // The sections in the order of their codes.
 fn parts_of<'a>(
     alloc: Global,
-    sections: &'a NewSections,
+    sections: &'a Sections,
     sup: &'a [u8],
 ) -> Result<Vec<PlainSection<'a>>, NoMemory>
     ensures { IfOk result (λ parts. sections_seen parts.items ≡ sections_with sections.now sup.now) }
@@ -104,7 +104,7 @@ pub fn common_file(
     alloc: Global,
     machine: u16,
     flags: u32,
-    sections: &NewSections,
+    sections: &Sections,
 ) -> Result<Vec<u8>, NoMemory>
     requires { length (common_file machine flags sections.now) < too_large }
     ensures { IfOk result (λ file. file.items ≡ common_file machine flags sections.now) }

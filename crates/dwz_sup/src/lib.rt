@@ -1,5 +1,10 @@
-//! The supplementary file, which holds the entries that several files share (DWARF 5, 7.3.6): its checksum, the section that
-//! ties the files together, and the file itself.
+//! The supplementary file: its checksum, the section that ties files together, and the file itself (DWARF 5, 7.3.6).
+//!
+//! `checksum` is SHA-256 over `.debug_info`, `.debug_str` and `.debug_abbrev` of the file; `debug_sup` is the content of `.debug_sup`, in
+//! it or in a file that imports from it; `common_file` is the whole, and `plain_file` an ELF file of the plain layout. Lengths are known
+//! before any byte is (`common_laws`), so a file is made in one run. `dwz_run_output` and `dwz_gen` call them.
+//!
+//! Read first: `Supplementary.antt` and `PlainFile.antt` of `dwz_def_reading`, then `specs/Common.antt`.
 #![tactic(auto)]
 
 mod common;

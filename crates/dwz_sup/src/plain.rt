@@ -2,8 +2,8 @@
 
 ghost use Rattle.std.specs.Prelude.{◌≡◌, ◌+◌, ◌-◌, ◌<◌, ◌≤◌, ◌^◌, ◌++◌, IfOk, IsTrue, OnOk, length, nat_le, replicate};
 ghost use Rattle.std.specs.List.{list_all};
-ghost use Rattle.dwz_docs.specs.ElfLayout.{numbers, too_large};
-ghost use Rattle.dwz_docs.specs.PlainFile;
+ghost use Rattle.dwz_def_reading.specs.ElfLayout.{numbers, too_large};
+ghost use Rattle.dwz_def_reading.specs.PlainFile;
 ghost use Rattle.dwz_sup.specs.Seen.{sections_seen};
 
 use dwz_bytes::put_fixed;

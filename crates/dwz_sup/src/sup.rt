@@ -2,7 +2,7 @@
 
 ghost use Rattle.std.specs.Prelude.{◌≡◌, ◌+◌, ◌^◌, ◌<◌, ◌++◌, IfOk, length};
 ghost use Rattle.sha2.specs.Sha256.{sha256};
-ghost use Rattle.dwz_docs.specs.Supplementary.{flag_byte, sup_bytes};
+ghost use Rattle.dwz_def_reading.specs.Supplementary.{flag_byte, sup_bytes};
 
 use dwz_bytes::{put_fixed, put_uleb};
 use dwz_model::{Blob, NoMemory};

@@ -3,7 +3,7 @@ use Rattle.std.proofs.Common.{◌≡◌, ℕ, List, [], ◌∷◌, ◌++◌, Som
 use Rattle.std.specs.BTreeMap.{BTreeMap, Updates, get}
 use Rattle.std.specs.Ordering.{is_eq, nat_cmp}
 use Rattle.dwz_bytes.proofs.GroupLemmas.{chosen}
-use Rattle.dwz_docs.proofs.CaseFacts.{same_number}
+use Rattle.dwz_def_reading.proofs.CaseFacts.{same_number}
 use Rattle.dwz_unit.specs.declared.joined.JoinedTable.{JoinedTable}
 use Rattle.dwz_unit.specs.declared.tail.Tail.{Tail}
 use Rattle.dwz_unit.specs.Tables.{Grows, Stored}

@@ -5,7 +5,7 @@ use Rattle.std.proofs.lemmas.Option.{slice_get_within}
 use Rattle.std.specs.Prelude.{slice_get}
 use Rattle.dwz_abbrev.specs.Starts.{HaveOtherCodes, AreStarts, IsReadUpTo}
 use Rattle.dwz_abbrev.proofs.FollowLemmas.{each_followed, followed}
-use Rattle.dwz_docs.specs.Abbrevs.{Declaration, table_at}
+use Rattle.dwz_def_reading.specs.Abbrevs.{Declaration, table_at}
 use Rattle.dwz_unit.specs.declared.joined.JoinedTable.{JoinedTable}
 use Rattle.dwz_unit.specs.declared.tail.Tail.{Tail}
 use Rattle.dwz_unit.specs.Tails.{AreReadTables, BeginsAt, IsJoined, StartsIn, end_in, whole_tables, tail_in, whole_in}

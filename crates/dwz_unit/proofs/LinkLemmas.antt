@@ -3,8 +3,8 @@ use Rattle.std.proofs.Common.{◌≡◌, ℕ, zero, suc, ◌+◌, ◌<◌, ◌�
 use Rattle.std.proofs.lemmas.List.{get_or_append_left, get_or_past, length_push}
 use Rattle.std.proofs.lemmas.Option.{get_or_from_slice_get, slice_get_within}
 use Rattle.std.specs.Prelude.{◌⊎◌, slice_get, slice_index_or}
-use Rattle.dwz_docs.specs.Abbrevs.{Declaration, find_decl}
-use Rattle.dwz_docs.proofs.ListFacts.{get_first, get_last}
+use Rattle.dwz_def_reading.specs.Abbrevs.{Declaration, find_decl}
+use Rattle.dwz_def_reading.proofs.ListFacts.{get_first, get_last}
 use Rattle.dwz_unit.proofs.PastLemmas.{none_past}
 use Rattle.dwz_unit.specs.declared.joined.JoinedTable.{JoinedTable}
 use Rattle.dwz_unit.specs.declared.tail.Tail.{Tail}

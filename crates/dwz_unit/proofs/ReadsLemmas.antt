@@ -2,11 +2,11 @@
 use Rattle.std.proofs.Common.{◌≡◌, ℕ, suc, ◌+◌, ◌<◌, List, [], ◌∷◌, drop, get_or, length, Some, slice_get, Ok, sym, ap, subst, ◌∙◌, arith, refl, zero}
 use Rattle.dwz_bytes.specs.Input.{Input}
 use Rattle.dwz_bytes.specs.Reading.{◌>>=◌}
-use Rattle.dwz_codes.specs.Forms.{form_rows}
-use Rattle.dwz_docs.specs.Entries.{RawAttr, attrs_at, in_entry, with_value}
-use Rattle.dwz_docs.specs.Values.{Raw, value_at}
-use Rattle.dwz_docs.proofs.PartLemmas.{bind_ok, same_value}
-use Rattle.dwz_docs.proofs.ListFacts.{drop_pairs}
+use Rattle.dwz_def_reading.specs.Forms.{form_rows}
+use Rattle.dwz_def_reading.specs.Entries.{RawAttr, attrs_at, in_entry, with_value}
+use Rattle.dwz_def_reading.specs.Values.{Raw, value_at}
+use Rattle.dwz_def_reading.proofs.PartLemmas.{bind_ok, same_value}
+use Rattle.dwz_def_reading.proofs.ListFacts.{drop_pairs}
 use Rattle.dwz_model.specs.declared.place.Pair.{Pair}
 use Rattle.dwz_unit.specs.Rows.{EntryRow, Source, rows_of, units_of}
 use Rattle.dwz_unit.specs.Values.{Reads}

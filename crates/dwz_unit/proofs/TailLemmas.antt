@@ -4,11 +4,11 @@ use Rattle.std.proofs.lemmas.List.{append-nil, get_or_append_left, length-append
 use Rattle.std.proofs.lemmas.List.Elements.{All-head, All-push, All-tail, All-weaker}
 use Rattle.std.specs.Prelude.{All}
 use Rattle.std.specs.BTreeMap.{BTreeMap}
-use Rattle.dwz_docs.specs.Abbrevs.{Declaration, table_at}
-use Rattle.dwz_docs.proofs.ListFacts.{get_last, got_map}
+use Rattle.dwz_def_reading.specs.Abbrevs.{Declaration, table_at}
+use Rattle.dwz_def_reading.proofs.ListFacts.{get_last, got_map}
 use Rattle.dwz_unit.specs.declared.tail.Tail.{Tail}
 use Rattle.dwz_unit.specs.Tables.{Grows, HasTable, Stored}
-use Rattle.dwz_docs.specs.Faults.{Fails}
+use Rattle.dwz_def_reading.specs.Faults.{Fails}
 use Rattle.dwz_model.specs.declared.fault.ReadErr.{ReadErr}
 use Rattle.dwz_unit.specs.Tails.{AnswersTail, AreTables, FindsTail, HasTail, stored, tail_in}
 use Rattle.dwz_unit.proofs.NumberLemmas.{numbers_kept}

@@ -1,6 +1,6 @@
 -- The end of a table, as the definitions see it.
 use Rattle.std.specs.Prelude.{List}
-use Rattle.dwz_docs.specs.Abbrevs.{Declaration}
+use Rattle.dwz_def_reading.specs.Abbrevs.{Declaration}
 use Rattle.dwz_unit.specs.declared.found.TableTail.{TableTail}
 use Rattle.dwz_unit.specs.Tails.{tail_in}
 

@@ -2,8 +2,8 @@
 use Rattle.std.specs.Prelude.{◌≡◌, ◌<◌, ◌≤◌, ℕ, All, List, [], ◌∷◌, ◌++◌, Option, Some, None, Ok, Err, Result, drop, length, map, slice_get, slice_index_or}
 use Rattle.std.specs.Ordering.{nat_cmp}
 use Rattle.std.specs.BTreeMap.{BTreeMap, get}
-use Rattle.dwz_docs.specs.Abbrevs.{Declaration, find_decl, table_at}
-use Rattle.dwz_docs.specs.Faults.{Fails}
+use Rattle.dwz_def_reading.specs.Abbrevs.{Declaration, find_decl, table_at}
+use Rattle.dwz_def_reading.specs.Faults.{Fails}
 use Rattle.dwz_model.specs.declared.fault.ReadErr.{ReadErr}
 use Rattle.dwz_unit.specs.declared.joined.JoinedTable.{JoinedTable}
 use Rattle.dwz_unit.specs.declared.tail.Tail.{Tail}

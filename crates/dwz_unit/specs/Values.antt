@@ -1,8 +1,8 @@
 -- The values of an entry, one after the other.
 use Rattle.std.specs.Prelude.{◌≡◌, ℕ, List, Ok}
 use Rattle.dwz_bytes.specs.Input.{Input}
-use Rattle.dwz_codes.specs.Forms.{form_rows}
-use Rattle.dwz_docs.specs.Entries.{RawAttr, attrs_at}
+use Rattle.dwz_def_reading.specs.Forms.{form_rows}
+use Rattle.dwz_def_reading.specs.Entries.{RawAttr, attrs_at}
 use Rattle.dwz_model.specs.declared.place.Pair.{Pair}
 
 -- from a place on, the values of these names and forms are those of an entry

@@ -1,4 +1,7 @@
 //! The tables that units further on name.
+//!
+//! They are read in ascending order of offset, so that the ends of one table are all found in it. Which tables units name is taken from
+//! their headers before any unit is read, as a hint: no clause rests on it, and a fault is told where its unit is read.
 
 ghost use Rattle.std.specs.Prelude.{◌≤◌, ◌+◌, IfOk, length};
 ghost use Rattle.dwz_unit.specs.Tables.{Grows};
@@ -57,7 +60,7 @@ fn read_all(alloc: Global, offsets: &[u32], joined: &mut JoinedTables) -> Result
 
 impl Ahead {
     /// The offsets that the units of `.debug_info` name.
-    pub fn new(alloc: Global, info: &[u8]) -> Result<Ahead, NoMemory> {
+    pub(crate) fn new(alloc: Global, info: &[u8]) -> Result<Ahead, NoMemory> {
         let offsets = offsets_in(alloc, info)?;
         let most = offsets.len();
         Ok(Ahead {

@@ -20,7 +20,7 @@ pub(crate) struct TableTail<'t> {
 impl<'t> TableTail<'t> {
     ghost use Rattle.std.specs.Prelude.{◌≡◌};
     ghost use Rattle.std.specs.Option.{option_copied, option_map};
-    ghost use Rattle.dwz_docs.specs.Abbrevs.{find_decl};
+    ghost use Rattle.dwz_def_reading.specs.Abbrevs.{find_decl};
     ghost use Rattle.dwz_abbrev.specs.Views.{decl_view};
     ghost use Rattle.dwz_unit.specs.TailViews.{tail_view};
 

@@ -2,11 +2,11 @@
 
 ghost use Rattle.std.specs.Prelude.{◌≡◌, ◌+◌, ◌<◌, ◌^◌, All, length, slice_get, IfOk, IsOk, Ok, Some};
 ghost use Rattle.dwz_bytes.specs.Reading.{uleb_at};
-ghost use Rattle.dwz_codes.specs.Forms.{form_rows};
-ghost use Rattle.dwz_docs.specs.Abbrevs.{IsPlainPair};
-ghost use Rattle.dwz_docs.specs.Entries.{attrs_at, coded};
-ghost use Rattle.dwz_docs.specs.Parts.{Leaves};
-ghost use Rattle.dwz_docs.specs.Values.{HasSpelling, value_at};
+ghost use Rattle.dwz_def_reading.specs.Forms.{form_rows};
+ghost use Rattle.dwz_def_reading.specs.Abbrevs.{IsPlainPair};
+ghost use Rattle.dwz_def_reading.specs.Entries.{attrs_at, code_or_fault};
+ghost use Rattle.dwz_def_reading.specs.Parts.{Leaves};
+ghost use Rattle.dwz_def_reading.specs.Values.{HasSpelling, value_at};
 ghost use Rattle.dwz_forms.specs.RawValues.{raw_view};
 ghost use Rattle.dwz_unit.specs.Contexts.{context_view};
 ghost use Rattle.dwz_unit.specs.Fronts.{attrs_passed, front_passed, value_passed};
@@ -59,7 +59,7 @@ fn pass_values(entry: usize, pairs: &[Pair], cursor: &mut Cursor) -> Result<(), 
 // A code of a unit.
 #[inline(always)]
 fn read_code(context: &Context, cursor: &mut Cursor) -> Result<u64, Fault>
-    ensures { Leaves (λ x. x) cursor.new result (coded (context_view context.now) (uleb_at cursor.old)) }
+    ensures { Leaves (λ x. x) cursor.new result (code_or_fault (context_view context.now) (uleb_at cursor.old)) }
 {
     match cursor.uleb() {
         Ok(code) => Ok(code),
@@ -69,7 +69,7 @@ fn read_code(context: &Context, cursor: &mut Cursor) -> Result<u64, Fault>
 
 /// Passes over an entry at that depth, behind `before` others, or over the end of a sibling list.
 #[inline(always)]
-#[tactic(auto, unfolding(dwz_docs::specs::Entries::front_at))]
+#[tactic(auto, unfolding(dwz_def_reading::specs::Entries::front_at))]
 pub(crate) fn pass_front(
     context: &Context,
     before: usize,

@@ -2,7 +2,7 @@
 
 ghost use Rattle.std.specs.Prelude.{◌≡◌, IfSome, drop, true};
 ghost use Rattle.std.specs.Option.{option_copied, option_map};
-ghost use Rattle.dwz_docs.specs.Abbrevs.{find_decl};
+ghost use Rattle.dwz_def_reading.specs.Abbrevs.{find_decl};
 ghost use Rattle.dwz_abbrev.specs.Starts.{HaveOtherCodes};
 ghost use Rattle.dwz_abbrev.specs.Views.{decl_view, views};
 ghost use Rattle.dwz_unit.specs.Tails.{AreLinked, BeginsAt, StartsIn, whole_tables, tail_in};

@@ -2,7 +2,7 @@
 
 ghost use Rattle.std.specs.Prelude.{◌≡◌, ◌<◌, [], IfSome, drop, length};
 ghost use Rattle.std.specs.Option.{option_copied, option_map};
-ghost use Rattle.dwz_docs.specs.Abbrevs.{find_decl};
+ghost use Rattle.dwz_def_reading.specs.Abbrevs.{find_decl};
 ghost use Rattle.dwz_abbrev.specs.Views.{decl_view};
 ghost use Rattle.dwz_unit.specs.Tails.{FindsFirst, FindsTail, HasTail, tail_in};
 

@@ -1,4 +1,9 @@
 //! Reading a table, up to where it goes on as the end of another.
+//!
+//! A table that begins where a declaration of another does is read as the end of that one: the same bytes stand there. One that begins
+//! inside a declaration goes on so once both are at a declaration, which is soon, since each ends with two numbers 0, and numbers end at
+//! the same bytes for whoever reads them. No clause rests on that: where they don't meet, a table is read to its own end. Only tables are
+//! searched whose last own declaration begins at the offset or behind it, which are few where offsets ascend.
 
 ghost use Rattle.dwz_unit.specs.Tails.{AreReadTables, FindsJoined, whole_tables};
 

@@ -12,7 +12,7 @@ use Rattle.clap.specs.Words.{ReadsOne, Text}
 use Rattle.clap.specs.ValueTests.{is_unsigned_in}
 use Rattle.clap.specs.declared.builder.value_parser.ValueParser.TheVariants as vp
 use Rattle.clap.proofs.ValueTestLemmas.{Accepts-accepts, accepts-Accepts}
-use Rattle.dwz_words.specs.Lawful.{number_of}
+use Rattle.dwz_words.specs.Lawful.{number_of_text}
 use Rattle.dwz_words.specs.declared.options.Options.{Options}
 use Rattle.dwz_words.specs.declared.options.WordsErr.{WordsErr}
 use Rattle.dwz_words.specs.declared.options.WordsErr.TheVariants.{NoMemory, Usage}
@@ -36,7 +36,7 @@ bool_read E (Some t) r none value = go r (value t refl)
 -- a number that `clap` read is the one that the text spells
 pub number_read : (E : Type 0) (A B : Text → Result ℕ E → Type 0) (o : Option Text) (r : Option ℕ) → (o ≡ None → r ≡ None)
     → ((t : Text) → o ≡ Some t → ReadsOne (λ bs x. ParsesUnsigned 32 10 bs x × A bs x × B bs x) t r)
-    → r ≡ option_and_then number_of o
+    → r ≡ option_and_then number_of_text o
 number_read E A B None r none value = none refl
 number_read E A B (Some t) r none value = cases (is_unsigned_in 0 4294967295 t) refl r (value t refl)
   where

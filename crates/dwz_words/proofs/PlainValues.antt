@@ -17,7 +17,7 @@ use Rattle.clap.specs.declared.parser.matches.ValueSource.TheVariants.{DefaultVa
 use Rattle.clap.proofs.ValueTestLemmas.{Accepts-accepts}
 use Rattle.clap.proofs.WalkLemmas.{both}
 use Rattle.dwz_words.specs.Command.{dwz_command}
-use Rattle.dwz_words.specs.Lawful.{is_set, number_at, number_of, options_of}
+use Rattle.dwz_words.specs.Lawful.{is_set, number_of_text, option_number, options_of}
 use Rattle.dwz_words.specs.Plain.{ArePlain, Argument, are_once, common, demo, dwarf, file, is_file, is_option, is_plain, is_plain_number, name, options_said, out, quiet, value_at, value_of, workers}
 use Rattle.dwz_words.proofs.PlainLemmas.{plain_matches}
 use Rattle.dwz_words.proofs.PlainRows.{files_at-all_after, row_at-all_after, row_of, values_in}
@@ -29,7 +29,7 @@ use Rattle.dwz_words.proofs.RowLemmas.{leaves, new_row, row_at, row_at-defaulted
 
 -- plain digits are read as the number that they spell
 number_of-plain : (low high : ℕ) (text : Text) → is_plain_number low high text ≡ true → high < 2 ^ 32
-    → number_of (without_minus text) ≡ Some (digits_value 10 text)
+    → number_of_text (without_minus text) ≡ Some (digits_value 10 text)
 number_of-plain low high [] e few = cc
 number_of-plain low high (d ∷ ds) e few =
     let parts = both (list_all is_ascii_digit (d ∷ ds)) _ (both (nat_lt 0 (length (d ∷ ds))) _ e).1 in
@@ -42,7 +42,7 @@ number_of-plain low high (d ∷ ds) e few =
     let numeral : IsNumeral 10 (d ∷ ds) = (omega arith, digits_all (d ∷ ds) parts.0) in
     let passes : is_unsigned_in 0 4294967295 (d ∷ ds) ≡ true = Accepts-accepts false (vp.Unsigned 0 4294967295) (d ∷ ds)
     (rw same numeral, rw same (omega arith), omega arith, rw same (omega arith)) in
-    ap number_of whole
+    ap number_of_text whole
     ∙ (ap (λ (b : Bool). if b then Some (digits_value 10 (without_leading_plus (d ∷ ds))) else None) passes
     ∙ ap (λ (t : Text). Some (digits_value 10 t)) same)
 
@@ -69,7 +69,7 @@ workers_row ps = unwrap_or (option_map row_of (find (is_option (codes "j")) ps))
     (new_row (codes "j") reading.WithoutMinus DefaultValue (codes "4" ∷ []))
 
 workers_value : (ps : List Argument) → list_all is_plain ps ≡ true
-    → unwrap_or (option_and_then number_of (row_text (workers_row ps))) 4 ≡ option_map_or (digits_value 10) (value_at (codes "j") ps) 4
+    → unwrap_or (option_and_then number_of_text (row_text (workers_row ps))) 4 ≡ option_map_or (digits_value 10) (value_at (codes "j") ps) 4
 workers_value [] plain = refl
 workers_value (quiet ∷ ps) plain = workers_value ps (both (is_plain quiet) _ plain).1
 workers_value (dwarf ∷ ps) plain = workers_value ps (both (is_plain dwarf) _ plain).1
@@ -82,7 +82,7 @@ workers_value (demo text ∷ ps) plain = workers_value ps (both (is_plain (demo 
 workers_value (file text ∷ ps) plain = workers_value ps (both (is_plain (file text)) _ plain).1
 
 demo_value : (ps : List Argument) → list_all is_plain ps ≡ true
-    → option_and_then number_of (option_and_then row_text (option_map row_of (find (is_option (codes "demo")) ps)))
+    → option_and_then number_of_text (option_and_then row_text (option_map row_of (find (is_option (codes "demo")) ps)))
     ≡ option_map (digits_value 10) (value_at (codes "demo") ps)
 demo_value [] plain = refl
 demo_value (quiet ∷ ps) plain = demo_value ps (both (is_plain quiet) _ plain).1
@@ -127,17 +127,17 @@ module _ (ps : List Argument) (plain : list_all is_plain ps ≡ true) (once : ar
       (row_at-all_after (codes "q") refl ps [] refl once)) in
       ap (λ (o : Option Row). option_map_or (λ t. bytes_eq t (codes "true")) (option_and_then row_text o) false) found ∙ quiet_value ps
 
-  workers_are : unwrap_or (number_at (codes "j") (end_rows ps)) 4 ≡ option_map_or (digits_value 10) (value_at (codes "j") ps) 4
+  workers_are : unwrap_or (option_number (codes "j") (end_rows ps)) 4 ≡ option_map_or (digits_value 10) (value_at (codes "j") ps) 4
   workers_are =
       let found : row_at (codes "j") (end_rows ps) ≡ Some (workers_row ps) =
       row_at-defaults (codes "j") (drop 6 rules) (with_default (before_workers ps) (rule_for (workers []))) refl
       ∙ (row_at-defaulted (codes "j") reading.WithoutMinus (codes "4") (before_workers ps)
       ∙ ap (λ (o : Option Row). Some (unwrap_or o (new_row (codes "j") reading.WithoutMinus DefaultValue (codes "4" ∷ []))))
       (row_at-defaults (codes "j") (take 5 rules) (all_after ps []) refl ∙ row_at-all_after (codes "j") refl ps [] refl once)) in
-      ap (λ (o : Option Row). unwrap_or (option_and_then number_of (option_and_then row_text o)) 4) found ∙ workers_value ps plain
+      ap (λ (o : Option Row). unwrap_or (option_and_then number_of_text (option_and_then row_text o)) 4) found ∙ workers_value ps plain
 
-  demo_is : number_at (codes "demo") (end_rows ps) ≡ option_map (digits_value 10) (value_at (codes "demo") ps)
-  demo_is = ap (λ (o : Option Row). option_and_then number_of (option_and_then row_text o)) (row_is (codes "demo") refl refl)
+  demo_is : option_number (codes "demo") (end_rows ps) ≡ option_map (digits_value 10) (value_at (codes "demo") ps)
+  demo_is = ap (λ (o : Option Row). option_and_then number_of_text (option_and_then row_text o)) (row_is (codes "demo") refl refl)
       ∙ demo_value ps plain
 
   files_are : unwrap_or (all_of (codes "FILE") (end_rows ps)) [] ≡ map value_of (filter is_file ps)

@@ -29,7 +29,7 @@ use Rattle.clap.specs.declared.parser.matches.MatchedArg.{MatchedArg}
 use Rattle.clap.proofs.CallerLemmas.{entry_by_id, same_rules_by_id}
 use Rattle.clap.proofs.WalkLemmas.{both, one_text-rows}
 use Rattle.dwz_words.specs.Command.{command_rules, dwz_command}
-use Rattle.dwz_words.specs.Lawful.{number_at, number_of, options_of}
+use Rattle.dwz_words.specs.Lawful.{number_of_text, option_number, options_of}
 
 -- ---- tests of each rule
 
@@ -180,12 +180,12 @@ if_some false a n e = cc
 
 -- a number that passes a range above zero lies in it
 number_in : (low high : ℕ) (v : Text) (n : ℕ) → 0 < low → Accepts false (vp.Signed (pos low) (pos high)) v
-    → number_of (without_minus v) ≡ Some n
+    → number_of_text (without_minus v) ≡ Some n
     → (low ≤ n) × (n ≤ high)
 number_in low high [] n above passed is = absurd (omega (arith, passed.0.0))
 number_in low high (x ∷ xs) n above passed is = go (x == 45) refl is
   where
-    go : (b : Bool) → (x == 45) ≡ b → number_of (unwrap_or (if b then Some xs else None) (x ∷ xs)) ≡ Some n → (low ≤ n) × (n ≤ high)
+    go : (b : Bool) → (x == 45) ≡ b → number_of_text (unwrap_or (if b then Some xs else None) (x ∷ xs)) ≡ Some n → (low ≤ n) × (n ≤ high)
     go true minus is =
         let low_ok = rw minus at passed.2 in
         absurd (omega (arith, ints))
@@ -202,10 +202,10 @@ module _ (old : Command) (m : ArgMatches) (p : IsParsedFrom old m) (made : app_o
     (parser_is : (r : Rule) → (slice_index_or command_rules k r).parser ≡ Some (vp.Signed (pos low) (pos high)))
     (case_is : (r : Rule) → (slice_index_or command_rules k r).ignore_case ≡ false)
     (no_auto : (id ≡ codes "help") ⊎ (id ≡ codes "version") → ⊥) (named : id ≡ [] → ⊥) (above : 0 < low) where
-  number_in_range : (n : ℕ) → number_at id (rows_of (found_of m)) ≡ Some n → (low ≤ n) × (n ≤ high)
+  number_in_range : (n : ℕ) → option_number id (rows_of (found_of m)) ≡ Some n → (low ≤ n) × (n ≤ high)
   number_in_range n is = go (one_of id (rows_of (found_of m))) refl is
     where
-      go : (o : Option Text) → one_of id (rows_of (found_of m)) ≡ o → option_and_then number_of o ≡ Some n → (low ≤ n) × (n ≤ high)
+      go : (o : Option Text) → one_of id (rows_of (found_of m)) ≡ o → option_and_then number_of_text o ≡ Some n → (low ≤ n) × (n ≤ high)
       go None e h = cc
       go (Some t) e h =
           let value = value_of old m p made k id (vp.Signed (pos low) (pos high)) in_rules alone id_is parser_is case_is no_auto named t
@@ -218,9 +218,9 @@ first_byte a b e = ap (λ (l : Text). slice_index_or l 0 0) e
 -- the number of `-j`, whose rule stands at place 5
 pub workers_in_range : (old : Command) (m : ArgMatches) (p : IsParsedFrom old m) → app_of old ≡ dwz_command
     → (1 ≤ (options_of (rows_of (found_of m))).workers) × ((options_of (rows_of (found_of m))).workers ≤ 64)
-workers_in_range old m p made = go (number_at (codes "j") (rows_of (found_of m))) refl
+workers_in_range old m p made = go (option_number (codes "j") (rows_of (found_of m))) refl
   where
-    go : (o : Option ℕ) → number_at (codes "j") (rows_of (found_of m)) ≡ o → (1 ≤ unwrap_or o 4) × (unwrap_or o 4 ≤ 64)
+    go : (o : Option ℕ) → option_number (codes "j") (rows_of (found_of m)) ≡ o → (1 ≤ unwrap_or o 4) × (unwrap_or o 4 ≤ 64)
     go None e = (omega arith, omega arith)
     go (Some n) e = number_in_range old m p made 5 (codes "j") 1 64 (omega arith) refl (λ r. refl) (λ r. refl) (λ r. refl)
         (λ auto. elim auto [ inl h ↦ absurd (omega (arith, first_byte _ _ h)) | inr h ↦ absurd (omega (arith, first_byte _ _ h)) ])
@@ -229,9 +229,9 @@ workers_in_range old m p made = go (number_at (codes "j") (rows_of (found_of m))
 -- the number of `--demo`, whose rule stands at place 6
 pub demo_in_range : (old : Command) (m : ArgMatches) (p : IsParsedFrom old m) → app_of old ≡ dwz_command
     → IfSome (options_of (rows_of (found_of m))).demo (λ n. (2 ≤ n) × (n ≤ 10000))
-demo_in_range old m p made = go (number_at (codes "demo") (rows_of (found_of m))) refl
+demo_in_range old m p made = go (option_number (codes "demo") (rows_of (found_of m))) refl
   where
-    go : (o : Option ℕ) → number_at (codes "demo") (rows_of (found_of m)) ≡ o → IfSome o (λ n. (2 ≤ n) × (n ≤ 10000))
+    go : (o : Option ℕ) → option_number (codes "demo") (rows_of (found_of m)) ≡ o → IfSome o (λ n. (2 ≤ n) × (n ≤ 10000))
     go None e = tt
     go (Some n) e = number_in_range old m p made 6 (codes "demo") 2 10000 (omega arith) refl (λ r. refl) (λ r. refl) (λ r. refl)
         (λ auto. elim auto [ inl h ↦ absurd (omega (arith, first_byte _ _ h)) | inr h ↦ absurd (omega (arith, first_byte _ _ h)) ])

@@ -12,8 +12,8 @@ use Rattle.dwz_words.specs.Conditions.{FitTogether, Word}
 use Rattle.dwz_words.specs.declared.options.Options.{Options}
 
 -- the words, each as its bytes
-abbrev pub bytes_of : List (Vec ℕ) → List Word
-bytes_of words = map (λ word. word.items) words
+abbrev pub word_bytes : List (Vec ℕ) → List Word
+word_bytes words = map (λ word. word.items) words
 
 -- ---- the values of the matches, by the id of an option
 
@@ -22,13 +22,13 @@ abbrev pub is_set : Text → List Row → Bool
 is_set id rows = option_map_or (λ text. bytes_eq text (codes "true")) (one_of id rows) false
 
 -- the number below 2^32 that a text spells, in decimal digits, perhaps after a plus
-abbrev pub number_of : Text → Option ℕ
-number_of text = if is_unsigned_in 0 4294967295 text
+abbrev pub number_of_text : Text → Option ℕ
+number_of_text text = if is_unsigned_in 0 4294967295 text
     then Some (digits_value 10 (without_leading_plus text)) else None
 
 -- the number of the option, if it has one
-abbrev pub number_at : Text → List Row → Option ℕ
-number_at id rows = option_and_then number_of (one_of id rows)
+abbrev pub option_number : Text → List Row → Option ℕ
+option_number id rows = option_and_then number_of_text (one_of id rows)
 
 -- the options by these matches, which hold the default of `-j` where it was left out
 abbrev pub options_of : List Row → Options
@@ -37,9 +37,9 @@ options_of rows = record {
   common = first_of (codes "m") rows;
   name = first_of (codes "M") rows;
   out = first_of (codes "o") rows;
-  workers = unwrap_or (number_at (codes "j") rows) 4;
+  workers = unwrap_or (option_number (codes "j") rows) 4;
   files = unwrap_or (all_of (codes "FILE") rows) [];
-  demo = number_at (codes "demo") rows;
+  demo = option_number (codes "demo") rows;
 }
 
 -- ---- lawful words

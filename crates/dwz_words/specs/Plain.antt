@@ -1,4 +1,4 @@
--- Plain words, and what they ask for. Nothing here is `clap`'s.
+-- Inner: plain words, and what they ask for. Nothing here is `clap`'s.
 use Rattle.std.specs.Prelude.{◌≡◌, ℕ, Bool, List, [], ◌∷◌, Option, Some, None, true, false, not}
 use Rattle.std.specs.Prelude.{IsTrue, length, codes, nat_lt, nat_le, ◌==◌, ◌&&◌, option_map, find, filter, map}
 use Rattle.std.specs.Prelude.{is_some}

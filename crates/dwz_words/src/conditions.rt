@@ -1,4 +1,7 @@
 //! What options have to meet beside the rules of single words.
+//!
+//! With `clap`'s `required` and `conflicts_with` its contract doesn't say exactly where words fail: so which options may stand together,
+//! and how many FILEs there are, is tested here.
 
 ghost use Rattle.std.specs.Prelude.{◌≡◌, ◌↔◌, IsTrue, true};
 ghost use Rattle.std.specs.List.{list_all};

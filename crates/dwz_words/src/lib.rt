@@ -1,21 +1,18 @@
 //! The command line: which words are lawful, and what they ask for.
 //!
-//! `clap` reads the words by the one command of `command`, `reading` takes the values of its matches, and
-//! `conditions` tests what they have to meet beside. Contracts speak of `specs/Lawful.antt`, and of plain words as
-//! `specs/Plain.antt` has them.
+//! `clap` reads the words by the one command of `command`, `reading` takes the values of its matches, and `conditions` tests what they have
+//! to meet beside. Contracts speak of `specs/Lawful.antt`, and of plain words as `specs/Plain.antt` has them.
 //!
-//! A further option is a row, a field and a test. So are `--reuse COMMON`, `--batch COMMON` and `--sup COMMON`, which have
-//! one value, and `--explain`, `--expand` and `--check`, which are flags, so that the words after them are FILEs:
+//! A further option is a row, a field and a test, whether it has a value or is a flag, behind which FILEs may follow:
 //!
-//! - The row is a rule in `specs/Command.antt`, after FILE's, and the call that makes it, at the end of `make_command`.
-//!   Give it no `required` and no `conflicts_with`: only for options that have no rule on one another does `clap` say
-//!   exactly where a parse fails.
+//! - The row is a rule in `specs/Command.antt`, after FILE's, and the call that makes it, at the end of `make_command`. Give it no
+//!   `required` and no `conflicts_with`: only for options that have no rule on one another does `clap` say exactly where a parse fails.
 //! - The field is one of `Options`, and its value in `options_of`, here and in `specs/Lawful.antt`.
-//! - The test is a definition in `specs/Conditions.antt` and a field of `FitTogether` there, and its function in
-//!   `conditions`: which options may stand together, and how many FILEs with it.
+//! - The test is a definition in `specs/Conditions.antt` and a field of `FitTogether` there, and its function in `conditions`: which
+//!   options may stand together, and how many FILEs with it.
 //!
-//! For plain words it is also an `Argument`, with a case in each definition of `specs/Plain.antt` that goes by cases, and
-//! in the proofs that do. A rule that stands before FILE's keeps its place, by which `proofs/RangeLemmas.antt` finds it.
+//! For plain words it is also an `Argument`, with a case in each definition of `specs/Plain.antt` that goes by cases, and in the proofs
+//! that do. A rule that stands before FILE's keeps its place, by which `proofs/RangeLemmas.antt` finds it.
 #![tactic(auto)]
 
 mod command;

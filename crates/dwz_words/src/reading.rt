@@ -6,7 +6,7 @@ ghost use Rattle.std.specs.Str.{IsUtf8};
 ghost use Rattle.clap.specs.Words.{fault_of, found_of, matches_of, rows_of};
 ghost use Rattle.dwz_words.specs.Command.{dwz_command};
 ghost use Rattle.dwz_words.specs.Conditions.{FitTogether};
-ghost use Rattle.dwz_words.specs.Lawful.{Lawful, bytes_of, options_of};
+ghost use Rattle.dwz_words.specs.Lawful.{Lawful, options_of, word_bytes};
 ghost use Rattle.dwz_words.specs.Plain.{ArePlain, Argument, options_said};
 ghost use Rattle.dwz_words.specs.declared.options.Options.{Options};
 
@@ -46,9 +46,9 @@ fn names(alloc: Global, texts: &[&str]) -> Result<Names, NoMemory>
 
 /// The words as texts, where all of them are UTF-8.
 fn texts<'a>(alloc: Global, words: &'a [Vec<u8>]) -> Result<Vec<&'a str>, WordsErr>
-    ensures same { IfOk result (λ v. map (λ t. t.now) v.items ≡ bytes_of words.now) }
-    ensures utf8 { OnOk result (All IsUtf8 (bytes_of words.now)) }
-    ensures usage { IsErrOf result WordsErr.Usage → ¬ (All IsUtf8 (bytes_of words.now)) }
+    ensures same { IfOk result (λ v. map (λ t. t.now) v.items ≡ word_bytes words.now) }
+    ensures utf8 { OnOk result (All IsUtf8 (word_bytes words.now)) }
+    ensures usage { IsErrOf result WordsErr.Usage → ¬ (All IsUtf8 (word_bytes words.now)) }
     // as of every slice
     ensures few { length words.now < 2 ^ 64 }
 {
@@ -101,21 +101,21 @@ fn read<'a, 'b>(alloc: Global, texts: &'a [&'b str]) -> Result<Options, WordsErr
 
 /// The options that lawful words ask for. The words are those after the program's name.
 pub fn parse(alloc: Global, words: &[Vec<u8>]) -> Result<Options, WordsErr>
-    ensures lawful { IfOk result (Lawful (bytes_of words.now)) }
+    ensures lawful { IfOk result (Lawful (word_bytes words.now)) }
     ensures usage { IsErrOf result WordsErr.Usage
-        → (o : Options) → ¬ (Lawful (bytes_of words.now) o) }
+        → (o : Options) → ¬ (Lawful (word_bytes words.now) o) }
 
     ensures workers { IfOk result (λ o. (1 ≤ o.workers) × (o.workers ≤ 64)) }
     ensures demo { IfOk result (λ o. IfSome o.demo (λ n. (2 ≤ n) × (n ≤ 10000))) }
 
     // `clap` names no fault in plain words.
-    ensures plain_read { (arguments : List Argument) → ArePlain (bytes_of words.now) arguments
-        → fault_of dwz_command (bytes_of words.now) ≡ [] }
+    ensures plain_read { (arguments : List Argument) → ArePlain (word_bytes words.now) arguments
+        → fault_of dwz_command (word_bytes words.now) ≡ [] }
     // Plain words that are text, and whose options fit together, are lawful, and ask for what they say.
-    ensures plain_taken { (arguments : List Argument) → ArePlain (bytes_of words.now) arguments
-        → All IsUtf8 (bytes_of words.now) → FitTogether (options_said arguments)
+    ensures plain_taken { (arguments : List Argument) → ArePlain (word_bytes words.now) arguments
+        → All IsUtf8 (word_bytes words.now) → FitTogether (options_said arguments)
         → IsOkUnless result WordsErr.NoMemory }
-    ensures plain_said { (arguments : List Argument) → ArePlain (bytes_of words.now) arguments
+    ensures plain_said { (arguments : List Argument) → ArePlain (word_bytes words.now) arguments
         → IfOk result (λ o. o ≡ options_said arguments) }
 {
     let texts = texts(alloc, words)?;

@@ -1,6 +1,6 @@
 use Rattle.std.proofs.Common.{ap, sym, ◌∙◌}
-use Rattle.dwz_docs.specs.Texts.{text_in}
-use Rattle.dwz_docs.proofs.ListFacts.{whole_rest}
+use Rattle.dwz_def_reading.specs.Texts.{text_in}
+use Rattle.dwz_def_reading.proofs.ListFacts.{whole_rest}
 use Rattle.dwz_strs.proofs.FirstLemmas.{past_end}
 use Rattle.dwz_strs.proofs.text_at.Goals as goal
 

@@ -2,7 +2,7 @@ use Rattle.std.proofs.Common.{◌≡◌, ℕ, ◌<◌, List, Some, get_or, lengt
 use Rattle.std.specs.Borrow.{Bor}
 use Rattle.std.specs.Ordering.{is_eq}
 use Rattle.std.proofs.lemmas.Option.{slice_get-get_or}
-use Rattle.dwz_docs.proofs.CaseFacts.{same_number}
+use Rattle.dwz_def_reading.proofs.CaseFacts.{same_number}
 use Rattle.dwz_abbrev.specs.Starts.{IsStop}
 use Rattle.dwz_abbrev.proofs.reading.is_stop.Goals as goal
 

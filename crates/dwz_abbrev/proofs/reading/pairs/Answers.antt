@@ -1,6 +1,6 @@
 use Rattle.std.proofs.Common.{sym, ◌∙◌}
 use Rattle.std.proofs.lemmas.Result.{err_from_is_err_and}
-use Rattle.dwz_docs.proofs.TableLemmas.{pairs_end, pairs_fails, pairs_more}
+use Rattle.dwz_def_reading.proofs.TableLemmas.{pairs_end, pairs_fails, pairs_more}
 use Rattle.dwz_abbrev.proofs.reading.pairs.Goals as goal
 
 pub returns-in_err-pair : goal.returns-in_err-pair

@@ -1,5 +1,5 @@
 use Rattle.std.proofs.Common.{◌≡◌, [], length}
-use Rattle.dwz_docs.specs.Abbrevs.{pairs_at}
+use Rattle.dwz_def_reading.specs.Abbrevs.{pairs_at}
 use Rattle.dwz_abbrev.proofs.reading.pairs.Given as goal
 
 abbrev pub invariant-loop-pairs : goal.invariant-loop-pairs

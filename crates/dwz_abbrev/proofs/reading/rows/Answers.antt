@@ -1,6 +1,6 @@
 use Rattle.std.proofs.Common.{◌≡◌, ℕ, ◌++◌, ◌∷◌, [], refl, sym, ap, ◌∙◌}
 use Rattle.std.proofs.lemmas.Result.{err_from_is_err_and}
-use Rattle.dwz_docs.proofs.TableLemmas.{More, past_end, table_end, table_fails_so, table_more}
+use Rattle.dwz_def_reading.proofs.TableLemmas.{More, past_end, table_end, table_fails_so, table_more}
 use Rattle.dwz_abbrev.specs.Starts.{Reach}
 use Rattle.dwz_abbrev.specs.Views.{decl_view}
 use Rattle.dwz_abbrev.proofs.FollowLemmas.{fits_more, fits_none}

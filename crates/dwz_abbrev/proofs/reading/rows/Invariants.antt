@@ -1,6 +1,6 @@
 use Rattle.std.proofs.Common.{◌≡◌, [], length}
 use Rattle.dwz_bytes.specs.Input.{input}
-use Rattle.dwz_docs.specs.Abbrevs.{FitsTable, declarations_at}
+use Rattle.dwz_def_reading.specs.Abbrevs.{FitsTable, declarations_at}
 use Rattle.dwz_abbrev.specs.Starts.{Reach}
 use Rattle.dwz_abbrev.proofs.reading.rows.Given as goal
 

@@ -1,5 +1,5 @@
 use Rattle.std.proofs.Common.{◌≡◌, ◌+◌, ◌++◌, ◌∷◌, [], ◌∙◌, List, ℕ, ap, drop, sym}
-use Rattle.dwz_docs.specs.Abbrevs.{declaration_bytes, table_bytes}
+use Rattle.dwz_def_reading.specs.Abbrevs.{declaration_bytes, table_bytes}
 use Rattle.dwz_abbrev.specs.declared.decl.Decl.{Decl}
 use Rattle.dwz_abbrev.specs.Views.{decl_view, views}
 use Rattle.dwz_abbrev.proofs.WriteLemmas.{begins_on, end_one, one_more, table_all, table_more}

@@ -1,5 +1,5 @@
 use Rattle.std.proofs.Common.{◌≡◌, ◌++◌, drop}
-use Rattle.dwz_docs.specs.Abbrevs.{table_bytes}
+use Rattle.dwz_def_reading.specs.Abbrevs.{table_bytes}
 use Rattle.dwz_abbrev.specs.Views.{views}
 use Rattle.dwz_abbrev.specs.Written.{Begins}
 use Rattle.dwz_abbrev.proofs.writing.put_decls.Given as goal

@@ -1,6 +1,6 @@
 use Rattle.std.proofs.Common.{◌+◌, ◌++◌, ◌∙◌, List, ℕ, pos, ap, drop, get_or, sym}
 use Rattle.dwz_model.specs.declared.place.Pair.{Pair}
-use Rattle.dwz_docs.specs.Abbrevs.{pair_bytes, pairs_bytes}
+use Rattle.dwz_def_reading.specs.Abbrevs.{pair_bytes, pairs_bytes}
 use Rattle.dwz_abbrev.proofs.WriteLemmas.{begins_on, last_one, one_more, pairs_all, pairs_more}
 use Rattle.dwz_abbrev.proofs.writing.put_pairs.Goals as goal
 

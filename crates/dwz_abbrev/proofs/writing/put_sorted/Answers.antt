@@ -1,6 +1,6 @@
 use Rattle.std.proofs.Common.{◌≡◌, ◌++◌, ◌∷◌, ◌∙◌, [], List, ℕ, ap, sym}
 use Rattle.std.specs.Borrow.{Bor}
-use Rattle.dwz_docs.specs.Abbrevs.{by_code, declaration_bytes, table_bytes}
+use Rattle.dwz_def_reading.specs.Abbrevs.{by_code, declaration_bytes, table_bytes}
 use Rattle.dwz_abbrev.specs.declared.decl.Decl.{Decl}
 use Rattle.dwz_abbrev.specs.Views.{decl_view, lent_views, views}
 use Rattle.dwz_abbrev.proofs.WriteLemmas.{begins_on, end_one, lent_all, lent_more, one_more}

@@ -1,5 +1,5 @@
 use Rattle.std.proofs.Common.{◌≡◌, ◌++◌}
-use Rattle.dwz_docs.specs.Abbrevs.{by_code, table_bytes}
+use Rattle.dwz_def_reading.specs.Abbrevs.{by_code, table_bytes}
 use Rattle.dwz_abbrev.specs.Views.{lent_views, views}
 use Rattle.dwz_abbrev.specs.Written.{Begins}
 use Rattle.dwz_abbrev.proofs.writing.put_sorted.Given as goal

@@ -1,7 +1,7 @@
 use Rattle.std.proofs.Common.{◌≡◌, drop}
 use Rattle.std.specs.Prelude.{All}
 use Rattle.std.specs.BTreeMap.{values}
-use Rattle.dwz_docs.specs.Abbrevs.{by_code}
+use Rattle.dwz_def_reading.specs.Abbrevs.{by_code}
 use Rattle.dwz_abbrev.specs.Views.{lent_views, views}
 use Rattle.dwz_abbrev.proofs.writing.sort_decls.Given as goal
 

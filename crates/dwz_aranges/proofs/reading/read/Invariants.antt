@@ -1,6 +1,6 @@
 use Rattle.std.proofs.Common.{◌≡◌, ◌≤◌, ◌-◌, length}
 use Rattle.dwz_bytes.specs.Input.{input}
-use Rattle.dwz_meanings.specs.Ranges.{sets_at}
+use Rattle.dwz_def_reading.specs.Ranges.{sets_at}
 use Rattle.dwz_aranges.specs.Views.{any_unit, set_views}
 use Rattle.dwz_aranges.proofs.WholeLemmas.{sets_into}
 use Rattle.dwz_aranges.proofs.reading.read.Given as goal

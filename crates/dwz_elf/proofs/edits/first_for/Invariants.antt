@@ -1,5 +1,5 @@
 use Rattle.std.proofs.Common.{◌≡◌, drop}
-use Rattle.dwz_docs.specs.ElfLayout.{content_for}
+use Rattle.dwz_def_reading.specs.ElfLayout.{content_for}
 use Rattle.dwz_elf.proofs.edits.first_for.Given as goal
 
 abbrev pub invariant-loop-content : goal.invariant-loop-content

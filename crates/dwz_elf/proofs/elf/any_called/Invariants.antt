@@ -1,7 +1,7 @@
 use Rattle.std.proofs.Common.{◌≡◌, drop, List, map}
 use Rattle.std.specs.List.{list_any}
-use Rattle.dwz_docs.specs.declared.elf.Header.{Header}
-use Rattle.dwz_docs.specs.ElfNames.{section_named}
+use Rattle.dwz_def_reading.specs.declared.elf.Header.{Header}
+use Rattle.dwz_def_reading.specs.ElfNames.{section_named}
 use Rattle.dwz_elf.specs.Names.{is_there_called}
 use Rattle.dwz_elf.proofs.elf.any_called.Given as goal
 

@@ -1,6 +1,6 @@
 use Rattle.std.proofs.Common.{◌≡◌, ℕ, ◌<◌, ◌≤◌, ◌+◌, List, [], ◌∷◌, length, get_or, drop, Some, refl, sym, ◌∙◌}
 use Rattle.std.proofs.lemmas.List.{drop_all, drop_more}
-use Rattle.dwz_docs.specs.ElfReading.{first_other}
+use Rattle.dwz_def_reading.specs.ElfReading.{first_other}
 use Rattle.dwz_elf.proofs.fault.first_other.Goals as goal
 
 -- a byte is wanted where the bytes have ended

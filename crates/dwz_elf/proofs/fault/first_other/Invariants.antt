@@ -1,5 +1,5 @@
 use Rattle.std.proofs.Common.{◌≡◌, drop}
-use Rattle.dwz_docs.specs.ElfReading.{first_other}
+use Rattle.dwz_def_reading.specs.ElfReading.{first_other}
 use Rattle.dwz_elf.proofs.fault.first_other.Given as goal
 
 abbrev pub invariant-loop-at : goal.invariant-loop-at

@@ -1,4 +1,4 @@
-use Rattle.dwz_docs.specs.ElfReading.{header_fault}
+use Rattle.dwz_def_reading.specs.ElfReading.{header_fault}
 use Rattle.dwz_elf.proofs.FaultLemmas.{none_here, none_left, right_none, some_here, wrong_fault}
 use Rattle.dwz_elf.proofs.fault.headers_fault.Goals as goal
 

@@ -1,5 +1,5 @@
 use Rattle.std.proofs.Common.{◌≡◌, [], drop, take}
-use Rattle.dwz_docs.specs.ElfReading.{first_in, header_fault}
+use Rattle.dwz_def_reading.specs.ElfReading.{first_in, header_fault}
 use Rattle.dwz_elf.proofs.fault.headers_fault.Given as goal
 
 abbrev pub invariant-loop-index : goal.invariant-loop-index

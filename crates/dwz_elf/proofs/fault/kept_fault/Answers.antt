@@ -1,5 +1,5 @@
 use Rattle.std.proofs.Common.{sym, ◌∙◌}
-use Rattle.dwz_docs.specs.ElfReading.{unkept_fault}
+use Rattle.dwz_def_reading.specs.ElfReading.{unkept_fault}
 use Rattle.dwz_elf.proofs.FaultLemmas.{none_here, none_left, some_here, there_is, there_is_none}
 use Rattle.dwz_elf.proofs.fault.kept_fault.Goals as goal
 

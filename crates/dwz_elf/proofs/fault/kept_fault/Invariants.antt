@@ -1,5 +1,5 @@
 use Rattle.std.proofs.Common.{◌≡◌, [], drop, take}
-use Rattle.dwz_docs.specs.ElfReading.{first_in, unkept_fault}
+use Rattle.dwz_def_reading.specs.ElfReading.{first_in, unkept_fault}
 use Rattle.dwz_elf.proofs.fault.kept_fault.Given as goal
 
 abbrev pub invariant-loop-section : goal.invariant-loop-section

@@ -1,5 +1,5 @@
 use Rattle.std.proofs.Common.{◌≡◌, ◌+◌, ◌*◌, ◌-◌, ◌++◌}
-use Rattle.dwz_docs.specs.ElfHeaders
+use Rattle.dwz_def_reading.specs.ElfHeaders
 use Rattle.dwz_elf.proofs.header.headers_from.Given as goal
 
 abbrev pub invariant-loop-index : goal.invariant-loop-index

@@ -1,6 +1,6 @@
 use Rattle.std.proofs.Common.{[], ap, ◌∙◌}
-use Rattle.dwz_docs.specs.ElfLayout.{inside_fault, layout_fault}
-use Rattle.dwz_docs.specs.ElfReading.{first_in}
+use Rattle.dwz_def_reading.specs.ElfLayout.{inside_fault, layout_fault}
+use Rattle.dwz_def_reading.specs.ElfReading.{first_in}
 use Rattle.dwz_elf.specs.Rebuilds.{changes_of}
 use Rattle.dwz_elf.proofs.FaultLemmas.{none_here, none_left, some_here}
 use Rattle.dwz_elf.proofs.LayoutLemmas.{inside_none, inside_some}

@@ -1,6 +1,6 @@
 use Rattle.std.proofs.Common.{◌≡◌, [], drop, take}
-use Rattle.dwz_docs.specs.ElfLayout.{inside_fault}
-use Rattle.dwz_docs.specs.ElfReading.{first_in}
+use Rattle.dwz_def_reading.specs.ElfLayout.{inside_fault}
+use Rattle.dwz_def_reading.specs.ElfReading.{first_in}
 use Rattle.dwz_elf.specs.Rebuilds.{changes_of}
 use Rattle.dwz_elf.proofs.layout.layout_fault.Given as goal
 

@@ -1,5 +1,5 @@
 use Rattle.std.proofs.Common.{◌≡◌, drop, max}
-use Rattle.dwz_docs.specs.ElfLayout
+use Rattle.dwz_def_reading.specs.ElfLayout
 use Rattle.dwz_elf.proofs.layout.loaded_end.Given as goal
 
 abbrev pub invariant-loop-section : goal.invariant-loop-section

@@ -1,6 +1,6 @@
 use Rattle.std.proofs.Common.{ap, ◌∙◌}
 use Rattle.std.specs.Int.{next_multiple_of}
-use Rattle.dwz_docs.specs.ElfLayout
+use Rattle.dwz_def_reading.specs.ElfLayout
 use Rattle.dwz_elf.specs.Rebuilds.{changes_of}
 use Rattle.dwz_elf.proofs.LayoutLemmas.{all_placed, next_place, too_far, two_parts}
 use Rattle.dwz_elf.proofs.layout.place.Goals as goal

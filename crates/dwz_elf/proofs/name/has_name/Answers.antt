@@ -1,7 +1,7 @@
 use Rattle.std.proofs.Common.{◌&&◌, ◌∙◌, ap, arith, Bool, sym, inl, inr}
 use Rattle.std.proofs.lemmas.List.{drop_all}
 use Rattle.std.specs.Str.{bytes_eq}
-use Rattle.dwz_docs.proofs.ListFacts.{whole_rest}
+use Rattle.dwz_def_reading.proofs.ListFacts.{whole_rest}
 use Rattle.dwz_elf.proofs.NameLemmas.{called, no_rest, not_ended}
 use Rattle.dwz_elf.proofs.name.has_name.Goals as goal
 

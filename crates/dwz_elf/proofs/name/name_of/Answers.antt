@@ -1,4 +1,4 @@
-use Rattle.dwz_docs.proofs.ListFacts.{whole_rest}
+use Rattle.dwz_def_reading.proofs.ListFacts.{whole_rest}
 use Rattle.dwz_elf.proofs.NameLemmas.{named}
 use Rattle.dwz_elf.proofs.name.name_of.Goals as goal
 

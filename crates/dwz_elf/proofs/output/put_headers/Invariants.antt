@@ -1,5 +1,5 @@
 use Rattle.std.proofs.Common.{◌≡◌, ◌++◌, drop}
-use Rattle.dwz_docs.specs.ElfLayout
+use Rattle.dwz_def_reading.specs.ElfLayout
 use Rattle.dwz_elf.proofs.output.put_headers.Given as goal
 
 abbrev pub invariant-loop-index : goal.invariant-loop-index

@@ -1,4 +1,4 @@
-use Rattle.dwz_docs.specs.ElfLayout
+use Rattle.dwz_def_reading.specs.ElfLayout
 use Rattle.dwz_elf.specs.Rebuilds.{changes_of}
 use Rattle.dwz_elf.proofs.OutputLemmas.{all_sections, one_section}
 use Rattle.dwz_elf.proofs.output.put_sections.Goals as goal

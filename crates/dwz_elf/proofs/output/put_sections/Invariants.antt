@@ -1,5 +1,5 @@
 use Rattle.std.proofs.Common.{◌≡◌, ◌++◌, drop}
-use Rattle.dwz_docs.specs.ElfLayout
+use Rattle.dwz_def_reading.specs.ElfLayout
 use Rattle.dwz_elf.specs.Rebuilds.{changes_of}
 use Rattle.dwz_elf.proofs.output.put_sections.Given as goal
 

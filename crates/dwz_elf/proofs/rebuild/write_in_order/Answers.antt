@@ -1,5 +1,5 @@
 use Rattle.std.proofs.Common.{subst, ◌≤◌, ◌<◌, ℕ}
-use Rattle.dwz_docs.specs.ElfLayout.{too_large}
+use Rattle.dwz_def_reading.specs.ElfLayout.{too_large}
 use Rattle.dwz_elf.specs.Rebuilds.{changes_of}
 use Rattle.dwz_elf.proofs.RebuildLemmas.{kept_too_long, placed_too_far, sup_too_long, the_bytes, the_length, the_places}
 use Rattle.dwz_elf.proofs.rebuild.write_in_order.Goals as goal

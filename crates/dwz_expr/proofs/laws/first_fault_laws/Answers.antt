@@ -1,6 +1,6 @@
 use Rattle.std.proofs.Common.{Option, ap, ◌∙◌}
-use Rattle.dwz_meanings.specs.declared.exprs.Operand.{Operand}
-use Rattle.dwz_meanings.specs.Exprs.{any_operands, expr_at}
+use Rattle.dwz_def_reading.specs.declared.exprs.Operand.{Operand}
+use Rattle.dwz_def_reading.specs.Exprs.{any_operands, expr_at}
 use Rattle.dwz_expr.specs.FirstFault.{unless_one}
 use Rattle.dwz_expr.proofs.laws.first_fault_laws.Goals as goal
 

@@ -2,7 +2,7 @@ use Rattle.std.proofs.Common.{◌≡◌, Ok, subst, rules}
 use Rattle.dwz_bytes.specs.Input.{Input, input}
 use Rattle.dwz_codes.specs.Forms.{form_rows}
 use Rattle.dwz_codes.specs.declared.shape.Shape.{Shape}
-use Rattle.dwz_docs.specs.Values.{shaped_at, value_at}
+use Rattle.dwz_def_reading.specs.Values.{shaped_at, value_at}
 use Rattle.dwz_forms.specs.RawValues.{raw_view}
 use Rattle.dwz_forms.proofs.ReadingLemmas.{value_writable}
 use Rattle.dwz_forms.proofs.reading.read_value.Goals as goal
@@ -13,7 +13,7 @@ returns-clause-writable c =
     let bytes = c.bytes-bytes.result.now in
     let raw = raw_view c.in_ok-raw.raw in
     let next = c.value_by_shape.new.cursor in
-    let here : shaped_at c.shape_of.result pair (input bytes c.at.result) ≡ Ok (raw, next) =
-    subst (λ (i : Input). shaped_at c.shape_of.result pair i ≡ Ok (raw, next)) c.new-ahead.ensures c.in_ok-raw.ensures in
-    let read : value_at form_rows pair (input bytes c.at.result) ≡ Ok (raw, next) = subst (λ (s : Shape). shaped_at s pair (input bytes c.at.result) ≡ Ok (raw, next)) c.shape_of.ensures here in
+    let here : shaped_at c.form_shape.result pair (input bytes c.at.result) ≡ Ok (raw, next) =
+    subst (λ (i : Input). shaped_at c.form_shape.result pair i ≡ Ok (raw, next)) c.new-ahead.ensures c.in_ok-raw.ensures in
+    let read : value_at form_rows pair (input bytes c.at.result) ≡ Ok (raw, next) = subst (λ (s : Shape). shaped_at s pair (input bytes c.at.result) ≡ Ok (raw, next)) c.form_shape.ensures here in
     value_writable pair bytes c.at.result next raw (λ k. search rules) read

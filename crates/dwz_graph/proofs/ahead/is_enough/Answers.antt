@@ -1,6 +1,6 @@
 use Rattle.std.proofs.Common.{◌≡◌, ℕ, false, sym, ap, ◌∙◌, arith}
 use Rattle.std.proofs.lemmas.Bool.{leb-true}
-use Rattle.dwz_meanings.specs.Files.{is_other_machine}
+use Rattle.dwz_def_reading.specs.Files.{is_other_machine}
 use Rattle.dwz_graph.specs.Files.{limits_view}
 use Rattle.dwz_graph.proofs.FileLemmas.{for_machine, machine_is, not_too_long}
 use Rattle.dwz_graph.proofs.ahead.is_enough.Goals as goal

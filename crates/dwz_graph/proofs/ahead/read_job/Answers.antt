@@ -1,8 +1,8 @@
 use Rattle.std.proofs.Common.{ℕ, List, None, Vec, Global, ap, subst, ◌∙◌}
 use Rattle.std.specs.Option.{option_map}
 use Rattle.std.proofs.lemmas.Option.{slice_get-map}
-use Rattle.dwz_docs.proofs.ListFacts.{item_got}
-use Rattle.dwz_meanings.specs.Files.{Limits}
+use Rattle.dwz_def_reading.proofs.ListFacts.{item_got}
+use Rattle.dwz_def_reading.specs.Files.{Limits}
 use Rattle.dwz_graph.specs.Files.{IsRead}
 use Rattle.dwz_graph.proofs.ahead.read_job.Goals as goal
 

@@ -1,12 +1,12 @@
 use Rattle.std.proofs.Common.{◌≡◌, ℕ, List, length, true, sym, ap, subst, ◌∙◌}
 use Rattle.std.proofs.lemmas.Result.{err_from_is_err_and}
 use Rattle.dwz_model.specs.declared.fault.ReadErr.{ReadErr}
-use Rattle.dwz_docs.specs.Faults.{Fails}
-use Rattle.dwz_meanings.specs.Files.{file_meaning, is_other_machine}
-use Rattle.dwz_docs.specs.Units.{entries_in}
-use Rattle.dwz_meanings.specs.Meanings.{Sources, alone}
-use Rattle.dwz_resolve.specs.Parts.{AreParted, HaveLines}
-use Rattle.dwz_resolve.specs.Resolved.{sources_view}
+use Rattle.dwz_def_reading.specs.Faults.{Fails}
+use Rattle.dwz_def_reading.specs.Files.{file_meaning, is_other_machine}
+use Rattle.dwz_def_reading.specs.Units.{entries_in}
+use Rattle.dwz_def_reading.specs.Meanings.{Sources, alone}
+use Rattle.dwz_graph.specs.Parts.{AreParted, HaveLines}
+use Rattle.dwz_graph.specs.Resolved.{sources_view}
 use Rattle.dwz_graph.specs.Files.{limits_view}
 use Rattle.dwz_unit.specs.Rows.{Source, units_of}
 use Rattle.dwz_graph.proofs.FileLemmas.{IsGood, bytes_short, content_is, content_short, elf_fails, has_doc, machine_is, named_fail, other_machine, same_rows, too_long, units_fail}

@@ -1,5 +1,5 @@
 use Rattle.std.proofs.Common.{◌≡◌, drop}
-use Rattle.dwz_docs.specs.Lists.{has}
+use Rattle.dwz_def_reading.specs.Rows.{has}
 use Rattle.dwz_lines.proofs.formats.has.Given as goal
 
 abbrev pub invariant-loop-other : goal.invariant-loop-other

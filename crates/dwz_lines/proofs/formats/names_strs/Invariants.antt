@@ -1,5 +1,5 @@
 use Rattle.std.proofs.Common.{◌≡◌, drop}
-use Rattle.dwz_meanings.specs.LineTables.{names_strs}
+use Rattle.dwz_def_reading.specs.LineTables.{names_strs}
 use Rattle.dwz_lines.specs.Views.{format_views}
 use Rattle.dwz_lines.proofs.formats.names_strs.Given as goal
 

@@ -1,8 +1,8 @@
 -- No text stands at or behind the end of the section.
 use Rattle.std.proofs.Common.{[], sym, ap, ◌∙◌}
 use Rattle.std.proofs.Math.ListN.{drop_of_length-le}
-use Rattle.dwz_docs.specs.Texts.{text_in}
-use Rattle.dwz_docs.proofs.TextLemmas.{none_again}
+use Rattle.dwz_def_reading.specs.Texts.{text_in}
+use Rattle.dwz_def_reading.proofs.TextLemmas.{none_again}
 use Rattle.std.proofs.Common.{arith}
 use Rattle.dwz_lines.proofs.rows.text_by.Goals as goal
 

@@ -2,7 +2,7 @@ use Rattle.std.proofs.Common.{◌≡◌, ℕ, List, Bor, length, map, sym, ap, �
 use Rattle.std.specs.Prelude.{◌||◌}
 use Rattle.std.proofs.lemmas.List.{length-map}
 use Rattle.std.proofs.lemmas.Result.{err_from_is_err_and}
-use Rattle.dwz_meanings.specs.LineTables.{names_strs}
+use Rattle.dwz_def_reading.specs.LineTables.{names_strs}
 use Rattle.dwz_lines.specs.declared.formats.Format.{Format}
 use Rattle.dwz_lines.specs.Reading.{has_dir}
 use Rattle.dwz_lines.specs.RowViews.{strings_view}

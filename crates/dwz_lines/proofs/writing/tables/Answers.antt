@@ -1,6 +1,6 @@
 use Rattle.std.proofs.Common.{◌+◌, ◌++◌, ◌∷◌, [], ℕ, List, drop, get_or, sym, ap, ◌∙◌, append_assoc}
 use Rattle.std.proofs.lemmas.List.{append-nil}
-use Rattle.dwz_meanings.specs.LinesWritten.{rows_bytes, tables_written}
+use Rattle.dwz_def_reading.specs.LinesWritten.{rows_bytes, tables_written}
 use Rattle.dwz_lines.proofs.WriteLemmas.{all_written, no_rows, one_row}
 use Rattle.dwz_lines.proofs.writing.tables.Goals as goal
 

@@ -1,5 +1,5 @@
 use Rattle.std.proofs.Common.{◌≡◌, ◌++◌, drop}
-use Rattle.dwz_meanings.specs.LinesWritten.{rows_bytes}
+use Rattle.dwz_def_reading.specs.LinesWritten.{rows_bytes}
 use Rattle.dwz_lines.proofs.writing.tables.Given as goal
 
 abbrev pub invariant-loop-path : goal.invariant-loop-path

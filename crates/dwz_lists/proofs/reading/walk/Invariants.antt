@@ -1,6 +1,6 @@
 use Rattle.std.proofs.Common.{◌≡◌, ◌+◌, [], length}
 use Rattle.dwz_bytes.specs.Input.{input}
-use Rattle.dwz_meanings.specs.LocLists.{bad_list}
+use Rattle.dwz_def_reading.specs.LocLists.{bad_list}
 use Rattle.dwz_lists.specs.Gathering.{in_lists, row_into}
 use Rattle.dwz_lists.proofs.reading.walk.Given as goal
 

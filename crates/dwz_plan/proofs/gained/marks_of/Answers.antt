@@ -1,7 +1,7 @@
 use Rattle.std.proofs.Common.{◌≡◌, ◌∙◌, ℕ, All, Bool, List, Option, length, map, ap, sym, subst}
 use Rattle.std.proofs.lemmas.List.{length-map}
 use Rattle.std.proofs.lemmas.List.Elements.{All-map}
-use Rattle.dwz_gain.specs.Gaining.{AreNumbers, weights_of}
+use Rattle.dwz_plan.specs.Gaining.{AreNumbers, weights_of}
 use Rattle.dwz_plan.specs.Gained.{group_of, part_seed}
 use Rattle.dwz_plan.proofs.gained.marks_of.Goals as goal
 

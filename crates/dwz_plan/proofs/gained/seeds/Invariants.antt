@@ -1,5 +1,5 @@
 use Rattle.std.proofs.Common.{◌≡◌, map, take}
-use Rattle.dwz_gain.specs.Gaining.{weights_of}
+use Rattle.dwz_plan.specs.Gaining.{weights_of}
 use Rattle.dwz_plan.specs.Gained.{part_seed}
 use Rattle.dwz_plan.proofs.gained.seeds.Given as goal
 

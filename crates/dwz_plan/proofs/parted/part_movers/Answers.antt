@@ -1,8 +1,8 @@
 use Rattle.std.proofs.Common.{◌≡◌, ◌<◌, ◌∙◌, ℕ, All, List, length, map, ap, refl, sym, subst, arith}
 use Rattle.std.proofs.lemmas.List.{length-map}
 use Rattle.dwz_plan.specs.Steps.{movers_by, numbered, placed, users_at}
-use Rattle.dwz_groups.specs.declared.groups.Pair.{Pair}
-use Rattle.dwz_spread.proofs.PairLemmas.{grouped_length}
+use Rattle.dwz_groups.specs.declared.groups.Edge.{Edge}
+use Rattle.dwz_groups.proofs.MarkLemmas.{grouped_length}
 use Rattle.dwz_plan.proofs.MadeLemmas.{movers_few, movers_low, movers_made, numbered_values, parts_made}
 use Rattle.dwz_plan.proofs.PlaceLemmas.{length-partials_of}
 use Rattle.dwz_plan.proofs.parted.part_movers.Goals as goal
@@ -25,7 +25,7 @@ homes_of_movers-requires-clause-movers c =
     let items = movers_made c.args.files_of_units.now c.args.files c.args.users.now c.in_ok-movers.movers c.items.result.now c.in_ok-movers.ensures c.items.ensures in
     let pairs : c.as_slice-pairs.result.now ≡ numbered c.args.users.now (movers_by c.args.files_of_units.now c.args.files c.args.users.now) = c.as_slice-pairs.ensures.value
     ∙ (c.in_ok-numbering.ensures.pairs ∙ ap (numbered c.args.users.now) items) in
-    subst (λ (ps : List Pair). All (λ p. p.value < length c.args.users.now) ps) (sym pairs)
+    subst (λ (ps : List Edge). All (λ p. p.value < length c.args.users.now) ps) (sym pairs)
     (numbered_values c.args.users.now (movers_by c.args.files_of_units.now c.args.files c.args.users.now) (length c.args.users.now)
     (movers_low c.args.files_of_units.now c.args.files c.args.users.now))
 
@@ -64,4 +64,4 @@ returns-clause-each c k l =
     let items = movers_made c.args.files_of_units.now c.args.files users c.in_ok-movers.movers c.items.result.now c.in_ok-movers.ensures c.items.ensures in
     let pairs : c.as_slice-pairs.result.now ≡ numbered users (movers_by c.args.files_of_units.now c.args.files users) = c.as_slice-pairs.ensures.value
     ∙ (c.in_ok-numbering.ensures.pairs ∙ ap (numbered users) items) in
-    c.in_ok-of_movers.ensures.each k l ∙ ap (λ (ps : List Pair). placed c.args.files_of_units.now users ps k) pairs
+    c.in_ok-of_movers.ensures.each k l ∙ ap (λ (ps : List Edge). placed c.args.files_of_units.now users ps k) pairs

@@ -2,8 +2,8 @@ use Rattle.std.proofs.Common.{ap, sym, ◌∙◌, ◌<◌, ◌≤◌, not, [], L
 use Rattle.std.proofs.lemmas.List.{take_more}
 use Rattle.std.proofs.lemmas.List.Elements.{All-take}
 use Rattle.std.proofs.lemmas.List.Sums.{prefix_len-le-length}
-use Rattle.dwz_alike.specs.Spots.{same_numbers}
-use Rattle.dwz_groups.specs.declared.groups.Pair.{Pair}
+use Rattle.dwz_def_tops.specs.Spots.{same_numbers}
+use Rattle.dwz_groups.specs.declared.groups.Edge.{Edge}
 use Rattle.dwz_plan.specs.Steps.{number_of, users_at}
 use Rattle.dwz_plan.proofs.ListingLemmas.{Numbers, new_seen, number_seen, numbers-all, numbers-few, numbers-low, numbers-more, numbers-none, put_seen, seen}
 use Rattle.dwz_plan.proofs.parts.number_lists.Goals as goal
@@ -13,7 +13,7 @@ loop-mover-init c =
     let users : List (List ℕ) = c.args.users.now in
     subst (λ (ks : List (List ℕ)). Numbers users [] ks c.new-firsts.result.items c.new-pairs.result.items) (sym (ap seen c.new-lists.ensures.empty))
     (subst (λ (fs : List ℕ). Numbers users [] [] fs c.new-pairs.result.items) (sym c.new-firsts.ensures.items)
-    (subst (λ (ps : List Pair). Numbers users [] [] [] ps) (sym c.new-pairs.ensures.items) (numbers-none users)))
+    (subst (λ (ps : List Edge). Numbers users [] [] [] ps) (sym c.new-pairs.ensures.items) (numbers-none users)))
 
 pub loop-mover-preserved : goal.loop-mover-preserved
 loop-mover-preserved c =

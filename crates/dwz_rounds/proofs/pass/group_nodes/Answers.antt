@@ -1,5 +1,5 @@
 use Rattle.std.proofs.Common.{ℕ, List}
-use Rattle.dwz_keys.specs.Mentions.{part_key}
+use Rattle.dwz_nodes.specs.Mentions.{part_key}
 use Rattle.dwz_rounds.proofs.Grouping.{is-grouped, are-same, same-length}
 use Rattle.dwz_rounds.proofs.Mentioned.{part-number}
 use Rattle.dwz_rounds.proofs.pass.group_nodes.Goals as goal

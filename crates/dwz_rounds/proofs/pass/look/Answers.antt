@@ -1,8 +1,8 @@
 use Rattle.std.proofs.Common.{◌≡◌, ◌<◌, ℕ, List, All, length, ap, sym, subst, arith, ◌∙◌}
 use Rattle.std.proofs.lemmas.List.Elements.{All-contains}
-use Rattle.dwz_keys.specs.Mentions.{sources_of}
-use Rattle.dwz_keys.specs.declared.mentions.Mention.{Mention}
-use Rattle.dwz_keys.proofs.Among.{among-to}
+use Rattle.dwz_nodes.specs.Mentions.{sources_of}
+use Rattle.dwz_nodes.specs.declared.mentions.Mention.{Mention}
+use Rattle.dwz_nodes.proofs.Among.{among-to}
 use Rattle.dwz_rounds.specs.Marked.{ArePut}
 use Rattle.dwz_rounds.proofs.Mentioned.{sources-inside}
 use Rattle.dwz_rounds.proofs.Visiting.{with-from}

@@ -1,7 +1,7 @@
 use Rattle.std.proofs.Common.{◌≡◌, ◌<◌, ℕ, List, Bool, All, length, ap, sym, subst, arith}
-use Rattle.dwz_keys.specs.Mentions.{part_key, AreMentions}
-use Rattle.dwz_keys.specs.declared.mentions.Mention.{Mention}
-use Rattle.dwz_keys.specs.Among.{Among}
+use Rattle.dwz_nodes.specs.Mentions.{part_key, AreMentions}
+use Rattle.dwz_nodes.specs.declared.mentions.Mention.{Mention}
+use Rattle.dwz_nodes.specs.Among.{Among}
 use Rattle.dwz_rounds.specs.declared.members.Range.{Range}
 use Rattle.std.specs.Prelude.{slice_index}
 use Rattle.dwz_rounds.specs.Marked.{AreMarked}

@@ -1,7 +1,7 @@
 use Rattle.std.proofs.Common.{◌≡◌, ℕ, ◌+◌, ◌++◌, ◌∷◌, [], List, take, get_or, ap, sym, subst, ◌∙◌}
 use Rattle.std.proofs.lemmas.List.{map-append, take_more}
-use Rattle.dwz_keys.specs.Mentions.{sources_of}
-use Rattle.dwz_keys.specs.declared.mentions.Mention.{Mention}
+use Rattle.dwz_nodes.specs.Mentions.{sources_of}
+use Rattle.dwz_nodes.specs.declared.mentions.Mention.{Mention}
 use Rattle.dwz_rounds.specs.Marked.{ArePut}
 use Rattle.dwz_rounds.proofs.Marking.{put-more}
 use Rattle.dwz_rounds.proofs.visit.visit_sources.Goals as goal

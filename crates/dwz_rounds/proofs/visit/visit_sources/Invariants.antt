@@ -1,5 +1,5 @@
 use Rattle.std.proofs.Common.{◌≡◌, length, take}
-use Rattle.dwz_keys.specs.Mentions.{sources_of}
+use Rattle.dwz_nodes.specs.Mentions.{sources_of}
 use Rattle.dwz_rounds.specs.Marked.{AreMarked, ArePut}
 use Rattle.dwz_rounds.proofs.visit.visit_sources.Given as goal
 

@@ -1,5 +1,5 @@
 use Rattle.std.proofs.Common.{ℕ, inl, inr, ⊎_elim, sym, subst}
-use Rattle.dwz_keys.specs.Among.{Among}
+use Rattle.dwz_nodes.specs.Among.{Among}
 use Rattle.dwz_rounds.proofs.Marking.{one-among}
 use Rattle.dwz_rounds.proofs.Visiting.{whole-there}
 use Rattle.dwz_rounds.proofs.visit.visit_whole.Goals as goal

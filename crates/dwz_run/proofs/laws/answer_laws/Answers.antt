@@ -5,8 +5,8 @@ pub returns-clause-answer : goal.returns-clause-answer
 returns-clause-answer c = answered
 
 pub returns-clause-complete : goal.returns-clause-complete
-returns-clause-complete c words old new shown shown_new status complete none store told a docs prunes written =
-    completes words old store told new shown shown_new status complete none a docs prunes written
+returns-clause-complete c words old new shown shown_new status complete none store told a free =
+    completes words old store told new shown shown_new status complete none a free
 
 pub returns-clause-refuses : goal.returns-clause-refuses
 returns-clause-refuses c words old new status all none store told a r first = is_refused words old store told new status all none a r first

@@ -1,8 +1,9 @@
 use Rattle.std.proofs.Common.{List, ℕ, Bool, Vec, Global, map, sym, subst}
 use Rattle.std.proofs.lemmas.Result.{err_from_is_err_and}
-use Rattle.dwz_course.specs.Answers.{IsAnswer}
+use Rattle.dwz_run_course.specs.Answers.{IsAnswer}
 use Rattle.dwz_graph.specs.Files.{docs_of}
-use Rattle.dwz_out.specs.Out.{ArePrunable, Out}
+use Rattle.dwz_def_output.specs.Written.{ArePrunable}
+use Rattle.dwz_def_run.specs.Out.{Out}
 use Rattle.dwz_run.proofs.FilesWritten.{common_in, graph_read, graph_rows, new_in, read_refused}
 use Rattle.dwz_run.proofs.written.written_files.Goals as goal
 

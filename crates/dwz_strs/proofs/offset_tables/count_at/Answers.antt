@@ -1,5 +1,5 @@
 use Rattle.std.proofs.Common.{arith}
-use Rattle.dwz_docs.proofs.OffsetLemmas.{whole}
+use Rattle.dwz_def_reading.proofs.OffsetLemmas.{whole}
 use Rattle.dwz_strs.proofs.offset_tables.count_at.Goals as goal
 
 pub size_at-requires : goal.size_at-requires

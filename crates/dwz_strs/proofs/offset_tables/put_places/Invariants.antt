@@ -1,5 +1,5 @@
 use Rattle.std.proofs.Common.{◌≡◌, ◌+◌, ◌-◌, ◌*◌, ◌++◌}
-use Rattle.dwz_docs.specs.OffsetTables.{places_from}
+use Rattle.dwz_def_reading.specs.OffsetTables.{places_from}
 use Rattle.dwz_strs.proofs.offset_tables.put_places.Given as goal
 
 abbrev pub invariant-loop-i : goal.invariant-loop-i

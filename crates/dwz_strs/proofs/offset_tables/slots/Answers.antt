@@ -1,6 +1,6 @@
 use Rattle.std.proofs.Common.{◌≡◌, ◌∙◌, ◌+◌, ◌*◌, ◌++◌, ℕ, List, Some, true, ap, arith, drop, sym}
-use Rattle.dwz_docs.specs.OffsetTables.{count_at, is_contribution, places_from}
-use Rattle.dwz_docs.proofs.ListFacts.{whole_rest}
+use Rattle.dwz_def_reading.specs.OffsetTables.{count_at, is_contribution, places_from}
+use Rattle.dwz_def_reading.proofs.ListFacts.{whole_rest}
 use Rattle.dwz_strs.proofs.SlotSteps.{fits, next_row, no_more, no_slots_yet, not_a_row}
 use Rattle.dwz_strs.proofs.offset_tables.slots.Goals as goal
 

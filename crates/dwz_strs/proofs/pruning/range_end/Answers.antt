@@ -1,5 +1,5 @@
 use Rattle.std.proofs.Common.{ap, arith}
-use Rattle.dwz_docs.specs.Pruning.{ended_length, range_end}
+use Rattle.dwz_def_reading.specs.Pruning.{ended_length, range_end}
 use Rattle.dwz_strs.proofs.pruning.range_end.Goals as goal
 
 pub returns-in-None : goal.returns-in-None

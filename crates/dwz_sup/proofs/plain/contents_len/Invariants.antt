@@ -1,5 +1,5 @@
 use Rattle.std.proofs.Common.{◌≡◌, ◌+◌, drop, length}
-use Rattle.dwz_docs.specs.PlainFile.{plain_contents}
+use Rattle.dwz_def_reading.specs.PlainFile.{plain_contents}
 use Rattle.dwz_sup.specs.Seen.{sections_seen}
 use Rattle.dwz_sup.proofs.plain.contents_len.Given as goal
 

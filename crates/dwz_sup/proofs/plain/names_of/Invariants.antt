@@ -1,5 +1,5 @@
 use Rattle.std.proofs.Common.{◌≡◌, ◌++◌, ◌∷◌, drop}
-use Rattle.dwz_docs.specs.PlainFile.{section_names}
+use Rattle.dwz_def_reading.specs.PlainFile.{section_names}
 use Rattle.dwz_sup.specs.Seen.{sections_seen}
 use Rattle.dwz_sup.proofs.plain.names_of.Given as goal
 

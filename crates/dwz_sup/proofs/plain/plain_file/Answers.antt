@@ -1,7 +1,7 @@
 use Rattle.std.proofs.Common.{ℕ, ◌≡◌, ◌+◌, ◌-◌, length, ap, sym, ◌∙◌, arith}
 use Rattle.std.proofs.lemmas.List.{length-map}
 use Rattle.std.specs.Int.{next_multiple_of}
-use Rattle.dwz_docs.specs.PlainFile.{plain_end, plain_headers_at, section_names}
+use Rattle.dwz_def_reading.specs.PlainFile.{plain_end, plain_headers_at, section_names}
 use Rattle.dwz_sup.specs.Seen.{section_seen, sections_seen}
 use Rattle.dwz_sup.proofs.WrittenLemmas.{file_written, fits, name_of_names}
 use Rattle.dwz_sup.proofs.plain.plain_file.Goals as goal

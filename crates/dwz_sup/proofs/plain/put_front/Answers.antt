@@ -1,8 +1,8 @@
 use Rattle.std.proofs.Common.{ℕ, replicate}
 use Rattle.std.proofs.lemmas.Result.{on_ok_weaker}
-use Rattle.dwz_docs.specs.ElfFaults.{identification}
-use Rattle.dwz_docs.specs.ElfLayout.{numbers}
-use Rattle.dwz_docs.specs.PlainFile.{file_fields}
+use Rattle.dwz_def_reading.specs.ElfFaults.{identification}
+use Rattle.dwz_def_reading.specs.ElfLayout.{numbers}
+use Rattle.dwz_def_reading.specs.PlainFile.{file_fields}
 use Rattle.dwz_sup.proofs.WrittenLemmas.{three_parts}
 use Rattle.dwz_sup.proofs.plain.put_front.Goals as goal
 

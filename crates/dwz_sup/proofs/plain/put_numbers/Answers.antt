@@ -1,4 +1,4 @@
-use Rattle.dwz_docs.proofs.NumberRowLemmas.{all_numbers, one_number}
+use Rattle.dwz_def_reading.proofs.NumberRowLemmas.{all_numbers, one_number}
 use Rattle.dwz_sup.proofs.plain.put_numbers.Goals as goal
 
 pub loop-field-preserved : goal.loop-field-preserved

@@ -1,4 +1,4 @@
-use Rattle.dwz_docs.proofs.ListFacts.{one_zero}
+use Rattle.dwz_def_reading.proofs.ListFacts.{one_zero}
 use Rattle.dwz_sup.proofs.plain.put_zeros.Goals as goal
 
 pub loop-i-preserved : goal.loop-i-preserved

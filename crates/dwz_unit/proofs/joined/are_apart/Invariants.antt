@@ -1,6 +1,6 @@
 use Rattle.std.proofs.Common.{◌≡◌, None, take}
 use Rattle.std.specs.Prelude.{All}
-use Rattle.dwz_docs.specs.Abbrevs.{find_decl}
+use Rattle.dwz_def_reading.specs.Abbrevs.{find_decl}
 use Rattle.dwz_unit.specs.Tails.{whole_tables, tail_in}
 use Rattle.dwz_unit.proofs.joined.are_apart.Given as goal
 

@@ -1,8 +1,8 @@
 use Rattle.std.proofs.Common.{◌≡◌, ◌≤◌, ◌-◌, ◌<◌, ◌^◌, rules, length, drop, Option, None, Some, sym, ap, subst, ◌∙◌, arith}
 use Rattle.std.specs.Prelude.{slice_get}
 use Rattle.std.proofs.lemmas.Option.{slice_get_past, slice_get_read}
-use Rattle.dwz_docs.specs.Abbrevs.{find_decl}
-use Rattle.dwz_docs.proofs.ListFacts.{same_got}
+use Rattle.dwz_def_reading.specs.Abbrevs.{find_decl}
+use Rattle.dwz_def_reading.proofs.ListFacts.{same_got}
 use Rattle.dwz_abbrev.specs.Views.{decl_view}
 use Rattle.dwz_unit.specs.declared.joined.JoinedTable.{JoinedTable}
 use Rattle.dwz_unit.specs.declared.tail.Tail.{Tail}

@@ -1,5 +1,5 @@
 use Rattle.std.proofs.Common.{◌≡◌, drop}
-use Rattle.dwz_docs.specs.Abbrevs.{find_decl}
+use Rattle.dwz_def_reading.specs.Abbrevs.{find_decl}
 use Rattle.dwz_unit.specs.Tails.{StartsIn, whole_tables, tail_in}
 use Rattle.dwz_unit.proofs.joined.decl_past.Given as goal
 

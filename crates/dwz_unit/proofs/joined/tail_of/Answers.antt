@@ -2,7 +2,7 @@ use Rattle.std.proofs.Common.{◌≡◌, ℕ, List, Some, get_or, rules, ap, sym
 use Rattle.std.specs.Prelude.{slice_get}
 use Rattle.std.specs.Ordering.{is_eq}
 use Rattle.std.proofs.lemmas.Option.{slice_get-get_or, slice_get_read}
-use Rattle.dwz_docs.proofs.CaseFacts.{same_number}
+use Rattle.dwz_def_reading.proofs.CaseFacts.{same_number}
 use Rattle.dwz_unit.proofs.joined.tail_of.Goals as goal
 
 pub returns-in-Ok : goal.returns-in-Ok

@@ -1,5 +1,5 @@
 use Rattle.std.proofs.Common.{List, refl, subst}
-use Rattle.dwz_docs.specs.Abbrevs.{Declaration}
+use Rattle.dwz_def_reading.specs.Abbrevs.{Declaration}
 use Rattle.dwz_abbrev.specs.Starts.{HaveOtherCodes}
 use Rattle.dwz_unit.specs.Tails.{whole_tables, tail_in}
 use Rattle.dwz_unit.proofs.JoinLemmas.{joins_none, joins_some}

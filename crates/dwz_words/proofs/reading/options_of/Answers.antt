@@ -2,7 +2,7 @@ use Rattle.std.proofs.Common.{refl, ◌≡◌, ◌∙◌, ap, map, codes, unwrap
 use Rattle.clap.specs.Words.{Text, all_of, first_of, found_of, one_of, rows_of}
 use Rattle.std.specs.Str.Parse.{ExplainsUnsignedError, HasUnsignedDigitsIfOk}
 use Rattle.clap.proofs.WalkLemmas.{first_value-rows, one_text-rows, raw_values-rows}
-use Rattle.dwz_words.specs.Lawful.{is_set, number_at}
+use Rattle.dwz_words.specs.Lawful.{is_set, option_number}
 use Rattle.dwz_words.proofs.MatchLemmas.{bool_read, names_read, number_read}
 use Rattle.dwz_words.proofs.reading.options_of.Goals as goal
 
@@ -19,12 +19,12 @@ returns c =
     c.unwrap_or.ensures ∙ bool_read _ (one_of (codes "q") (rows_of found)) c.get_one.result
     (λ e. c.get_one.ensures.none (one_text-rows found (codes "q") ∙ e))
     (λ t e. c.get_one.ensures.value t (one_text-rows found (codes "q") ∙ e)) in
-    let workers : c.unwrap_or-2.result ≡ unwrap_or (number_at (codes "j") (rows_of found)) 4 =
+    let workers : c.unwrap_or-2.result ≡ unwrap_or (option_number (codes "j") (rows_of found)) 4 =
     c.unwrap_or-2.ensures ∙ ap (λ n. unwrap_or n 4) (number_read _ (ExplainsUnsignedError 10) HasUnsignedDigitsIfOk
     (one_of (codes "j") (rows_of found)) c.get_one-2.result
     (λ e. c.get_one-2.ensures.none (one_text-rows found (codes "j") ∙ e))
     (λ t e. c.get_one-2.ensures.value t (one_text-rows found (codes "j") ∙ e))) in
-    let demo : c.get_one-3.result ≡ number_at (codes "demo") (rows_of found) =
+    let demo : c.get_one-3.result ≡ option_number (codes "demo") (rows_of found) =
     number_read _ (ExplainsUnsignedError 10) HasUnsignedDigitsIfOk
     (one_of (codes "demo") (rows_of found)) c.get_one-3.result
     (λ e. c.get_one-3.ensures.none (one_text-rows found (codes "demo") ∙ e))

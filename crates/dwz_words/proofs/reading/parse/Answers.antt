@@ -4,7 +4,7 @@ use Rattle.std.proofs.lemmas.List.{length-map}
 use Rattle.clap.specs.Words.{Text, fault_of, matches_of}
 use Rattle.dwz_words.specs.Command.{dwz_command}
 use Rattle.dwz_words.specs.Conditions.{FitTogether}
-use Rattle.dwz_words.specs.Lawful.{bytes_of, options_of}
+use Rattle.dwz_words.specs.Lawful.{options_of, word_bytes}
 use Rattle.dwz_words.specs.declared.options.WordsErr.TheVariants.{Usage}
 use Rattle.dwz_words.proofs.MatchLemmas.{unless_no_memory}
 use Rattle.dwz_words.proofs.PlainLemmas.{plain_read}
@@ -20,7 +20,7 @@ returns-in_err-options-clause-plain_read c = plain_read _ (rw length-map c.texts
 pub returns-in_err-options-clause-plain_taken : goal.returns-in_err-options-clause-plain_taken
 returns-in_err-options-clause-plain_taken c = λ arguments plain utf8 fit.
     let same = ap (map (λ t. t.now)) c.as_slice.ensures.value ∙ c.in_ok-texts.ensures.same in
-    let none : fault_of dwz_command (bytes_of c.args.words.now) ≡ [] = plain_read _ (rw length-map c.texts.ensures.few) arguments plain in
+    let none : fault_of dwz_command (word_bytes c.args.words.now) ≡ [] = plain_read _ (rw length-map c.texts.ensures.few) arguments plain in
     let read_none = subst (λ (ws : List Text). fault_of dwz_command ws ≡ []) (sym same) none in
     let no_usage : IsErrOf c.from_residual-in_err-options.result Usage → ⊥ = search (rules, c.in_err-options.ensures.usage, read_none) in
     unless_no_memory c.from_residual-in_err-options.result no_usage

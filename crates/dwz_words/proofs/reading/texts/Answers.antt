@@ -3,7 +3,7 @@ use Rattle.std.specs.Str.{IsUtf8}
 use Rattle.std.proofs.lemmas.List.{length-map, map-append, take_all}
 use Rattle.std.proofs.lemmas.List.Elements.{All-push}
 use Rattle.dwz_words.proofs.MatchLemmas.{All-map_at, map_more_at}
-use Rattle.dwz_words.specs.Lawful.{bytes_of}
+use Rattle.dwz_words.specs.Lawful.{word_bytes}
 use Rattle.dwz_words.proofs.reading.texts.Goals as goal
 
 pub returns-in-Err-clause-usage : goal.returns-in-Err-clause-usage
@@ -22,10 +22,10 @@ loop-word-preserved c =
 
 pub returns-clause-same : goal.returns-clause-same
 returns-clause-same c =
-    c.loop-word.invariant.same ∙ take_all c.loop-word.word-index (bytes_of c.args.words.now) (rw length-map c.loop-word-test.false)
+    c.loop-word.invariant.same ∙ take_all c.loop-word.word-index (word_bytes c.args.words.now) (rw length-map c.loop-word-test.false)
 
 pub returns-clause-utf8 : goal.returns-clause-utf8
 returns-clause-utf8 c =
-    let all : take c.loop-word.word-index (bytes_of c.args.words.now) ≡ map (λ w. w.items) c.args.words.now =
-    take_all c.loop-word.word-index (bytes_of c.args.words.now) (rw length-map c.loop-word-test.false) in
+    let all : take c.loop-word.word-index (word_bytes c.args.words.now) ≡ map (λ w. w.items) c.args.words.now =
+    take_all c.loop-word.word-index (word_bytes c.args.words.now) (rw length-map c.loop-word-test.false) in
     rw all at c.loop-word.invariant.utf8

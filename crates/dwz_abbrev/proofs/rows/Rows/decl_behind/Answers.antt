@@ -2,7 +2,7 @@ use Rattle.std.proofs.Common.{◌≡◌, ◌≤◌, ◌-◌, drop, length, List,
 use Rattle.std.specs.Prelude.{AllPairs, slice_get}
 use Rattle.std.specs.Option.{option_copied, option_map}
 use Rattle.std.proofs.lemmas.Option.{slice_get_past, slice_get_read}
-use Rattle.dwz_docs.specs.Abbrevs.{Declaration, find_decl}
+use Rattle.dwz_def_reading.specs.Abbrevs.{Declaration, find_decl}
 use Rattle.dwz_abbrev.specs.declared.decl.Decl.{Decl}
 use Rattle.dwz_abbrev.specs.Views.{decl_view}
 use Rattle.dwz_abbrev.specs.Written.{Differ}

@@ -1,5 +1,5 @@
 use Rattle.std.proofs.Common.{◌≡◌, ℕ, List, None, length, sym, subst, arith}
-use Rattle.dwz_docs.specs.Abbrevs.{Declaration, find_decl}
+use Rattle.dwz_def_reading.specs.Abbrevs.{Declaration, find_decl}
 use Rattle.dwz_abbrev.specs.Places.{Stores}
 use Rattle.dwz_abbrev.proofs.PlaceLemmas.{pushed}
 use Rattle.dwz_abbrev.proofs.rows.Rows.push.Goals as goal

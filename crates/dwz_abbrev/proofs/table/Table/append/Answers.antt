@@ -1,7 +1,7 @@
 use Rattle.std.proofs.Common.{◌+◌, List, All, sym, subst, arith}
 use Rattle.dwz_model.specs.declared.place.Pair.{Pair}
-use Rattle.dwz_docs.specs.Abbrevs.{FitsDeclaration, IsCounted, with_code}
-use Rattle.dwz_docs.proofs.FitLemmas.{none_found}
+use Rattle.dwz_def_reading.specs.Abbrevs.{FitsDeclaration, IsCounted, with_code}
+use Rattle.dwz_def_reading.proofs.FitLemmas.{none_found}
 use Rattle.dwz_abbrev.specs.Ranges.{IsInRange}
 use Rattle.dwz_abbrev.proofs.AppendLemmas.{next_above, pairs_fit, pushed_fits}
 use Rattle.dwz_abbrev.proofs.table.Table.append.Goals as goal

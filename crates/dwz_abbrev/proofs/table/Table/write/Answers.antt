@@ -1,7 +1,7 @@
 use Rattle.std.proofs.Common.{List, subst}
-use Rattle.dwz_docs.specs.Abbrevs.{Declaration, FitsTable, SpellsTable, by_code, table_bytes}
-use Rattle.dwz_docs.proofs.FitLemmas.{table_written}
-use Rattle.dwz_docs.proofs.OrderLemmas.{by_code-fits}
+use Rattle.dwz_def_reading.specs.Abbrevs.{Declaration, FitsTable, SpellsTable, by_code, table_bytes}
+use Rattle.dwz_def_reading.proofs.FitLemmas.{table_written}
+use Rattle.dwz_def_reading.proofs.OrderLemmas.{by_code-fits}
 use Rattle.dwz_abbrev.proofs.table.Table.write.Goals as goal
 
 -- what is written of a table that can be spelled spells it

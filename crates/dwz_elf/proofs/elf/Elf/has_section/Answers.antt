@@ -1,5 +1,5 @@
 use Rattle.std.proofs.Common.{◌∙◌, ap, length, arith, get_or, take, List}
-use Rattle.dwz_docs.specs.declared.elf.Section.{Section}
+use Rattle.dwz_def_reading.specs.declared.elf.Section.{Section}
 use Rattle.dwz_elf.proofs.CalledLemmas.{answered, some_table, table_is}
 use Rattle.dwz_elf.proofs.elf.Elf.has_section.Goals as goal
 

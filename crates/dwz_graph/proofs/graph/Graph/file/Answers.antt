@@ -1,6 +1,6 @@
 use Rattle.std.proofs.Common.{ℕ, ◌<◌, List, length, map, slice_get, ap, subst, ◌∙◌, arith}
-use Rattle.dwz_docs.proofs.ListFacts.{item_got}
-use Rattle.dwz_meanings.specs.Files.{no_files_before}
+use Rattle.dwz_def_reading.proofs.ListFacts.{item_got}
+use Rattle.dwz_def_reading.specs.Files.{no_files_before}
 use Rattle.dwz_graph.specs.Files.{HasRead}
 use Rattle.dwz_graph.proofs.GraphLemmas.{as_many, file_there}
 use Rattle.dwz_graph.proofs.graph.Graph.file.Goals as goal

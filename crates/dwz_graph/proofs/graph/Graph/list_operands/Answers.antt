@@ -1,10 +1,10 @@
 use Rattle.std.proofs.Common.{List, map, sym, subst}
-use Rattle.dwz_docs.specs.Units.{RawUnit}
-use Rattle.dwz_meanings.specs.Files.{around_of, no_files_before}
-use Rattle.dwz_meanings.specs.NamedLists.{lists_of_units}
-use Rattle.dwz_meanings.specs.Shared.{AreRows}
-use Rattle.dwz_resolve.specs.ListRows.{AreOfFile, operand_view}
-use Rattle.dwz_resolve.specs.declared.operands.ListOperand.{ListOperand}
+use Rattle.dwz_def_reading.specs.Units.{RawUnit}
+use Rattle.dwz_def_reading.specs.Files.{around_of, no_files_before}
+use Rattle.dwz_def_reading.specs.NamedLists.{lists_of_units}
+use Rattle.dwz_def_reading.specs.Shared.{AreRows}
+use Rattle.dwz_graph.specs.ListRows.{AreOfFile, operand_view}
+use Rattle.dwz_graph.specs.declared.operands.ListOperand.{ListOperand}
 use Rattle.dwz_unit.specs.Rows.{units_of}
 use Rattle.dwz_graph.proofs.GraphLemmas.{content_of, same_raw}
 use Rattle.dwz_graph.proofs.graph.Graph.list_operands.Goals as goal

@@ -6,10 +6,10 @@ use Rattle.std.proofs.Math.Seq.{take-suc}
 use Rattle.std.proofs.lemmas.Option.{slice_get-map}
 use Rattle.std.proofs.lemmas.List.{length-map, length-take, map-append, take-append-drop, take_all}
 use Rattle.dwz_model.specs.declared.fault.GraphErr.{GraphErr}
-use Rattle.dwz_meanings.specs.Files.{file_meaning, files_meaning, limits_after, no_files_before}
-use Rattle.dwz_docs.specs.ElfReading.{elf_of}
-use Rattle.dwz_docs.specs.Faults.{Fails}
-use Rattle.dwz_docs.proofs.ListFacts.{item_got}
+use Rattle.dwz_def_reading.specs.Files.{file_meaning, files_meaning, limits_after, no_files_before}
+use Rattle.dwz_def_reading.specs.ElfReading.{elf_of}
+use Rattle.dwz_def_reading.specs.Faults.{Fails}
+use Rattle.dwz_def_reading.proofs.ListFacts.{item_got}
 use Rattle.dwz_graph.specs.Ahead.{AreAhead, IsAhead}
 use Rattle.dwz_graph.specs.declared.file.File.{File}
 use Rattle.dwz_graph.specs.Files.{AreRead, FilesFail, IsRead, limits_view}

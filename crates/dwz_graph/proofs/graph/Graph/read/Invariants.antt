@@ -1,5 +1,5 @@
 use Rattle.std.proofs.Common.{◌≡◌, length, map, take}
-use Rattle.dwz_meanings.specs.Files.{no_files_before}
+use Rattle.dwz_def_reading.specs.Files.{no_files_before}
 use Rattle.dwz_graph.specs.Ahead.{AreAhead}
 use Rattle.dwz_graph.specs.Files.{AreRead, limits_view}
 use Rattle.dwz_graph.proofs.graph.Graph.read.Given as goal

@@ -1,6 +1,6 @@
 use Rattle.std.proofs.Common.{List, ℕ, Some, sym, ap, ◌∙◌}
 use Rattle.dwz_lines.specs.Paths.{text_of}
-use Rattle.dwz_meanings.specs.LineTables.{nth_path}
+use Rattle.dwz_def_reading.specs.LineTables.{nth_path}
 use Rattle.dwz_lines.proofs.PathLemmas.{is_in, none_path, some_path}
 use Rattle.dwz_lines.proofs.paths.Paths.get.Goals as goal
 

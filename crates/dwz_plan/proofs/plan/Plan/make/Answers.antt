@@ -1,11 +1,11 @@
 use Rattle.std.proofs.Common.{◌≡◌, ◌<◌, ◌++◌, [], ◌∙◌, ℕ, All, Bool, List, Option, length, map, true, false, ap, sym, subst, refl, arith}
 use Rattle.std.specs.List.{range_with_len}
 use Rattle.std.proofs.lemmas.List.{length-map}
-use Rattle.dwz_docs.specs.Lists.{In}
+use Rattle.dwz_def_reading.specs.Lists.{In}
 use Rattle.dwz_groups.specs.declared.tops.TopRow.{TopRow}
-use Rattle.dwz_gain.specs.Gaining.{AreNumbers, edges_from, weights_of}
+use Rattle.dwz_plan.specs.Gaining.{AreNumbers, edges_from, weights_of}
 use Rattle.dwz_groups.specs.Groups.{grouped}
-use Rattle.dwz_spread.specs.Spreading.{IsSpread}
+use Rattle.dwz_groups.specs.Spreading.{IsSpread}
 use Rattle.dwz_plan.specs.declared.plan.Home.{Home}
 use Rattle.dwz_plan.specs.declared.plan.Partial.{Partial}
 use Rattle.dwz_plan.specs.Gained.{IsGaining, among, gained, group_of, groups_of, home_after, kept_after, part_seed, place_after, stand_after}

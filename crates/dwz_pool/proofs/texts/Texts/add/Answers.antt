@@ -1,6 +1,6 @@
 use Rattle.std.proofs.Common.{◌≡◌, ◌∙◌, ◌-◌, ◌^◌, ◌<◌, ◌++◌, ◌∷◌, [], List, None, ℕ, ap, arith, length, subst, sym}
 use Rattle.std.proofs.lemmas.List.{length-map}
-use Rattle.dwz_docs.specs.TextRows.{number_of}
+use Rattle.dwz_def_reading.specs.TextRows.{text_number}
 use Rattle.dwz_pool.specs.Numbered.{AreNumbered, IsAdded}
 use Rattle.dwz_pool.specs.Stored.{bytes_at, texts_of}
 use Rattle.dwz_pool.proofs.NumberLemmas.{numbered_more}
@@ -12,7 +12,7 @@ invariant_of-self-2 c =
     let rows = c.self.inside.rows in
     let numbers = c.self.inside.numbers in
     let text = c.args.text.now in
-    let is_new : number_of (texts_of rows) text ≡ None = ap (λ (texts : List (List ℕ)). number_of texts text) c.self.view_is ∙ c.requires.new in
+    let is_new : text_number (texts_of rows) text ≡ None = ap (λ (texts : List (List ℕ)). text_number texts text) c.self.view_is ∙ c.requires.new in
     let few : length (texts_of rows) < 2 ^ 32 - 1 = subst (λ (texts : List (List ℕ)). length texts < 2 ^ 32 - 1) (sym c.self.view_is) c.requires.few in
     let more = texts_more rows c.reserve.new.self c.push.new.self text c.self.invariant.0 is_new few c.reserve.ensures.same c.push.ensures.section c.push.ensures.places in
     let number : c.len-number.result ≡ length (texts_of rows) = omega (arith, length-map rows.places.items (bytes_at rows.section.items)) in
@@ -26,7 +26,7 @@ pub returns-clause-ok : goal.returns-clause-ok
 returns-clause-ok c =
     let rows = c.self.inside.rows in
     let text = c.args.text.now in
-    let is_new : number_of (texts_of rows) text ≡ None = ap (λ (texts : List (List ℕ)). number_of texts text) c.self.view_is ∙ c.requires.new in
+    let is_new : text_number (texts_of rows) text ≡ None = ap (λ (texts : List (List ℕ)). text_number texts text) c.self.view_is ∙ c.requires.new in
     let few : length (texts_of rows) < 2 ^ 32 - 1 = subst (λ (texts : List (List ℕ)). length texts < 2 ^ 32 - 1) (sym c.self.view_is) c.requires.few in
     texts_more rows c.reserve.new.self c.push.new.self text c.self.invariant.0 is_new few c.reserve.ensures.same c.push.ensures.section c.push.ensures.places
     ∙ ap (λ (texts : List (List ℕ)). texts ++ text ∷ []) c.self.view_is

@@ -1,2 +1,0 @@
-pub mod Across
-pub mod AcrossLaws

@@ -1,9 +1,0 @@
-use Rattle.std.proofs.Common.{sym, subst}
-use Rattle.dwz_out.specs.Refusals.{SectionsFault}
-use Rattle.dwz_after.specs.NewFiles.{IsFound}
-use Rattle.dwz_after.proofs.SectionFaults.{new_found}
-use Rattle.dwz_after.proofs.faults.new_fault.Goals as goal
-
-pub returns : goal.returns
-returns c r file is =
-    subst (IsFound (SectionsFault r file)) (sym c.or.ensures) (new_found r file c.args.new.now c.first_large.result is c.first_large.ensures)

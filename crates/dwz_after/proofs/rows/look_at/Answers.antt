@@ -1,6 +1,0 @@
-use Rattle.std.proofs.Common.{arith}
-use Rattle.dwz_docs.proofs.WrittenLemmas.{bytes_fit}
-use Rattle.dwz_after.proofs.rows.look_at.Goals as goal
-
-pub returns : goal.returns
-returns c = bytes_fit c.args._bytes.now (λ k. omega (arith, c.type_inv._bytes k))

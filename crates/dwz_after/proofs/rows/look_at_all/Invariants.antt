@@ -1,6 +1,0 @@
-use Rattle.std.proofs.Common.{ℕ, ◌<◌, [], get_or, map}
-use Rattle.dwz_docs.specs.Values.{AreBytes}
-use Rattle.dwz_after.proofs.rows.look_at_all.Given as goal
-
-abbrev pub invariant-loop-content : goal.invariant-loop-content
-invariant-loop-content l = (k : ℕ) → k < l.content-index → AreBytes (get_or (map (λ c. c.items) l.contents) k [])

@@ -1,4 +1,0 @@
-pub mod NewFiles
-pub mod Common
-pub mod Giving
-pub mod Making

@@ -1,6 +1,0 @@
-use Rattle.dwz_bare.proofs.ExprLemmas.{counted_parts}
-use Rattle.dwz_bare.proofs.expressions.put_parts.Goals as goal
-
-pub returns : goal.returns
-returns c = counted_parts c.args.operands.now c.args.at c.args.bytes.now c.args.out.now.items c.put_number.new.out.items c.put_pieces.new.out.items c.in_ok-put_number.ensures
-    c.in_ok-put_pieces.ensures

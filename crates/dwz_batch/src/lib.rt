@@ -1,0 +1,19 @@
+//! Jobs by number, done by workers: what comes of each, in order.
+//!
+//! A `Job` says how many there are, and does one by its number; what comes of it (`Outcome`: nothing, bytes, or a refusal) is the same
+//! whoever does it, and when. `batch` does all: each worker draws numbers from one shared table (`dwz_table`) until no job has the number, so
+//! each job is done once. Its clause speaks of the outcomes alone, so they are the same for every number of workers and every gate.
+//!
+//! In: a job, a number of workers, a gate that is told of each job. Out: `Outcomes`, in the order of the numbers; or want of memory, where one
+//! job wanted it. No call of the program makes a batch yet.
+//!
+//! Read first: `AreOutcomes` (`specs/Jobs.antt`).
+#![tactic(auto)]
+
+mod gathering;
+mod job;
+mod turns;
+mod workers;
+
+pub use job::{Job, Outcome, Outcomes};
+pub use workers::batch;

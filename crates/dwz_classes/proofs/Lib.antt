@@ -1,5 +1,0 @@
-pub mod RowLemmas
-pub mod SearchLemmas
-pub mod SpaceLemmas
-pub mod TopLemmas
-pub mod LabelLemmas

@@ -1,5 +1,0 @@
-use Rattle.dwz_classes.proofs.RowLemmas.{RowsTo}
-use Rattle.dwz_classes.proofs.unit.unit_rows.Given as goal
-
-abbrev pub invariant-loop-file : goal.invariant-loop-file
-invariant-loop-file l = RowsTo l.run.graph.now l.run.files.now l.run.indexes.now l.file-index l.rows.items

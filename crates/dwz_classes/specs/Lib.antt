@@ -1,4 +1,0 @@
-pub mod Unit
-pub mod Run
-pub mod Spaces
-pub mod Shown

@@ -1,0 +1,7 @@
+pub mod Chain
+pub mod ChainLaws
+pub mod What
+pub mod Explained
+pub mod WhatLaws
+pub mod Search
+pub mod Texts

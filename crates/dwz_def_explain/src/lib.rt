@@ -1,0 +1,18 @@
+//! Why two tops that may move aren't alike: the least chain of references that tells them apart, and what differs at its end.
+//!
+//! There is no running code here. A chain leads from both tops, reference by reference, to two that differ by themselves. The least chain
+//! has the fewest references, and of those as long the lowest numbers. What differs at its end is the language, or the spaces, or the first
+//! entries in preorder that differ by tag, attribute or number of children. A `Verdict` says all this, and `explained_text` prints it.
+//!
+//! The laws: the depth of the least chain is the least at which a look tells the two tops apart, and where there is no chain they are
+//! alike (`chain_laws`); a search may pass by what it has linked (`search_laws`); what differs tells the tops apart (`what_laws`); and
+//! there is one verdict at most (`verdict_laws`).
+//!
+//! Read first: `specs/Chain.antt`, `specs/What.antt`, `specs/Explained.antt`.
+#![tactic(auto)]
+
+mod laws;
+mod verdict;
+
+pub use laws::{chain_laws, search_laws, verdict_laws, what_laws};
+pub use verdict::{Verdict, What};

@@ -1,0 +1,26 @@
+pub mod OldRows
+pub mod TreeLemmas
+pub mod OldLemmas
+pub mod ServeLemmas
+pub mod EntryLemmas
+pub mod KindLemmas
+pub mod ExpandLemmas
+pub mod HeldLemmas
+pub mod ClosedLemmas
+pub mod OneImageLemmas
+pub mod OutLemmas
+pub mod FileOuts
+pub mod NodeLemmas
+pub mod OldNames
+pub mod OldFiles
+pub mod ApartTrees
+pub mod ApartKept
+pub mod ApartParts
+pub mod KeyLemmas
+pub mod ApartOwn
+pub mod ApartUnits
+pub mod StillLemmas
+pub mod BackLemmas
+pub mod OutMains
+pub mod FileLemmas
+mod SameRows

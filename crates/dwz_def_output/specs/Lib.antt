@@ -1,0 +1,10 @@
+pub mod Rebuilt
+pub mod Changed
+pub mod PlainBack
+pub mod Contents
+pub mod FilesAfter
+pub mod Refusals
+pub mod Tied
+pub mod Written
+pub mod NewFiles
+pub mod Laws

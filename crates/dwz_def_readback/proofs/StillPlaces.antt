@@ -1,0 +1,214 @@
+-- There are places for all names: those where names are written, and in a file of which nothing moves the old ones.
+use Rattle.std.proofs.Common.{◌≡◌, ℕ, suc, Bool, true, false, List, [], ◌∷◌, ◌==◌, ◌||◌, map, refl, sym, ap, subst, ◌∙◌, arith, inl, inr}
+use Rattle.std.proofs.lemmas.Bool.{eq-eqb, ne_eqb, or_left, or_right}
+use Rattle.dwz_def_reading.specs.Lists.{Each, In}
+use Rattle.dwz_def_reading.specs.Trees.{End, Entry}
+use Rattle.dwz_def_reading.proofs.ListFacts.{in_left, in_right}
+use Rattle.dwz_def_reading.specs.Documents.{Compile, Doc, DwUnit, Entries, Kind, Node, OfType, Partial, kind_map, unit_map}
+use Rattle.dwz_def_tops.specs.Lists.{Nth}
+use Rattle.dwz_def_tops.specs.Seen.{Closed, IsShown, Named, Seen, all_seen, named_map, named_value, see, seen, seen_below, seen_roots}
+use Rattle.dwz_def_tops.specs.Shown.{AreShown, HaveMains, OnePlace, UnitsShown, unit_keys, units_keys}
+use Rattle.dwz_def_tops.proofs.Members.{nth_from}
+use Rattle.dwz_def_tops.proofs.SeenLemmas.{root_in, seen_in}
+use Rattle.dwz_def_tops.proofs.ShownLemmas.{entry_key, map_shown, shown_then, unit_key}
+use Rattle.dwz_def_tops.specs.Alike.{IsAlike, TopScope}
+use Rattle.dwz_def_tops.specs.Spots.{EntryName, file_numbers, units_of}
+use Rattle.dwz_def_plan.specs.Homes.{IsChoice, Rule}
+use Rattle.dwz_def_images.specs.After.{ArePlaced, FilesSame, Place, StandAsNamed, at_file}
+use Rattle.dwz_def_images.specs.Units.{changes, common_units, file_units, out_units}
+use Rattle.dwz_def_images.proofs.FileLemmas.{files_same}
+use Rattle.dwz_def_readback.specs.Back.{AreAtOld, IsPlacing, run_of}
+use Rattle.dwz_def_readback.specs.Files.{Run, Stored, file_of_name, place_of}
+use Rattle.dwz_def_readback.proofs.NameLemmas.{fitted_names, name_in_common, name_in_file}
+use Rattle.dwz_def_readback.proofs.SameLemmas.{numbers_in}
+use Rattle.dwz_def_readback.proofs.WithinLemmas.{closed_at}
+
+-- ---- where two maps agree on all names, units are shown by both
+
+module _ {P Q : Type 0} (f g : P → Q) (us : List (DwUnit P)) (same : (k : P) → In k (units_keys us) → f k ≡ g k) (closed : Closed us) (mains : HaveMains us) where
+  abbrev Names : List (Named P) → Type 0
+  Names attrs = (a : Named P) (p : P) → In a attrs → In p a.value.refs → In p (units_keys us)
+
+  refs_as : (xs : List P) → ((x : P) → In x xs → In x (units_keys us)) → map f xs ≡ map g xs
+  refs_as [] h = refl
+  refs_as (x ∷ xs) h = ap (λ (q : Q). q ∷ map f xs) (same x (h x (inl refl))) ∙ ap (λ (w : List Q). g x ∷ w) (refs_as xs (λ y is. h y (inr is)))
+
+  attrs_as : (attrs : List (Named P)) → Names attrs → map (named_map f) attrs ≡ map (named_map g) attrs
+  attrs_as [] h = refl
+  attrs_as (a ∷ attrs) h =
+      ap (λ (w : List Q). record { name = a.name; value = record { plain = a.value.plain; refs = w } } ∷ map (named_map f) attrs) (refs_as a.value.refs (λ p is. h a p (inl refl) is))
+      ∙ ap (λ (w : List (Named Q)). named_map g a ∷ w) (attrs_as attrs (λ b p is ref. h b p (inr is) ref))
+
+  abbrev Good : Seen P → Type 0
+  Good e = In e.at (units_keys us) × Names e.attrs
+
+  good : (e : Seen P) → In e (all_seen us) → Good e
+  good e is = (entry_key us e is, λ a p there ref. (let d = closed e a p is there ref in subst (λ (w : P). In w (units_keys us)) d.2 (entry_key us d.0 d.1)))
+
+  node_as : (e : Node P) (d : Node Q) → In e.at (units_keys us) → Names (map named_value e.attrs) → IsShown f e d → IsShown g e d
+  node_as e d at names h = record { at = h.at ∙ same e.at at; tag = h.tag; attrs = h.attrs ∙ attrs_as (map named_value e.attrs) names }
+
+  entries_as : (k : Entries P) (l : Entries Q) → ((e : Seen P) → In e (seen k) → Good e) → AreShown f k l → AreShown g k l
+  unfolding seen
+  entries_as End End h s = tt
+  entries_as (Entry e k n) (Entry d l m) h s =
+      let o = h (see e k) (inl refl) in (
+        node_as e d o.0 o.1 s.0,
+        entries_as k l (λ x is. h x (inr (in_left x (seen k) (seen n) is))) s.1,
+        entries_as n m (λ x is. h x (inr (in_right x (seen k) (seen n) is))) s.2,
+      )
+  entries_as End (Entry d l m) h s = absurd s
+  entries_as (Entry e k n) End h s = absurd s
+
+  kind_as : (u : DwUnit P) → In u us → (k : Kind P) → u.kind ≡ k → kind_map f k ≡ kind_map g k
+  unfolding unit_keys
+  kind_as u is Compile e = refl
+  kind_as u is (OfType s t) e = ap (OfType s) (same t (unit_key us u t is (inr (mains u is s t e))))
+  kind_as u is Partial e = refl
+
+  some_as : (some : List (DwUnit P)) (others : List (DwUnit Q)) → ((u : DwUnit P) → In u some → In u us) → UnitsShown f some others → UnitsShown g some others
+  some_as [] [] h s = tt
+  some_as (u ∷ some) (v ∷ others) h s =
+      let is = h u (inl refl) in
+      let root = good (see u.root u.below) (in_left (see u.root u.below) (seen_roots us) (seen_below us) (root_in us u is)) in (
+        record {
+          kind = s.0.kind ∙ kind_as u is u.kind refl;
+          root = node_as u.root v.root root.0 root.1 s.0.root;
+          below = entries_as u.below v.below (λ e there. good e (in_right e (seen_roots us) (seen_below us) (seen_in us u e is there))) s.0.below;
+        },
+        some_as some others (λ w there. h w (inr there)) s.1,
+      )
+  some_as [] (v ∷ others) h s = absurd s
+  some_as (u ∷ some) [] h s = absurd s
+
+-- ---- the old places of all files of which nothing moves
+
+module _ (out : ℕ → List (DwUnit EntryName)) (moves : ℕ → Bool) where
+  record Old (own : ℕ) (docs : List (Doc ℕ)) : Type 0 where
+    place : ℕ → EntryName → ℕ
+    are : (file : ℕ) (doc : Doc ℕ) → Nth own docs file doc → moves file ≡ false → UnitsShown (place file) (out file) doc.units × OnePlace (place file) (out file)
+
+  abbrev Stand : ℕ → List (Doc ℕ) → Type 0
+  Stand own docs = (file : ℕ) (doc : Doc ℕ) → Nth own docs file doc → moves file ≡ false → StandAsNamed (out file) doc.units
+
+  abbrev choose : {X : Type 0} → Bool → X → X → X
+  choose true x y = x
+  choose false x y = y
+
+  old_places : (own : ℕ) (docs : List (Doc ℕ)) → Stand own docs → Old own docs
+  old_places own [] stand = record { place = λ file k. 0; are = λ file doc nth still. absurd nth }
+  old_places own (d ∷ docs) stand = by (old_places (suc own) docs (λ file doc nth still. stand file doc (inr nth) still)) (moves own) refl where
+    by : Old (suc own) docs → (b : Bool) → moves own ≡ b → Old own (d ∷ docs)
+    by rest true e = record {
+      place = rest.place;
+      are = λ file doc nth still. elim nth [
+        | inl x ↦ absurd (let z : moves file ≡ true = subst (λ (n : ℕ). moves n ≡ true) x.0 e in cc)
+        | inr r ↦ rest.are file doc r still
+      ];
+    }
+    by rest false e =
+        let s = stand own d (inl (refl, refl)) e in
+        record {
+          place = λ file. choose (own == file) s.place (rest.place file);
+          are = λ file doc nth still. elim nth [
+            | inl x ↦
+                (let here : (own == file) ≡ true = eq-eqb own file x.0 in
+                subst (λ (b : Bool). UnitsShown (choose b s.place (rest.place file)) (out file) doc.units × OnePlace (choose b s.place (rest.place file)) (out file)) (sym here)
+                (subst (λ (w : Doc ℕ). UnitsShown s.place (out file) w.units × OnePlace s.place (out file)) x.1
+                (subst (λ (n : ℕ). UnitsShown s.place (out n) d.units × OnePlace s.place (out n)) x.0 (s.shown, s.one))))
+            | inr r ↦
+                (let ne : own ≡ file → ⊥ = λ q. omega (arith, q, nth_from (suc own) docs file doc r) in
+                let later : (own == file) ≡ false = ne_eqb own file ne in
+                subst (λ (b : Bool). UnitsShown (choose b s.place (rest.place file)) (out file) doc.units × OnePlace (choose b s.place (rest.place file)) (out file)) (sym later)
+                (rest.are file doc r still))
+          ];
+        }
+
+-- ---- files by their numbers
+
+pub nth_number : (s : ℕ) (docs : List (Doc ℕ)) (file : ℕ) (doc : Doc ℕ) → Nth s docs file doc → In file (file_numbers s docs)
+unfolding file_numbers
+nth_number s [] file doc h = absurd h
+nth_number s (d ∷ docs) file doc (inl x) = inl x.0
+nth_number s (d ∷ docs) file doc (inr r) = inr (nth_number (suc s) docs file doc r)
+
+pub number_nth : (s : ℕ) (docs : List (Doc ℕ)) (file : ℕ) → In file (file_numbers s docs) → (doc : Doc ℕ) × Nth s docs file doc
+unfolding file_numbers
+number_nth s [] file h = absurd h
+number_nth s (d ∷ docs) file (inl e) = (d, inl (e, refl))
+number_nth s (d ∷ docs) file (inr r) = (let o = number_nth (suc s) docs file r in (o.0, inr o.1))
+
+-- ---- the places
+
+module _ (scope : TopScope) (docs : List (Doc ℕ)) (rule : Rule) (placed : Each (λ doc. ArePlaced doc.units) docs) (is : IsAlike scope (units_of docs) rule.alike)
+    (choice : IsChoice (units_of docs) rule)
+    (input : Stored) where
+  abbrev r : Run
+  r = run_of rule docs input
+
+  together : FilesSame scope docs rule (file_numbers 0 docs)
+  together = files_same scope docs rule placed is choice
+
+  old : Old (out_units r.move r.units) (changes r.move r.units) 0 docs
+  old = old_places (out_units r.move r.units) (changes r.move r.units) 0 docs together.stands
+
+  abbrev writes : ℕ → Bool
+  writes file = changes r.move r.units file || (file == r.common)
+
+  pub back_place : EntryName → Place
+  back_place s = choose (out_units r.move r.units) (changes r.move r.units) (writes (file_of_name r s)) (place_of r s) (at_file (file_of_name r s) (old.place (file_of_name r s) s))
+
+  at_written : (s : EntryName) (file : ℕ) → file_of_name r s ≡ file → writes file ≡ true → back_place s ≡ place_of r s
+  unfolding back_place
+  at_written s file e t =
+      ap (λ (b : Bool). choose (out_units r.move r.units) (changes r.move r.units) b (place_of r s) (at_file (file_of_name r s) (old.place (file_of_name r s) s))) (ap writes e ∙ t)
+
+  at_still : (s : EntryName) (file : ℕ) → file_of_name r s ≡ file → writes file ≡ false → back_place s ≡ at_file file (old.place file s)
+  unfolding back_place
+  at_still s file e t =
+      ap (λ (b : Bool). choose (out_units r.move r.units) (changes r.move r.units) b (place_of r s) (at_file (file_of_name r s) (old.place (file_of_name r s) s))) (ap writes e ∙ t)
+      ∙ ap (λ (n : ℕ). at_file n (old.place n s)) e
+
+  pub back_placing : IsPlacing r back_place
+  back_placing = record {
+    common = λ k there.
+        (let file = name_in_common r together.apart k there in
+        ap (λ (n : ℕ). at_file n ((places_of k))) (sym file) ∙ sym (at_written k r.common file (or_right (changes r.move r.units r.common) (r.common == r.common) (eq-eqb r.common r.common refl))));
+    written = λ file in_files changed k there.
+        (let of = name_in_file r together.apart file in_files k there in
+        ap (λ (n : ℕ). at_file n (places_of k)) (sym of) ∙ sym (at_written k file of (or_left (changes r.move r.units file) (file == r.common) changed)));
+  }
+    where
+      places_of : EntryName → ℕ
+      places_of k = (place_of r k).at
+
+  -- a file of which nothing moves isn't written
+  not_written : (file : ℕ) → In file r.files → changes r.move r.units file ≡ false → writes file ≡ false
+  not_written file there still =
+      let less = numbers_in 0 docs file there in
+      let other : (file == r.common) ≡ false = ne_eqb file r.common (λ e. omega (arith, less, e)) in
+      ap (λ (b : Bool). b || (file == r.common)) still ∙ other
+
+  still_at : (file : ℕ) → In file r.files → changes r.move r.units file ≡ false → (k : EntryName) → In k (units_keys (out_units r.move r.units file)) → back_place k ≡ at_file file (old.place file k)
+  still_at file there still k key = at_still k file (name_in_file r together.apart file there k (subst (In k) (sym (fitted_names r file)) key)) (not_written file there still)
+
+  in_files : (files : List ℕ) (file : ℕ) (u : DwUnit EntryName) → In file files → In u (out_units r.move r.units file) → In u (file_units r.move r.units files)
+  unfolding file_units
+  in_files [] file u there h = absurd there
+  in_files (n ∷ files) file u (inl e) h = in_left u (out_units r.move r.units n) (file_units r.move r.units files) (subst (λ (m : ℕ). In u (out_units r.move r.units m)) (sym e) h)
+  in_files (n ∷ files) file u (inr later) h = in_right u (out_units r.move r.units n) (file_units r.move r.units files) (in_files files file u later h)
+
+  pub back_old : AreAtOld r back_place docs
+  back_old = record {
+    shown = λ file doc nth still.
+        (let there = nth_number 0 docs file doc nth in
+        let outs = out_units r.move r.units file in
+        let closed : Closed outs = subst (λ (w : List (DwUnit EntryName)). Closed w) (sym (together.still file still)) (closed_at file 0 0 0 docs placed) in
+        let mains : HaveMains outs = λ u h. together.mains u (in_right u (common_units r.move) (file_units r.move r.units r.files) (in_files r.files file u there h)) in
+        some_as (λ k. at_file file (old.place file k)) back_place outs (λ k key. sym (still_at file there still k key)) closed mains outs (map (unit_map (at_file file)) doc.units) (λ u h. h)
+        (shown_then (old.place file) (at_file file) outs doc.units (map (unit_map (at_file file)) doc.units) (old.are file doc nth still).0 (map_shown (at_file file) doc.units)));
+    file = λ file there still k key. ap (λ (p : Place). p.file) (still_at file there still k key);
+    one = λ file there still x y a b e.
+        (let doc = number_nth 0 docs file there in
+        (old.are file doc.0 doc.1 still).1 x y a b (ap (λ (p : Place). p.at) (sym (still_at file there still x a) ∙ e ∙ still_at file there still y b)));
+  }

@@ -1,0 +1,6 @@
+pub mod OneOutcome
+pub mod SomeOutcome
+pub mod Lengths
+pub mod Gotten
+pub mod Stopping
+pub mod OutRows

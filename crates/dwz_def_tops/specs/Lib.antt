@@ -1,0 +1,10 @@
+pub use Rattle.dwz_model.specs.Lists
+pub mod Spaces
+pub mod Seen
+pub mod Shown
+pub mod Spots
+pub mod SpotLaws
+pub mod Alike
+pub mod Deciding
+pub mod Targets
+pub mod AlikeLaws

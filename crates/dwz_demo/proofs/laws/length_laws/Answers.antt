@@ -1,8 +1,0 @@
-use Rattle.dwz_demo.proofs.LengthLemmas.{fifty_len, file_len}
-use Rattle.dwz_demo.proofs.laws.length_laws.Goals as goal
-
-pub returns-clause-length : goal.returns-clause-length
-returns-clause-length c = file_len
-
-pub returns-clause-fifty : goal.returns-clause-fifty
-returns-clause-fifty c = fifty_len

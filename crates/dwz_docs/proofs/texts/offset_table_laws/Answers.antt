@@ -1,5 +1,0 @@
-use Rattle.dwz_docs.proofs.OffsetLemmas.{slots_again, slots_found}
-use Rattle.dwz_docs.proofs.texts.offset_table_laws.Goals as goal
-
-pub returns : goal.returns
-returns c = record { found = λ section places. (slots_found section places, slots_again section places) }

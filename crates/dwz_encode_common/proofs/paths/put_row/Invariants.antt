@@ -1,0 +1,15 @@
+use Rattle.std.proofs.Common.{◌≡◌, drop, take, Some, slice_get}
+use Rattle.std.specs.List.{flat_map}
+use Rattle.dwz_unit.specs.Rows.{EntryRow, rows_of, units_of}
+use Rattle.dwz_unit.specs.Values.{Reads}
+use Rattle.dwz_encode_common.specs.Gathered.{with_all}
+use Rattle.dwz_encode_common.specs.Paths.{path_read}
+use Rattle.dwz_encode_common.proofs.paths.put_row.Given as goal
+
+abbrev pub invariant-loop-pair : goal.invariant-loop-pair
+invariant-loop-pair l = record {
+  reads : (row : EntryRow) → slice_get (rows_of (units_of l.fn.file.units)) l.fn.entry ≡ Some row
+      → Reads row.entry.at (drop l.pair-index l.pairs) l.cursor (drop l.pair-index row.entry.attrs);
+  paths : (row : EntryRow) → slice_get (rows_of (units_of l.fn.file.units)) l.fn.entry ≡ Some row
+      → l.pool ≡ with_all l.fn.pool (flat_map (path_read l.tables l.line) (take l.pair-index row.entry.attrs));
+}

@@ -1,0 +1,209 @@
+//! The paths of the files that what is written of the common file numbers.
+
+ghost use Rattle.std.specs.Prelude.{◌≡◌, ◌<◌, None, Some, [], slice_get, slice_index_or, IfOk, OnOk};
+ghost use Rattle.std.specs.Option.{option_map, option_to_list};
+ghost use Rattle.dwz_def_readback.specs.Files.{paths};
+ghost use Rattle.dwz_def_reading.specs.Units.{entries_in};
+ghost use Rattle.dwz_law_layout.specs.Facts.{RunFacts, run};
+ghost use Rattle.dwz_forms.specs.RawValues.{raw_view};
+ghost use Rattle.dwz_layout_numbers.specs.Befores;
+ghost use Rattle.dwz_layout_numbers.specs.Befores.{is_pair_file};
+ghost use Rattle.dwz_def_reading.specs.Meanings;
+ghost use Rattle.dwz_def_reading.specs.Classes;
+ghost use Rattle.dwz_layout.specs.Attributes.{value_read};
+ghost use Rattle.dwz_graph.specs.Classes.{class_view};
+ghost use Rattle.dwz_unit.specs.Rows.{EntryRow, rows_of, units_of};
+ghost use Rattle.dwz_encode_common.specs.CommonLaws.{IsCommonOrder};
+ghost use Rattle.dwz_encode_common.specs.Gathered.{with_all};
+ghost use Rattle.dwz_encode_common.specs.Paths;
+ghost use Rattle.dwz_encode_common.specs.Paths.{order_paths, origin_paths, path_read, paths_at, row_paths};
+ghost use Rattle.dwz_encode_common.specs.Stored.{items_give};
+
+use crate::pool::Pool;
+use dwz_forms::Raw;
+use dwz_graph::{Class, File, class_of};
+use dwz_layout::{EntryTable, Origin, Row, UnitItems, Walk};
+use dwz_lines::FileTable;
+use dwz_model::{NoMemory, Pair};
+use dwz_unit::{Values, known_value};
+use std::alloc::Global;
+
+const DW_AT_DECL_FILE: u16 = 0x3a;
+
+const DW_AT_CALL_FILE: u16 = 0x58;
+
+// Whether values of an attribute number files.
+fn names_file(name: u16) -> bool
+    ensures { result ≡ Classes.names_file name }
+{
+    name == DW_AT_DECL_FILE || name == DW_AT_CALL_FILE
+}
+
+fn is_constant(class: Class) -> bool
+    ensures { result ≡ Befores.is_constant (class_view class) }
+{
+    match class {
+        Class::Constant => true,
+        _ => false,
+    }
+}
+
+/// Whether a value of that name and form is the number of a file.
+pub(crate) fn is_file(pair: &Pair) -> bool
+    ensures { result ≡ is_pair_file pair.now }
+{
+    is_constant(class_of(pair.form)) && names_file(pair.name)
+}
+
+/// The number that a value stores, and 0 where it stores bytes.
+#[inline(always)]
+pub(crate) fn number_of(raw: &Raw) -> i128
+    ensures { result ≡ Meanings.number_of (raw_view raw.now) }
+{
+    match raw {
+        Raw::Number(number) => *number,
+        Raw::Bytes(_) => 0,
+    }
+}
+
+/// The line table of the unit with a number.
+#[inline(always)]
+pub(crate) fn line_of(lines: &[Option<usize>], unit: u32) -> Option<usize>
+    ensures { result ≡ slice_index_or lines.now unit None }
+{
+    match lines.get(unit as usize) {
+        Some(line) => *line,
+        None => None,
+    }
+}
+
+// The path in the row with that number. No table has 2^64 rows.
+fn path_by(table: &FileTable, number: i128) -> Option<&[u8]>
+    ensures { option_map (λ p. p.now) result ≡ Meanings.path_by table.now number }
+{
+    if number < 0 {
+        return None;
+    }
+    if number > u64::MAX as i128 {
+        return table.path(u64::MAX);
+    }
+    table.path(number as u64)
+}
+
+// A path is used, if it is one.
+fn put_path(pool: &mut Pool, path: Option<&[u8]>) -> Result<(), NoMemory>
+    ensures { OnOk result (pool.new ≡ with_all pool.old (option_to_list (option_map (λ p. p.now) path.entry))) }
+{
+    match path {
+        Some(path) => pool.put(path),
+        None => Ok(()),
+    }
+}
+
+/// The path in the row with that number, of one of these tables.
+pub(crate) fn path_at(tables: &[FileTable], line: Option<usize>, number: i128) -> Option<&[u8]>
+    ensures { option_map (λ p. p.now) result ≡ Paths.path_in tables.now line number }
+{
+    let Some(line) = line else {
+        return None;
+    };
+    match tables.get(line) {
+        Some(table) => path_by(table, number),
+        None => None,
+    }
+}
+
+// The path of a value is used, if it is the number of a file.
+fn put_value(
+    pool: &mut Pool,
+    tables: &[FileTable],
+    line: Option<usize>,
+    pair: &Pair,
+    raw: &Raw,
+) -> Result<(), NoMemory>
+    ensures { OnOk result (pool.new ≡ with_all pool.old (path_read tables.now line (value_read 0 pair.now (raw_view raw.now)))) }
+{
+    if is_file(pair) {
+        put_path(pool, path_at(tables, line, number_of(raw)))
+    } else {
+        Ok(())
+    }
+}
+
+// The paths of an entry of a file are used.
+fn put_row(pool: &mut Pool, file: &File, entry: u32) -> Result<(), NoMemory>
+    requires { entry < entries_in (units_of file.now.units) }
+    ensures { (row : EntryRow) → slice_get (rows_of (units_of file.now.units)) entry ≡ Some row
+        → OnOk result (pool.new ≡ with_all pool.old (row_paths file.now row)) }
+{
+    let unit = file.units.entry(entry).unit;
+    let line = line_of(file.resolved.lines.as_slice(), unit);
+    let tables = file.resolved.tables.as_slice();
+    let Values { pairs, mut cursor } = file.units.values(entry);
+    for pair in pairs {
+        let raw = known_value(&mut cursor, pair);
+        put_value(pool, tables, line, pair, &raw)?;
+    }
+    Ok(())
+}
+
+// The paths of an entry of these files are used, if it is there.
+fn put_row_at(pool: &mut Pool, files: &[File], row: Row) -> Result<(), NoMemory>
+    ensures { OnOk result (pool.new ≡ with_all pool.old (paths_at files.now row)) }
+{
+    let Some(file) = files.get(row.file as usize) else {
+        return Ok(());
+    };
+    if row.entry >= file.units.entries() {
+        return Ok(());
+    }
+    put_row(pool, file, row.entry)
+}
+
+// The paths of an entry that is written are used.
+fn put_entry(pool: &mut Pool, files: &[File], origin: Origin) -> Result<(), NoMemory>
+    ensures { OnOk result (pool.new ≡ with_all pool.old (origin_paths files.now origin)) }
+{
+    match origin {
+        Origin::Read(row) => put_row_at(pool, files, row),
+        Origin::OwnRoot(_) => Ok(()),
+        Origin::Chained { .. } => Ok(()),
+        Origin::Imported(_) => Ok(()),
+    }
+}
+
+// The paths of the entries of a unit are used.
+fn put_unit(
+    pool: &mut Pool,
+    files: &[File],
+    known: &EntryTable,
+    items: &UnitItems,
+) -> Result<(), NoMemory>
+    ensures { OnOk result (pool.new ≡ with_all pool.old (items_give (origin_paths files.now) known.now items.now)) }
+{
+    let mut walk = Walk::new(known, items);
+    while let Some(entry) = walk.next() {
+        put_entry(pool, files, entry.origin)?;
+    }
+    Ok(())
+}
+
+/// The paths of the files that the values of these units number (DWARF 5, 2.14), each once, in the order in which they come, entry by entry
+/// and value by value. `files` are those whose entries the lists have. Where the units are all of the common file, these are the paths of
+/// its line table.
+pub fn common_paths(
+    alloc: Global,
+    files: &[File],
+    known: &EntryTable,
+    order: &[UnitItems],
+) -> Result<Pool, NoMemory>
+    ensures said { IfOk result (λ pool. pool ≡ with_all [] (order_paths files.now known.now order.now)) }
+    ensures common { (f : RunFacts) → f.files ≡ files.now → IsCommonOrder f known.now order.now
+        → IfOk result (λ pool. pool ≡ paths (run f)) }
+{
+    let mut pool = Pool::new(alloc);
+    for items in order {
+        put_unit(&mut pool, files, known, items)?;
+    }
+    Ok(pool)
+}

@@ -1,0 +1,10 @@
+pub mod FirstLemmas
+pub mod ValueLemmas
+pub mod EntryLemmas
+pub mod UnitLemmas
+pub mod ListedLemmas
+pub mod NumberSteps
+pub mod RowEntries
+pub mod FilePlaces
+pub mod SectionNumbers
+pub mod LawLemmas

@@ -1,0 +1,5 @@
+pub mod First
+pub mod Narrow
+pub mod Walked
+pub mod Operands
+pub mod NumberLaws

@@ -1,0 +1,9 @@
+pub mod Texts
+pub mod Files
+pub mod Names
+pub mod TextLaws
+pub mod Used
+pub mod Steps
+pub mod PrunedFiles
+pub mod MovedTexts
+pub mod UseLaws

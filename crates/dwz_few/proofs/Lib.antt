@@ -1,3 +1,0 @@
-pub mod UnitsFew
-pub mod SpacesFew
-pub mod FilesFew

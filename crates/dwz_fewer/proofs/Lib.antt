@@ -1,5 +1,0 @@
-pub mod SomeFiles
-pub mod SameSections
-pub mod SameRoom
-pub mod SeenFitted
-pub mod SomeOfRuns

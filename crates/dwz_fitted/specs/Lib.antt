@@ -1,2 +1,0 @@
-pub mod Knows
-pub mod Fitted

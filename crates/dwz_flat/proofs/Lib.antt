@@ -1,6 +1,0 @@
-pub mod TreeLemmas
-pub mod StepLemmas
-pub mod NameLemmas
-pub mod TopThere
-pub mod PartLemmas
-pub mod FileTops

@@ -1,0 +1,22 @@
+use Rattle.std.proofs.Common.{◌≡◌, drop, take, List, Some, Ok, slice_get}
+use Rattle.dwz_def_reading.specs.Units.{RawUnit}
+use Rattle.dwz_def_reading.specs.Shared.{NamedList}
+use Rattle.dwz_unit.specs.Rows.{EntryRow, rows_of, units_of}
+use Rattle.dwz_unit.specs.Values.{Reads}
+use Rattle.std.specs.List.{list_any}
+use Rattle.dwz_graph.specs.FileRows.{Learns}
+use Rattle.dwz_graph.specs.Parts.{numbers_file}
+use Rattle.dwz_graph.specs.Named.{attr_named, collect}
+use Rattle.dwz_graph.specs.Resolved.{Goes, IsHere, StateIn, scope_in}
+use Rattle.dwz_graph.proofs.named.add_values.Given as goal
+
+abbrev pub invariant-loop-pair : goal.invariant-loop-pair
+invariant-loop-pair l = record {
+  file : l.state.file ≡ l.fn.state.file;
+  reads : (row : EntryRow) → slice_get (rows_of (units_of l.units)) l.i ≡ Some row → Reads row.entry.at (drop l.pair-index l.pairs) l.cursor (drop l.pair-index row.entry.attrs);
+  adds : (u : RawUnit) (row : EntryRow) (before : List NamedList) → IsHere (units_of l.units) u l.here → slice_get (rows_of (units_of l.units)) l.i ≡ Some row
+      → StateIn l.sections (units_of l.units) u l.here before l.fn.state
+      → Goes {Y = Unit {0}} (units_of l.units) (StateIn l.sections (units_of l.units) u l.here) before l.fn.state l.state (Ok tt)
+      (collect (attr_named (scope_in l.sections (units_of l.units) u)) (take l.pair-index row.entry.attrs));
+  learns : (row : EntryRow) → slice_get (rows_of (units_of l.units)) l.i ≡ Some row → Learns (list_any numbers_file (take l.pair-index row.entry.attrs)) l.here.line l.fn.state.files l.state.files;
+}

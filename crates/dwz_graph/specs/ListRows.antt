@@ -1,0 +1,94 @@
+-- Location lists that attributes name, as they are kept.
+use Rattle.std.specs.Prelude.{◌≡◌, ℕ, ◌+◌, ◌-◌, ◌<◌, ◌≤◌, List, [], ◌++◌, length, map, Some, Ok, slice_index, slice_range}
+use Rattle.dwz_model.specs.declared.place.Base.{Base}
+use Rattle.dwz_model.specs.declared.place.Base.TheVariants.{Unit as FromUnit, Info as FromInfo}
+use Rattle.dwz_def_reading.specs.Lists.{In}
+use Rattle.dwz_def_reading.specs.Units.{RawUnit, entries_in}
+use Rattle.dwz_def_reading.specs.Shared.{AreRows, ListOperand, NamedList, OneOf, none_shared, of_unit, own_operands}
+use Rattle.dwz_graph.specs.declared.lists.ListRow.{ListRow}
+use Rattle.dwz_graph.specs.declared.lists.Lists.{Lists}
+use Rattle.dwz_graph.specs.declared.operands.ListOperand.{ListOperand as OperandOfCode}
+use Rattle.dwz_graph.specs.Apart.{Rows, Test}
+use Rattle.dwz_graph.specs.Places.{place_at}
+
+-- ---- operands
+
+-- where the unit with a number begins
+abbrev pub start_of : List RawUnit → ℕ → ℕ
+start_of raw n = slice_index (map (λ u. u.at) raw) n
+
+-- units of different numbers begin at different places
+abbrev pub AreDistinct : List RawUnit → Type 0
+AreDistinct raw = (m n : ℕ) → m < length raw → n < length raw → start_of raw m ≡ start_of raw n → m ≡ n
+
+-- the number that names the entry at an offset
+abbrev pub number_for : Base → ℕ → ℕ → ℕ
+number_for FromUnit start offset = offset - start
+number_for FromInfo start offset = offset
+
+-- an operand, as the definitions see it
+abbrev pub operand_view : List RawUnit → OperandOfCode → ListOperand
+operand_view raw o = record {
+  unit = start_of raw o.unit;
+  operand = record {
+    at = o.at;
+    width = o.width;
+    uleb = o.uleb;
+    base = o.base;
+    number = number_for o.base (start_of raw o.unit)
+        o.place.offset;
+  };
+}
+
+-- ---- lists
+
+-- the own operands of a list that is kept
+abbrev pub own_rows : List OperandOfCode → ListRow → List OperandOfCode
+own_rows operands w = slice_range operands w.first w.last
+
+abbrev pub row_test : List OperandOfCode → ListRow → Test
+row_test operands w = record { from = w.from; end = w.end; own = own_rows operands w }
+
+abbrev pub slot_test : ℕ → Test
+slot_test slot = record { from = slot; end = slot + 4; own = [] }
+
+abbrev pub tests_of : Lists → List Test
+tests_of lists = map (row_test lists.operands.items) lists.rows.items ++ map slot_test lists.slots.items
+
+-- the numbers of its operands are those of some
+abbrev pub IsWithin : List OperandOfCode → ListRow → Type 0
+IsWithin operands w = (w.first ≤ w.last) × (w.last ≤ length operands)
+
+abbrev pub AreWithin : Lists → Type 0
+AreWithin lists = (w : ListRow) → In w lists.rows.items → IsWithin lists.operands.items w
+
+-- what is kept of a list: its operands stand behind its first byte, and it has a byte
+pub record IsRowOf (raw : List RawUnit) (operands : List OperandOfCode) (l : NamedList) (w : ListRow) : Type 0 where
+  pub from : w.from ≡ l.from
+  pub end : w.end ≡ l.list.end
+  pub own : map (operand_view raw) (own_rows operands w) ≡ map (of_unit l.unit) (own_operands l)
+
+-- its unit and its entry are of the file with that number, and the entry stands at its place
+pub record IsOfFile (raw : List RawUnit) (number : ℕ) (o : OperandOfCode) : Type 0 where
+  pub unit : o.unit < length raw
+  pub entry : o.entry < entries_in raw
+  pub at : place_at raw o.entry ≡ o.place.offset
+  pub file : o.place.file ≡ number
+
+abbrev pub AreOfFile : List RawUnit → ℕ → List OperandOfCode → Type 0
+AreOfFile raw file rows = (o : OperandOfCode) → In o rows → IsOfFile raw file o
+
+-- these lists of the file with that number are kept, and no others
+pub record Shows (raw : List RawUnit) (file : ℕ) (named : List NamedList) (lists : Lists) : Type 0 where
+  pub within : AreWithin lists
+  pub rows : (l : NamedList) → In l named → OneOf lists.rows.items (IsRowOf raw lists.operands.items l)
+  pub lists_of : (w : ListRow) → In w lists.rows.items → OneOf named (λ l. IsRowOf raw lists.operands.items l w)
+  pub slots : (l : NamedList) (slot : ℕ) → In l named → l.slot ≡ Some slot → In slot lists.slots.items
+  pub slots_of : (slot : ℕ) → In slot lists.slots.items → OneOf named (λ l. l.slot ≡ Some slot)
+  pub operands_of : (o : OperandOfCode) → In o lists.operands.items → OneOf lists.rows.items (λ w. In o (own_rows lists.operands.items w))
+  pub of_file : AreOfFile raw file lists.operands.items
+  pub stand : (w : ListRow) → In w lists.rows.items → Rows (w.from + 1) (own_rows lists.operands.items w) w.end
+
+-- no list is shared, and these are the operands
+abbrev pub AreUnshared : List RawUnit → ℕ → List NamedList → List OperandOfCode → Type 0
+AreUnshared raw file named rows = (none_shared named ≡ Ok tt) × AreRows named (map (operand_view raw) rows) × AreOfFile raw file rows

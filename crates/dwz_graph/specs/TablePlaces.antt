@@ -1,0 +1,12 @@
+-- The numbers of line tables by their places.
+use Rattle.std.specs.Prelude.{◌≡◌, ℕ, List, Option, Some, IfSome, nat_eq}
+use Rattle.std.specs.Map.{lookup}
+use Rattle.dwz_graph.specs.declared.places.Numbered.{Numbered}
+
+-- the number beside a place
+abbrev pub number_in : List (ℕ × ℕ) → ℕ → Option ℕ
+number_in rows place = lookup (nat_eq place) rows
+
+-- the table that was asked for last has that number
+abbrev pub IsLast : List (ℕ × ℕ) → Option Numbered → Type 0
+IsLast rows last = IfSome last (λ l. number_in rows l.place ≡ Some l.table)

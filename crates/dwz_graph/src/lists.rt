@@ -1,0 +1,290 @@
+//! Location lists that attributes name (DWARF 5, 2.6.2 and 7.29).
+//!
+//! A list is read once for each unit and place that attributes name, and its operands are kept once.
+
+ghost use Rattle.std.specs.Prelude.{◌≡◌, ◌≤◌, ◌<◌, ◌^◌, List, Some, true, length, nat_eq};
+ghost use Rattle.std.specs.HashMap.{get};
+ghost use Rattle.dwz_def_reading.specs.Units.{RawUnit, entries_in};
+ghost use Rattle.dwz_def_reading.specs.Faults.{info_fault};
+ghost use Rattle.dwz_def_reading.specs.Shared.{NamedList};
+ghost use Rattle.dwz_model.specs.declared.fault.ReadErr.TheVariants.{Refused};
+ghost use Rattle.dwz_model.specs.declared.fault.Reason.TheVariants.{BadList};
+ghost use Rattle.dwz_graph.specs.ListSteps.{AddsIndexed, AddsList, AddsOffset, IsSlotAt, NamesRows, Walks};
+ghost use Rattle.dwz_graph.specs.Resolved.{IsHere, StateIn, place_at, scope_in};
+ghost use Rattle.dwz_unit.specs.Rows.{units_of};
+
+use crate::expressions::{bad_operand, entry_of, is_no_memory};
+use crate::here::Here;
+use crate::operands::ListOperand;
+use crate::sections::{InputSections, slot};
+use crate::state::State;
+use dwz_codes::names_list;
+use dwz_expr::Operand;
+use dwz_lists::walk_into;
+use dwz_model::{Fault, Place, ReadErr, Reason};
+use dwz_unit::Units;
+use std::collections::HashMap;
+
+/// A list that attributes of a unit name.
+#[derive(Clone, Copy)]
+pub(crate) struct ListRow {
+    /// Where it begins, in bytes from the first of `.debug_loclists`.
+    pub from: u64,
+    /// The place behind it.
+    pub end: u64,
+    /// The number of its first operand among those of all lists, and the number behind that of its last.
+    pub first: usize,
+    pub last: usize,
+}
+
+/// The lists that attributes name, as far as these were looked at.
+#[derive(Drop)]
+pub(crate) struct Lists {
+    /// Each for each unit once.
+    pub rows: Vec<ListRow>,
+    /// The operands of these, list by list and in order.
+    pub operands: Vec<ListOperand>,
+    /// The places of the slots through which lists are named.
+    pub slots: Vec<u32>,
+    /// For the place of a list the last unit of which an attribute names it.
+    pub seen: HashMap<u64, u32>,
+}
+
+// The section `.debug_loclists` in faults.
+const LISTS: u8 = 7;
+
+// An operand of a list that an attribute of a unit names, and its entry.
+fn list_operand(units: &Units, file: u32, unit: u32, operand: &Operand, entry: u32) -> ListOperand
+    requires { entry < entries_in (units_of units.now) }
+    ensures same { operand.now.at < 2 ^ 32 → result.at ≡ operand.now.at }
+    ensures width { result.width ≡ operand.now.width }
+    ensures uleb { result.uleb ≡ operand.now.uleb }
+    ensures base { result.base ≡ operand.now.base }
+    ensures unit { result.unit ≡ unit }
+    ensures entry { result.entry ≡ entry }
+    ensures place { result.place.offset ≡ place_at (units_of units.now) entry }
+    ensures file { result.place.file ≡ file }
+{
+    ListOperand {
+        at: operand.at.min(u32::MAX as u64) as u32,
+        width: operand.width,
+        uleb: operand.uleb,
+        unit,
+        base: operand.base,
+        entry,
+        place: Place {
+            file,
+            offset: units.entry(entry).at,
+        },
+    }
+}
+
+// Adds the operands of a list, with the entries that they name. Refused at the first that names none.
+fn name_operands(
+    units: &Units,
+    sections: &InputSections,
+    here: &Here,
+    file: u32,
+    operands: &[Operand],
+    out: &mut Vec<ListOperand>,
+) -> Result<(), ReadErr>
+    requires { here.now.end ≤ entries_in (units_of units.now) }
+    ensures { (u : RawUnit) → IsHere (units_of units.now) u here.now
+        → NamesRows (units_of units.now) file (scope_in sections.now (units_of units.now) u) operands.now out.old.items out.new.items
+        result }
+{
+    for operand in operands {
+        match entry_of(units, sections, here, operand) {
+            Some(entry) => out.push(list_operand(units, file, here.number, operand, entry))?,
+            None => return Err(bad_operand(LISTS, operand.at)),
+        }
+    }
+    Ok(())
+}
+
+// Reads the list at a place, with the entries that its operands name.
+fn walk(
+    units: &Units,
+    sections: &InputSections,
+    here: &Here,
+    place: u64,
+    state: &mut State,
+) -> Result<(), ReadErr>
+    requires here { here.now.end ≤ entries_in (units_of units.now) }
+    requires place { place < length sections.now.lists.now }
+    ensures file { state.new.file ≡ state.old.file }
+    ensures files { state.new.files ≡ state.old.files }
+    ensures goes { (u : RawUnit) (before : List NamedList) → IsHere (units_of units.now) u here.now
+        → StateIn sections.now (units_of units.now) u here.now before state.old
+        → Walks (units_of units.now) (scope_in sections.now (units_of units.now) u) here.now.number place before state.old state.new
+        result }
+{
+    state.operands.clear();
+    let first = state.lists.operands.as_slice().len();
+    let read = walk_into(&mut state.operands, sections.lists, place);
+    if is_no_memory(&read) {
+        return Err(ReadErr::NoMemory);
+    }
+    name_operands(
+        units,
+        sections,
+        here,
+        state.file,
+        &state.operands,
+        &mut state.lists.operands,
+    )?;
+    let end = read?;
+    let last = state.lists.operands.as_slice().len();
+    state.lists.rows.push(ListRow {
+        from: place,
+        end,
+        first,
+        last,
+    })?;
+    state.lists.seen.insert(place, here.number)?;
+    Ok(())
+}
+
+// Whether a place was seen last in that unit.
+fn was_seen(seen: &HashMap<u64, u32>, place: u64, unit: u32) -> bool
+    ensures { result ≡ true → get nat_eq seen.now place ≡ Some unit }
+{
+    if let Some(number) = seen.get(&place) {
+        if *number == unit {
+            return true;
+        }
+    }
+    false
+}
+
+// The same, where the unit didn't name it before.
+fn walk_once(
+    units: &Units,
+    sections: &InputSections,
+    here: &Here,
+    place: u64,
+    state: &mut State,
+) -> Result<(), ReadErr>
+    requires here { here.now.end ≤ entries_in (units_of units.now) }
+    requires place { place < length sections.now.lists.now }
+    ensures file { state.new.file ≡ state.old.file }
+    ensures files { state.new.files ≡ state.old.files }
+    ensures goes { (u : RawUnit) (before : List NamedList) → IsHere (units_of units.now) u here.now
+        → StateIn sections.now (units_of units.now) u here.now before state.old
+        → Walks (units_of units.now) (scope_in sections.now (units_of units.now) u) here.now.number place before state.old state.new
+        result }
+{
+    if was_seen(&state.lists.seen, place, here.number) {
+        return Ok(());
+    }
+    walk(units, sections, here, place, state)
+}
+
+const INFO: u8 = 1;
+
+fn bad_list(at: u64) -> ReadErr
+    ensures { result ≡ Refused (info_fault at BadList) }
+{
+    ReadErr::Refused(Fault {
+        section: INFO,
+        at,
+        reason: Reason::BadList,
+    })
+}
+
+// Adds the list at a place that a value names.
+fn add_list(
+    units: &Units,
+    sections: &InputSections,
+    here: &Here,
+    at: u64,
+    place: u128,
+    state: &mut State,
+) -> Result<(), ReadErr>
+    requires { here.now.end ≤ entries_in (units_of units.now) }
+    ensures file { state.new.file ≡ state.old.file }
+    ensures files { state.new.files ≡ state.old.files }
+    ensures goes { (u : RawUnit) (before : List NamedList) → IsHere (units_of units.now) u here.now
+        → StateIn sections.now (units_of units.now) u here.now before state.old
+        → AddsList (units_of units.now) (scope_in sections.now (units_of units.now) u) here.now.number at place before state.old state.new
+        result }
+{
+    if place >= sections.lists.len() as u128 {
+        return Err(bad_list(at));
+    }
+    walk_once(units, sections, here, place as u64, state)
+}
+
+/// Adds the list that an offset names, if it is one's.
+pub(crate) fn add_offset(
+    units: &Units,
+    sections: &InputSections,
+    here: &Here,
+    at: u64,
+    name: u16,
+    offset: u128,
+    state: &mut State,
+) -> Result<(), ReadErr>
+    requires { here.now.end ≤ entries_in (units_of units.now) }
+    ensures file { state.new.file ≡ state.old.file }
+    ensures files { state.new.files ≡ state.old.files }
+    ensures goes { (u : RawUnit) (before : List NamedList) → IsHere (units_of units.now) u here.now
+        → StateIn sections.now (units_of units.now) u here.now before state.old
+        → AddsOffset (units_of units.now) (scope_in sections.now (units_of units.now) u) here.now.number name at offset before state.old
+        state.new result }
+{
+    if names_list(name) {
+        add_list(units, sections, here, at, offset, state)
+    } else {
+        Ok(())
+    }
+}
+
+// A slot of the section, and where the list begins that it holds.
+#[derive(Clone, Copy)]
+struct ListSlot {
+    at: u32,
+    place: u128,
+}
+
+// The slot of an index.
+fn slot_at(section: &[u8], base: u128, index: u128) -> Option<ListSlot>
+    requires { length section.now < 2 ^ 32 }
+    ensures { IsSlotAt section.now base index result }
+{
+    match slot(section, base, index) {
+        None => None,
+        Some(offset) => Some(ListSlot {
+            at: (base + 4 * index) as u32,
+            place: base + offset as u128,
+        }),
+    }
+}
+
+/// Adds the list that an index names.
+pub(crate) fn add_indexed(
+    units: &Units,
+    sections: &InputSections,
+    here: &Here,
+    at: u64,
+    index: u128,
+    state: &mut State,
+) -> Result<(), ReadErr>
+    requires { here.now.end ≤ entries_in (units_of units.now) }
+    ensures file { state.new.file ≡ state.old.file }
+    ensures files { state.new.files ≡ state.old.files }
+    ensures goes { (u : RawUnit) (before : List NamedList) → IsHere (units_of units.now) u here.now
+        → StateIn sections.now (units_of units.now) u here.now before state.old
+        → AddsIndexed (units_of units.now) (scope_in sections.now (units_of units.now) u) here.now.number here.now.lists at index before
+        state.old state.new result }
+{
+    let Some(base) = here.lists else {
+        return Err(bad_list(at));
+    };
+    let Some(slot) = slot_at(sections.lists, base as u128, index) else {
+        return Err(bad_list(at));
+    };
+    add_list(units, sections, here, at, slot.place, state)?;
+    state.lists.slots.push(slot.at)?;
+    Ok(())
+}

@@ -1,0 +1,222 @@
+//! What the values of entries name, or the first fault.
+
+ghost use Rattle.std.specs.Prelude.{◌≡◌, ℕ, ◌+◌, ◌<◌, ◌≤◌, List, [], IfOk, Some, length, slice_get};
+ghost use Rattle.std.specs.List.{list_any};
+ghost use Rattle.dwz_def_reading.specs.Faults.{info_fault};
+ghost use Rattle.dwz_def_reading.specs.Units.{RawUnit, entries_in};
+ghost use Rattle.dwz_def_reading.specs.Meanings;
+ghost use Rattle.dwz_def_reading.specs.Meant.{as_class};
+ghost use Rattle.dwz_def_reading.specs.NamedLists.{lists_as};
+ghost use Rattle.dwz_model.specs.declared.fault.ReadErr.TheVariants.{Refused};
+ghost use Rattle.dwz_model.specs.declared.fault.Reason.TheVariants.{UnsupportedForm};
+ghost use Rattle.dwz_def_reading.specs.Shared.{NamedList};
+ghost use Rattle.dwz_graph.specs.Classes.{class_view};
+ghost use Rattle.dwz_graph.specs.FileRows.{IfLearns};
+ghost use Rattle.dwz_graph.specs.Parts.{IsParted, numbers_as, numbers_file};
+ghost use Rattle.dwz_graph.specs.Named.{attr_named, entry_named, found_in, map_ok, unit_named, units_named};
+ghost use Rattle.dwz_graph.specs.Resolved.{Goes, IsHere, StateAt, StateIn, around, scope_in, stored};
+ghost use Rattle.dwz_unit.specs.Rows.{EntryRow, rows_of, units_of};
+
+use crate::class::{Class, class_of};
+use crate::expressions::add_expression;
+use crate::files::check_constant;
+use crate::here::{Here, here_of};
+use crate::kinds::check_kind;
+use crate::lists::{add_indexed, add_offset};
+use crate::parts::Parts;
+use crate::references::{add_entry, bad_reference};
+use crate::sections::{InputSections, offset_of};
+use crate::state::State;
+use crate::strings::{bad_string, check_text, has_slot_text};
+use dwz_forms::Raw;
+use dwz_model::{Fault, Pair, ReadErr, Reason};
+use dwz_unit::{Units, Values, known_value};
+
+// No such form is read.
+fn unread_form(at: u64, form: u64) -> ReadErr
+    ensures { result ≡ Refused (info_fault at (UnsupportedForm form)) }
+{
+    ReadErr::Refused(Fault {
+        section: 1,
+        at,
+        reason: Reason::UnsupportedForm { form },
+    })
+}
+
+// Adds what a value of that class names.
+#[inline(always)]
+fn add_as(
+    class: Class,
+    units: &Units,
+    sections: &InputSections,
+    here: &Here,
+    at: u64,
+    end: u64,
+    pair: &Pair,
+    raw: &Raw,
+    state: &mut State,
+) -> Result<(), ReadErr>
+    requires { here.now.end ≤ entries_in (units_of units.now) }
+    ensures file { state.new.file ≡ state.old.file }
+    ensures learns { IfLearns (numbers_as (class_view class) pair.now.name) here.now.line state.old.files state.new.files result }
+    ensures goes { (u : RawUnit) (before : List NamedList) → IsHere (units_of units.now) u here.now
+        → StateIn sections.now (units_of units.now) u here.now before state.old
+        → Goes (units_of units.now) (StateIn sections.now (units_of units.now) u here.now) before state.old state.new result
+        (map_ok (found_in (lists_as (class_view class) (scope_in sections.now (units_of units.now) u) (stored at end pair.now raw.now)))
+        (as_class (class_view class) (scope_in sections.now (units_of units.now) u) (stored at end pair.now raw.now))) }
+{
+    let offset = offset_of(raw);
+    match class {
+        Class::Address => Ok(()),
+        Class::Block => Ok(()),
+        Class::Constant => check_constant(sections, here, at, pair.name, raw, &mut state.files),
+        Class::Flag => Ok(()),
+        Class::Text => Ok(()),
+        Class::TextInStr => check_text(sections.strs.has(offset), at),
+        Class::TextInLineStr => check_text(sections.line_strs.has(offset), at),
+        Class::TextBySlot => check_text(has_slot_text(sections, here.offsets, offset), at),
+        Class::UnitEntry => add_entry(
+            units,
+            here.first,
+            here.end,
+            at,
+            here.at as u128 + offset,
+            &mut state.refs,
+            &mut state.hints,
+        ),
+        Class::InfoEntry => add_entry(
+            units,
+            0,
+            units.entries(),
+            at,
+            offset,
+            &mut state.refs,
+            &mut state.hints,
+        ),
+        Class::Signature => Ok(()),
+        Class::Offset => add_offset(units, sections, here, at, pair.name, offset, state),
+        Class::Expression => add_expression(units, sections, here, end, raw, state),
+        Class::ListIndex => add_indexed(units, sections, here, at, offset, state),
+        Class::Index => Ok(()),
+        Class::CommonEntry => Err(bad_reference(at)),
+        Class::CommonText => Err(bad_string(at)),
+        Class::Unread => Err(unread_form(at, pair.form)),
+    }
+}
+
+// `DW_AT_sibling` (DWARF 5, 7.5.4).
+const SIBLING: u16 = 0x01;
+
+// Adds what an attribute names.
+#[inline(always)]
+fn add_attr(
+    units: &Units,
+    sections: &InputSections,
+    here: &Here,
+    at: u64,
+    end: u64,
+    pair: &Pair,
+    raw: &Raw,
+    state: &mut State,
+) -> Result<(), ReadErr>
+    requires { here.now.end ≤ entries_in (units_of units.now) }
+    ensures file { state.new.file ≡ state.old.file }
+    ensures learns { IfLearns (numbers_file (stored at end pair.now raw.now)) here.now.line state.old.files state.new.files result }
+    ensures goes { (u : RawUnit) (before : List NamedList) → IsHere (units_of units.now) u here.now
+        → StateIn sections.now (units_of units.now) u here.now before state.old
+        → Goes (units_of units.now) (StateIn sections.now (units_of units.now) u here.now) before state.old state.new result
+        (attr_named (scope_in sections.now (units_of units.now) u) (stored at end pair.now raw.now)) }
+{
+    if pair.name == SIBLING {
+        return Ok(());
+    }
+    add_as(
+        class_of(pair.form),
+        units,
+        sections,
+        here,
+        at,
+        end,
+        pair,
+        raw,
+        state,
+    )
+}
+
+// Adds what an entry names.
+fn add_values(
+    units: &Units,
+    sections: &InputSections,
+    here: &Here,
+    i: u32,
+    state: &mut State,
+) -> Result<(), ReadErr>
+    requires row { i < entries_in (units_of units.now) }
+    requires here { here.now.end ≤ entries_in (units_of units.now) }
+    ensures file { state.new.file ≡ state.old.file }
+    ensures learns { (row : EntryRow) → slice_get (rows_of (units_of units.now)) i ≡ Some row
+        → IfLearns (list_any numbers_file row.entry.attrs) here.now.line state.old.files state.new.files result }
+    ensures goes { (u : RawUnit) (row : EntryRow) (before : List NamedList) → IsHere (units_of units.now) u here.now
+        → slice_get (rows_of (units_of units.now)) i ≡ Some row → StateIn sections.now (units_of units.now) u here.now before state.old
+        → Goes (units_of units.now) (StateIn sections.now (units_of units.now) u here.now) before state.old state.new result
+        (entry_named (scope_in sections.now (units_of units.now) u) row.entry) }
+{
+    let Values { pairs, mut cursor } = units.values(i);
+    for pair in pairs {
+        let at = cursor.at() as u64;
+        let raw = known_value(&mut cursor, pair);
+        let end = cursor.at() as u64;
+        add_attr(units, sections, here, at, end, pair, &raw, state)?;
+    }
+    Ok(())
+}
+
+// Adds what the entries of a unit name.
+fn add_unit(
+    units: &Units,
+    sections: &InputSections,
+    n: u32,
+    state: &mut State,
+    parts: &mut Parts,
+) -> Result<(), ReadErr>
+    requires { n < length (units_of units.now) }
+    ensures file { state.new.file ≡ state.old.file }
+    ensures parts { (before : List NamedList) → StateAt sections.now (units_of units.now) n before state.old
+        → IsParted sections.now (units_of units.now) n state.old parts.old
+        → IfOk result (λ y. IsParted sections.now (units_of units.now) (n + 1) state.new parts.new) }
+    ensures goes { (u : RawUnit) (before : List NamedList) → slice_get (units_of units.now) n ≡ Some u
+        → StateAt sections.now (units_of units.now) n before state.old
+        → Goes (units_of units.now) (StateAt sections.now (units_of units.now) (n + 1)) before state.old state.new result
+        (unit_named (around sections.now (units_of units.now)) u) }
+{
+    let unit = units.unit(n);
+    let here = here_of(units, n, &unit);
+    check_kind(units, sections, &here, &unit)?;
+    for i in here.first..here.end {
+        add_values(units, sections, &here, i, state)?;
+        parts.end_entry(state.refs.as_slice().len())?;
+    }
+    parts.end_unit(&state.files, here.line)?;
+    Ok(())
+}
+
+/// Adds what the entries of all units name; or fails with the first fault of what values mean.
+pub(crate) fn add_units(
+    units: &Units,
+    sections: &InputSections,
+    state: &mut State,
+    parts: &mut Parts,
+) -> Result<(), ReadErr>
+    ensures file { state.new.file ≡ state.old.file }
+    ensures parts { StateAt sections.now (units_of units.now) 0 [] state.old
+        → IsParted sections.now (units_of units.now) 0 state.old parts.old
+        → IfOk result (λ y. IsParted sections.now (units_of units.now) (length (units_of units.now)) state.new parts.new) }
+    ensures goes { StateAt sections.now (units_of units.now) 0 [] state.old
+        → Goes (units_of units.now) (StateAt sections.now (units_of units.now) (length (units_of units.now))) [] state.old state.new result
+        (units_named (around sections.now (units_of units.now)) (units_of units.now)) }
+{
+    for n in 0..units.len() {
+        add_unit(units, sections, n, state, parts)?;
+    }
+    Ok(())
+}

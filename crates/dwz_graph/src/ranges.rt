@@ -1,0 +1,64 @@
+//! Sets of address ranges, each of which is of a unit (DWARF 5, 6.1.2).
+
+ghost use Rattle.std.specs.Prelude.{◌≡◌, ◌≤◌, length};
+ghost use Rattle.dwz_def_reading.specs.Input.{input};
+ghost use Rattle.dwz_def_reading.specs.Files.{is_place_of};
+ghost use Rattle.dwz_def_reading.specs.Ranges.{bad_ranges, sets_at};
+ghost use Rattle.dwz_model.specs.declared.fault.ReadErr.TheVariants.{Refused};
+ghost use Rattle.dwz_graph.specs.Resolved.{Tells};
+ghost use Rattle.dwz_unit.specs.Rows.{units_of};
+
+use dwz_aranges::set_there;
+use dwz_model::{Fault, ReadErr, Reason};
+use dwz_unit::Units;
+
+// The section `.debug_aranges` in faults.
+const ARANGES: u8 = 8;
+
+fn bad_set(at: usize) -> ReadErr
+    ensures { result ≡ Refused (bad_ranges at) }
+{
+    ReadErr::Refused(Fault {
+        section: ARANGES,
+        at: at as u64,
+        reason: Reason::BadAranges,
+    })
+}
+
+// Whether a unit begins at a place.
+fn is_unit(units: &Units, place: u32) -> bool
+    ensures { result ≡ is_place_of (units_of units.now) place }
+{
+    let mut low = 0;
+    let mut high = units.len();
+    while low < high {
+        let middle = low + (high - low) / 2;
+        let at = units.unit(middle).at;
+        if at == place {
+            return true;
+        }
+        if at < place {
+            low = middle + 1;
+        } else {
+            high = middle;
+        }
+    }
+    false
+}
+
+/// Goes on where each set of address ranges is of a unit. Refused at the first that is bad, or is of none.
+pub(crate) fn check_ranges(units: &Units, section: &[u8]) -> Result<(), ReadErr>
+    ensures { Tells result (sets_at (is_place_of (units_of units.now)) (input section.now 0)) }
+{
+    let mut at = 0;
+    while at < section.len() {
+        let Some((set, behind)) = set_there(section, at) else {
+            return Err(bad_set(at));
+        };
+        if !is_unit(units, set.unit) {
+            return Err(bad_set(at));
+        }
+        at = behind;
+    }
+    Ok(())
+}

@@ -1,0 +1,52 @@
+//! Entries that values name (DWARF 5, 7.5.5, class reference).
+
+ghost use Rattle.std.specs.Prelude.{◌≡◌, ℕ, ◌≤◌, List, slice_range};
+ghost use Rattle.dwz_def_reading.specs.Faults.{info_fault};
+ghost use Rattle.dwz_def_reading.specs.Units.{entries_in};
+ghost use Rattle.dwz_def_reading.specs.Meant.{entry_among};
+ghost use Rattle.dwz_model.specs.declared.fault.Reason.TheVariants.{BadReference};
+ghost use Rattle.dwz_model.specs.declared.fault.ReadErr.TheVariants.{Refused};
+ghost use Rattle.dwz_graph.specs.Resolved.{NamesEntry, places};
+ghost use Rattle.dwz_unit.specs.Rows.{units_of};
+
+use crate::find::find_again;
+use crate::hints::Hints;
+use dwz_model::{Fault, ReadErr, Reason};
+use dwz_unit::Units;
+
+const INFO: u8 = 1;
+
+/// No entry begins where a value says.
+pub(crate) fn bad_reference(at: u64) -> ReadErr
+    ensures { result ≡ Refused (info_fault at BadReference) }
+{
+    ReadErr::Refused(Fault {
+        section: INFO,
+        at,
+        reason: Reason::BadReference,
+    })
+}
+
+/// Adds the entry that begins at a place, among those from `first` to before `end`. `at` is where the value stands that names it.
+#[inline(always)]
+pub(crate) fn add_entry(
+    units: &Units,
+    first: u32,
+    end: u32,
+    at: u64,
+    place: u128,
+    refs: &mut Vec<u32>,
+    hints: &mut Hints,
+) -> Result<(), ReadErr>
+    requires { end ≤ entries_in (units_of units.now) }
+    ensures { (own : List ℕ) → slice_range (places (units_of units.now)) first end ≡ own
+        → NamesEntry (units_of units.now) refs.old.items refs.new.items result (entry_among (λ n. n) own at place) }
+{
+    match find_again(units, first, end, place, hints) {
+        Some(number) => {
+            refs.push(number)?;
+            Ok(())
+        }
+        None => Err(bad_reference(at)),
+    }
+}

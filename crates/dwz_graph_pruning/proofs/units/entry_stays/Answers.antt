@@ -1,0 +1,59 @@
+use Rattle.std.proofs.Common.{get_or, refl, subst, sym, ◌∙◌, arith}
+use Rattle.std.specs.Prelude.{IsOk}
+use Rattle.dwz_def_reading.specs.Entries.{RawAttr}
+use Rattle.dwz_forms.specs.RawValues.{raw_view}
+use Rattle.dwz_graph_pruning.proofs.RowLemmas.{passes, unasked}
+use Rattle.dwz_graph.proofs.RowLemmas.{all_done, all_fails, all_more, row_there}
+use Rattle.dwz_graph.proofs.ValueSteps.{next_read, no_pair}
+use Rattle.dwz_unit.specs.Rows.{units_of}
+use Rattle.dwz_unit.proofs.ReadsLemmas.{reads_count, reads_next}
+use Rattle.dwz_graph_pruning.proofs.units.entry_stays.Goals as goal
+
+pub returns-then-not-any_asks : goal.returns-then-not-any_asks
+returns-then-not-any_asks c = λ row found.
+    sym (unasked c.args.slots.now c.args.known.now c.values-cursor.result.pairs.now c.values-cursor.result.cursor row (c.values-cursor.ensures.read row found)
+    (sym c.any_asks.ensures ∙ c.if-not-any_asks.true))
+
+pub loop-pair-init : goal.loop-pair-init
+loop-pair-init c = record {
+  reads = c.values-cursor.ensures.read;
+  left = λ row found. refl;
+}
+
+pub known_value-raw-requires : goal.known_value-raw-requires
+known_value-raw-requires c =
+    let pairs = c.values-cursor.result.pairs.now in
+    let r = row_there (units_of c.args.units.now) c.args.i c.requires.entry in
+    let x = reads_next r.0.entry.at pairs c.loop-pair.pair-index no_pair c.loop-pair.cursor r.0.entry.attrs c.loop-pair-test.true (c.loop-pair.invariant.reads r.0 r.1) in
+    subst IsOk (sym x.value) refl
+
+pub returns-then-not-stays : goal.returns-then-not-stays
+returns-then-not-stays c = λ row found. (
+    let pairs = c.values-cursor.result.pairs.now in
+    let j = c.loop-pair.pair-index in
+    let value = raw_view c.known_value-raw.result in
+    let a : RawAttr = record { at = c.loop-pair.cursor.at; end = c.known_value-raw.new.cursor.at; pair = get_or pairs j no_pair; raw = value } in
+    let is = (next_read row.entry.at pairs j no_pair c.loop-pair.cursor c.known_value-raw.new.cursor value row.entry.attrs c.loop-pair-test.true (c.loop-pair.invariant.reads row found)
+    c.known_value-raw.ensures.value).is in
+    all_fails (passes c.args.slots.now c.args.known.now) row.entry.attrs j a is (sym c.stays.ensures ∙ c.if-not-stays.true) (c.loop-pair.invariant.left row found))
+
+pub loop-pair-preserved : goal.loop-pair-preserved
+loop-pair-preserved c =
+    let pairs = c.values-cursor.result.pairs.now in
+    let j = c.loop-pair.pair-index in
+    let value = raw_view c.known_value-raw.result in
+    let a : RawAttr = record { at = c.loop-pair.cursor.at; end = c.known_value-raw.new.cursor.at; pair = get_or pairs j no_pair; raw = value } in
+    record {
+      reads = λ row found. (next_read row.entry.at pairs j no_pair c.loop-pair.cursor c.known_value-raw.new.cursor value row.entry.attrs c.loop-pair-test.true (c.loop-pair.invariant.reads row found)
+          c.known_value-raw.ensures.value).rest;
+      left = λ row found. (
+          let is = (next_read row.entry.at pairs j no_pair c.loop-pair.cursor c.known_value-raw.new.cursor value row.entry.attrs c.loop-pair-test.true (c.loop-pair.invariant.reads row found)
+          c.known_value-raw.ensures.value).is in
+          all_more (passes c.args.slots.now c.args.known.now) row.entry.attrs j a is (sym c.stays.ensures ∙ c.if-not-stays.false) (c.loop-pair.invariant.left row found));
+    }
+
+pub returns : goal.returns
+returns c = λ row found. (
+    let pairs = c.values-cursor.result.pairs.now in
+    let count = reads_count row.entry.at pairs c.values-cursor.result.cursor row.entry.attrs (c.values-cursor.ensures.read row found) in
+    all_done (passes c.args.slots.now c.args.known.now) row.entry.attrs c.loop-pair.pair-index (omega (arith, count, c.loop-pair-test.false)) (c.loop-pair.invariant.left row found))

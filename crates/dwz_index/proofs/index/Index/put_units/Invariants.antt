@@ -1,6 +1,0 @@
-use Rattle.dwz_unit.specs.Rows.{units_of}
-use Rattle.dwz_index.proofs.UnitBuilding.{UnitsGo}
-use Rattle.dwz_index.proofs.index.Index.put_units.Given as goal
-
-abbrev pub invariant-loop-n : goal.invariant-loop-n
-invariant-loop-n l = UnitsGo (units_of l.units) l.initial.self l.n l.self

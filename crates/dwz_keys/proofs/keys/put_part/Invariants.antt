@@ -1,6 +1,0 @@
-use Rattle.std.proofs.Common.{◌≡◌, ◌∷◌, ◌++◌, take}
-use Rattle.dwz_keys.specs.Mentions.{words_of}
-use Rattle.dwz_keys.proofs.keys.put_part.Given as goal
-
-abbrev pub invariant-loop-mention : goal.invariant-loop-mention
-invariant-loop-mention l = l.words.items ≡ l.fn.words.items ++ l.number ∷ words_of (take l.mention-index l.run)

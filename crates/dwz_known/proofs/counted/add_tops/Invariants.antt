@@ -1,6 +1,0 @@
-use Rattle.std.proofs.Common.{◌≡◌, ◌++◌, take}
-use Rattle.dwz_known.specs.Images.{tops_in}
-use Rattle.dwz_known.proofs.counted.add_tops.Given as goal
-
-abbrev pub invariant-loop-top : goal.invariant-loop-top
-invariant-loop-top l = l.tops.items ≡ l.initial.tops.items ++ tops_in l.start (take l.top-index l.entries)

@@ -1,5 +1,0 @@
-use Rattle.dwz_known.proofs.CountLemmas.{Starts}
-use Rattle.dwz_known.proofs.counted.starts.Given as goal
-
-abbrev pub invariant-loop-index : goal.invariant-loop-index
-invariant-loop-index l = Starts l.indexes l.index-index l.start l.starts.items

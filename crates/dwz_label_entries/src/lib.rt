@@ -1,0 +1,34 @@
+//! The label of a top, written from the rows of its entries.
+//!
+//! `put_top` appends language, name list and entries of a top of a file (`Source`) to a label; `put_rows`, `put_plain` and `put_target` do
+//! so for entries, for what a value says besides the entries that it names, and for the path of such an entry in its top. `Scratch` has
+//! rows that are used again from one top to the next. `language_of` is the language of a unit.
+//!
+//! A new class of values is an arm of `plain` here and a first byte of its own in `dwz_label`.
+//!
+//! Read first: `Labels.antt` of `dwz_label`, then `specs/Plain.antt`, `specs/Targets.antt`.
+#![tactic(auto)]
+
+mod entries;
+mod expressions;
+mod language;
+mod lists;
+mod named;
+mod names;
+mod numbers;
+mod plain;
+mod refs;
+mod simple;
+mod source;
+mod targets;
+mod texts;
+mod top;
+mod values;
+
+pub use entries::put_rows;
+pub use language::language_of;
+pub use named::Named;
+pub use plain::put_plain;
+pub use source::{Scratch, Source};
+pub use targets::put_target;
+pub use top::put_top;

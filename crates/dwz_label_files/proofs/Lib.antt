@@ -1,0 +1,6 @@
+pub mod PlanLemmas
+pub mod RowLemmas
+pub mod SearchLemmas
+pub mod SpaceLemmas
+pub mod TopLemmas
+pub mod LabelLemmas

@@ -1,0 +1,5 @@
+pub mod LeastLaws
+pub mod Unit
+pub mod Run
+pub mod Spaces
+pub mod Shown

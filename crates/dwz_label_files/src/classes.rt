@@ -1,0 +1,42 @@
+//! The least alike tops of all files.
+
+ghost use Rattle.std.specs.Prelude.{◌≡◌, ◌<◌, ◌≤◌, All, length, IfOk};
+ghost use Rattle.dwz_def_tops.specs.Spots.{tops_of, units_of};
+ghost use Rattle.dwz_label_files.specs.Shown.{ShowTargets};
+ghost use Rattle.dwz_graph.specs.Files.{docs_of};
+ghost use Rattle.dwz_graph.specs.Indexed.{AreIndexes};
+ghost use Rattle.dwz_label.specs.Nodes.{AreLeast};
+
+use crate::least_alike;
+use crate::tops::labels;
+use dwz_gate::Gate;
+use dwz_graph::{Graph, Index};
+use dwz_groups::Tops;
+use dwz_model::{NoMemory, Numbers};
+use std::alloc::Global;
+use std::thread::Threads;
+
+/// For each top of all files that may move the least one that is alike to it, in whichever file, and for each other one its own number:
+/// where `movable` says of each top whether it may move, and `tops` the targets of those that may. It is the same for every number of
+/// workers and every gate.
+pub fn least<R: Threads + Sync, G: Gate>(
+    rt: &R,
+    alloc: Global,
+    graph: &Graph,
+    indexes: &[Index],
+    tops: &Tops,
+    movable: &[bool],
+    workers: u32,
+    gate: &G,
+) -> Result<Numbers, NoMemory>
+    requires indexes { AreIndexes (docs_of graph.now) indexes.now }
+    requires movable { length movable.now ≡ length (tops_of (units_of (docs_of graph.now))) }
+    requires targets { length tops.now.targets ≡ length (tops_of (units_of (docs_of graph.now))) }
+    requires inside { All (λ ts. All (λ t. t < length tops.now.targets) ts) tops.now.targets }
+    requires workers { (0 < workers) × (workers ≤ 64) }
+    ensures { ShowTargets (units_of (docs_of graph.now)) movable.now tops.now.targets
+        → IfOk result (λ least. AreLeast (units_of (docs_of graph.now)) least) }
+{
+    let labels = labels(rt, alloc, graph, indexes, movable, workers)?;
+    least_alike(rt, alloc, &labels, movable, &tops.targets, workers, gate)
+}

@@ -1,0 +1,68 @@
+//! The labels of the tops of all files.
+
+ghost use Rattle.std.specs.Prelude.{◌≡◌, ◌<◌, ◌≤◌, ◌^◌, IfOk, length};
+ghost use Rattle.dwz_def_tops.specs.Spots.{tops_of, units_of};
+ghost use Rattle.dwz_label_files.specs.Run.{labels_of, movable_labels};
+ghost use Rattle.dwz_graph.specs.Files.{docs_of};
+ghost use Rattle.dwz_graph.specs.Indexed.{AreIndexes};
+ghost use Rattle.dwz_label.specs.Shown.{nth_label};
+
+use crate::run::{file_at, index_at, run_of};
+use crate::search::{entry_of, file_of, top_count};
+use crate::top::{TopScratch, put_top_of};
+use crate::unit::unit_row;
+use crate::writer::TopLabels;
+use dwz_graph::{Graph, Index};
+use dwz_label::{Labels, labels_by};
+use dwz_model::{Blob, NoMemory};
+use std::alloc::Global;
+use std::thread::Threads;
+
+/// How many tops all files have.
+pub fn count_tops(alloc: Global, graph: &Graph, indexes: &[Index]) -> usize
+    requires { AreIndexes (docs_of graph.now) indexes.now }
+    ensures { result ≡ length (tops_of (units_of (docs_of graph.now))) }
+{
+    top_count(&run_of(alloc, graph, indexes))
+}
+
+/// The label of the top with a number among those of all files: bytes that are equal for two tops exactly if the languages of their units,
+/// the names of the spaces that they stand in, and their bare trees are.
+pub fn label(alloc: Global, graph: &Graph, indexes: &[Index], top: u32) -> Result<Blob, NoMemory>
+    requires indexes { AreIndexes (docs_of graph.now) indexes.now }
+    requires there { top < length (tops_of (units_of (docs_of graph.now))) }
+    ensures { IfOk result (λ bytes. bytes ≡ nth_label (labels_of graph.now) top) }
+{
+    let run = run_of(alloc, graph, indexes);
+    let file = file_of(&run, top as usize);
+    let entry = entry_of(&run, file, top as usize);
+    let first = index_at(&run, file).starts().unit;
+    let row = unit_row(&file_at(&run, file).units, entry.unit - first);
+    let mut out = Vec::new(alloc);
+    let mut room = TopScratch::new(alloc);
+    put_top_of(&run, file, &entry, &row, &mut room, &mut out)?;
+    Ok(Blob::new(out))
+}
+
+/// The labels of the tops of all files that may move, in order, and for each other top no bytes: where `movable` says of each top whether
+/// it may move. By at most so many workers: how many there are makes no difference. There are no more tops than bytes in all files.
+pub fn labels<R: Threads + Sync>(
+    rt: &R,
+    alloc: Global,
+    graph: &Graph,
+    indexes: &[Index],
+    movable: &[bool],
+    workers: u32,
+) -> Result<Labels, NoMemory>
+    requires indexes { AreIndexes (docs_of graph.now) indexes.now }
+    requires movable { length movable.now ≡ length (tops_of (units_of (docs_of graph.now))) }
+    requires workers { (0 < workers) × (workers ≤ 64) }
+    ensures labels { IfOk result (λ labels. labels ≡ movable_labels graph.now movable.now) }
+    ensures len { IfOk result (λ labels. length labels ≡ length (tops_of (units_of (docs_of graph.now)))) }
+    ensures few { IfOk result (λ labels. length labels ≤ 2 ^ 29) }
+{
+    let run = run_of(alloc, graph, indexes);
+    let writer = TopLabels::new(&run, movable)?;
+    let count = writer.len();
+    labels_by(rt, alloc, workers, &writer, count)
+}

@@ -1,8 +1,0 @@
-use Rattle.dwz_laid.proofs.PartsKnown.{common_known, parts_known}
-use Rattle.dwz_laid.proofs.laws.parts_known_laws.Goals as goal
-
-pub returns-clause-file : goal.returns-clause-file
-returns-clause-file c = parts_known
-
-pub returns-clause-common : goal.returns-clause-common
-returns-clause-common c = common_known

@@ -1,0 +1,3 @@
+pub mod Across
+pub mod AcrossLaws
+pub mod Few

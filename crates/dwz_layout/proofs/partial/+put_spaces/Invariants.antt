@@ -1,4 +1,0 @@
-use Rattle.dwz_layout.proofs.partial.+put_spaces.Given as goal
-
-abbrev pub decreases-put_spaces : goal.decreases-put_spaces
-decreases-put_spaces l = l.inner

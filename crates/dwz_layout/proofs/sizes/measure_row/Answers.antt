@@ -1,0 +1,61 @@
+use Rattle.std.proofs.Common.{[], pos, subst, sym}
+use Rattle.dwz_forms.specs.RawValues.{raw_view}
+use Rattle.dwz_model.specs.declared.place.Pair.{Pair}
+use Rattle.dwz_layout.specs.declared.known.ValueCounts.{ValueCounts}
+use Rattle.dwz_layout.specs.Attributes.{here_view}
+use Rattle.dwz_layout.proofs.LeftLemmas.{left_readable}
+use Rattle.dwz_layout.proofs.PlainLemmas.{plain_none}
+use Rattle.dwz_layout.proofs.SizeLemmas.{Measured, measured_more, measured_names, measured_none, measured_size, nothing_names, nothing_sized}
+use Rattle.dwz_layout.proofs.sizes.measure_row.Goals as goal
+
+abbrev no_pair : Pair
+no_pair = record { name = 0; form = 0; constant = pos 0 }
+
+pub returns-in_default-clause-pairs : goal.returns-in_default-clause-pairs
+returns-in_default-clause-pairs c = nothing_names c.args.known.now (here_view c.args.here) c.args.row [] c.args.room.now.pairs.items c.requires c.in_default.ensures.values
+
+pub returns-in_default-clause-size : goal.returns-in_default-clause-size
+returns-in_default-clause-size c = nothing_sized c.args.known.now (here_view c.args.here) c.args.row [] c.in_default.ensures.values
+
+pub returns-in_default-clause-plain : goal.returns-in_default-clause-plain
+returns-in_default-clause-plain c = plain_none c.args.room.now.pairs.items c.requires
+
+pub loop-pair-init : goal.loop-pair-init
+loop-pair-init c =
+    let k = c.args.known.now in
+    let here = here_view c.args.here in
+    let pairs = c.in-Some.field-0.pairs.now in
+    subst (λ (f : ValueCounts). Measured k here c.args.row pairs 0 c.in-Some.field-0.cursor f c.args.room.now.pairs.items 0) (sym c.firsts-next.ensures)
+    (measured_none k here c.args.row pairs c.in-Some.field-0.cursor c.args.room.now.pairs.items c.in-Some.ensures.values c.requires)
+
+pub known_value-raw-requires : goal.known_value-raw-requires
+known_value-raw-requires c =
+    let m = c.loop-pair.invariant in
+    left_readable c.args.known.now (here_view c.args.here) c.args.row c.in-Some.field-0.pairs.now c.loop-pair.pair-index no_pair c.loop-pair.cursor c.loop-pair.next m.done m.left c.loop-pair-test.true
+
+pub measure_value-requires-clause-plain : goal.measure_value-requires-clause-plain
+measure_value-requires-clause-plain c = c.in-Some.ensures.plain c.loop-pair.pair-index no_pair c.loop-pair-test.true
+
+pub measure_value-requires-clause-room : goal.measure_value-requires-clause-room
+measure_value-requires-clause-room c = c.loop-pair.invariant.plain
+
+pub loop-pair-preserved : goal.loop-pair-preserved
+loop-pair-preserved c =
+    measured_more c.args.known.now (here_view c.args.here) c.args.row c.in-Some.field-0.pairs.now c.loop-pair.pair-index no_pair c.loop-pair.cursor c.known_value-raw.new.cursor c.loop-pair.next
+    c.loop-pair.room.pairs.items c.loop-pair.size
+    c.loop-pair.invariant c.loop-pair-test.true (raw_view c.known_value-raw.result) c.known_value-raw.ensures.value c.measure_value.new.next c.measure_value.new.room.pairs.items c.in_ok-one.one
+    c.in_ok-size.size c.at-end.result
+    (c.in_ok-one.ensures.next, c.in_ok-one.ensures.pairs, c.in_ok-one.ensures.size) c.at-end.ensures c.in_ok-size.ensures c.in_ok-one.ensures.plain
+
+pub returns-clause-pairs : goal.returns-clause-pairs
+returns-clause-pairs c =
+    measured_names c.args.known.now (here_view c.args.here) c.args.row c.in-Some.field-0.pairs.now c.loop-pair.pair-index c.loop-pair.cursor c.loop-pair.next c.loop-pair.room.pairs.items
+    c.loop-pair.size c.loop-pair.invariant c.loop-pair-test.false
+
+pub returns-clause-size : goal.returns-clause-size
+returns-clause-size c =
+    measured_size c.args.known.now (here_view c.args.here) c.args.row c.in-Some.field-0.pairs.now c.loop-pair.pair-index c.loop-pair.cursor c.loop-pair.next c.loop-pair.room.pairs.items
+    c.loop-pair.size c.loop-pair.invariant c.loop-pair-test.false
+
+pub returns-clause-plain : goal.returns-clause-plain
+returns-clause-plain c = c.loop-pair.invariant.plain

@@ -1,0 +1,116 @@
+//! The shapes of a unit's entries, each once, and their codes.
+//!
+//! They are found by an ordered map. A key is a row of words, a hash and then the shape itself: so the first words nearly always decide,
+//! and the hash needs no properties. It is made in room that is kept, and copied only where the shape is new.
+
+ghost use Rattle.std.specs.Prelude.{◌≡◌, ◌<◌, [], All, IfOk, None, OnErr, OnOk, Some};
+ghost use Rattle.dwz_def_encoding.specs.Writing.{code_in, with_shape};
+ghost use Rattle.dwz_def_reading.specs.Abbrevs.{IsPlainPair};
+ghost use Rattle.dwz_layout.specs.Keys.{AreCodes, HasBits, key_of};
+ghost use Rattle.dwz_layout.specs.Shapes.{IsCoded, shape_of, shapes_in, table_for};
+
+use crate::codes::Codes;
+use dwz_abbrev::Table;
+use dwz_model::{NoMemory, Pair, Pairs};
+use std::alloc::Global;
+use std::marker::Model;
+use std::mem;
+
+/// The shapes of a unit's entries, each once. Clauses see them in the order of their codes.
+#[derive(Drop)]
+pub struct Shapes {
+    table: Table,
+    // Their codes, which are looked up: among n shapes that takes log n comparisons, whatever they are.
+    codes: Codes,
+}
+
+impl Model for Shapes {
+    ghost use Rattle.std.specs.Prelude.{List};
+    ghost use Rattle.dwz_def_encoding.specs.Writing.{DeclarationShape};
+    ghost use Rattle.dwz_layout.specs.Keys.{AreCodes};
+    ghost use Rattle.dwz_layout.specs.Shapes.{IsCoded, shapes_in};
+
+    ghost Value = { List DeclarationShape };
+
+    ghost view = { λ s. shapes_in s.table };
+
+    ghost invariant = { λ s. IsCoded s.table × AreCodes s.codes.by_key (shapes_in s.table) };
+}
+
+// Appends a shape that isn't in the table, and whose key was made. After an error the table is as before.
+#[inline(never)]
+fn add(
+    table: &mut Table,
+    codes: &mut Codes,
+    tag: u16,
+    children: bool,
+    pairs: Pairs,
+) -> Result<u64, NoMemory>
+    requires coded { IsCoded table.old }
+    requires codes { AreCodes codes.old.by_key (shapes_in table.old) }
+    requires key { codes.old.key.items ≡ key_of (shape_of tag children pairs) }
+    requires is_new { code_in 1 (shapes_in table.old) (shape_of tag children pairs) ≡ None }
+    requires some_tag { 0 < tag }
+    requires plain { All IsPlainPair pairs }
+    requires bits { All HasBits pairs }
+    ensures coded { IsCoded table.new }
+    ensures codes { AreCodes codes.new.by_key (shapes_in table.new) }
+    ensures code { IfOk result (λ code. code_in 1 (shapes_in table.new) (shape_of tag children pairs) ≡ Some code) }
+    ensures shapes { OnOk result (shapes_in table.new ≡ with_shape (shapes_in table.old) (shape_of tag children pairs)) }
+    ensures err { OnErr result (table.new ≡ table.old) }
+{
+    codes.keep(table.len() as u64 + 1)?;
+    match table.append(tag, children, pairs) {
+        Ok(code) => Ok(code),
+        Err(failed) => {
+            codes.forget();
+            Err(failed)
+        }
+    }
+}
+
+impl Shapes {
+    /// No shapes.
+    pub fn new(alloc: Global) -> Shapes
+        ensures { result ≡ [] }
+    {
+        Shapes {
+            table: Table::new(alloc),
+            codes: Codes::new(alloc),
+        }
+    }
+
+    /// The code of a shape, which is added if it is new. The pairs stand in the room that is lent, and stay there where the shape is
+    /// known; where it is new, and after an error, there may be none.
+    #[inline(always)]
+    pub fn code_for(
+        &mut self,
+        alloc: Global,
+        tag: u16,
+        children: bool,
+        room: &mut Vec<Pair>,
+    ) -> Result<u64, NoMemory>
+        requires some_tag { 0 < tag }
+        requires plain { All IsPlainPair room.old.items }
+        ensures code { IfOk result (λ code. code_in 1 self.new (shape_of tag children room.old.items) ≡ Some code) }
+        ensures shapes { OnOk result (self.new ≡ with_shape self.old (shape_of tag children room.old.items)) }
+        ensures err { OnErr result (self.new ≡ self.old) }
+    {
+        match self.codes.code_of(tag, children, room.as_slice())? {
+            Some(code) => Ok(code),
+            None => {
+                let pairs = Pairs::new(mem::replace(room, Vec::new(alloc)));
+                add(&mut self.table, &mut self.codes, tag, children, pairs)
+            }
+        }
+    }
+
+    /// The bytes of their table.
+    pub fn table(&self, alloc: Global) -> Result<Vec<u8>, NoMemory>
+        ensures { IfOk result (λ table. table.items ≡ table_for self.now) }
+    {
+        let mut table = Vec::new(alloc);
+        self.table.write(&mut table)?;
+        Ok(table)
+    }
+}

@@ -1,0 +1,8 @@
+use Rattle.dwz_layout_input.proofs.Fits.{fit, made}
+use Rattle.dwz_layout_input.proofs.laws.listed_laws.Goals as goal
+
+pub returns-clause-fit : goal.returns-clause-fit
+returns-clause-fit c = fit
+
+pub returns-clause-made : goal.returns-clause-made
+returns-clause-made c = made

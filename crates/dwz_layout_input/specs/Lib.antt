@@ -1,0 +1,4 @@
+pub mod Shown
+pub mod Needs
+pub mod ListedLaws
+pub mod Settled

@@ -1,0 +1,101 @@
+//! What is settled of planned files.
+
+ghost use Rattle.std.specs.Prelude.{◌≡◌, ◌<◌, ◌^◌, length, map, IfOk};
+ghost use Rattle.dwz_def_tops.specs.Spots.{file_numbers};
+ghost use Rattle.dwz_def_readback.specs.Files.{imports_common};
+ghost use Rattle.dwz_law_layout.specs.Facts.{RunFacts, docs, move, units};
+ghost use Rattle.dwz_graph.specs.Files.{docs_of};
+ghost use Rattle.dwz_graph.specs.Indexed.{AreIndexes};
+ghost use Rattle.dwz_layout_order.specs.declared.orders.Settled.{Settled as Lent};
+ghost use Rattle.dwz_layout_order.specs.Ordered.{AreSettled};
+ghost use Rattle.dwz_law_layout.specs.Settled.{IsSettled};
+ghost use Rattle.dwz_layout_input.specs.Settled.{AreFactsOf, ArePlanned, Lends};
+
+use dwz_graph::{Graph, Index};
+use dwz_layout_order::{Marks, Settled, TopMark, changed_files, importing_files, marks_of};
+use dwz_model::NoMemory;
+use dwz_plan::Scope;
+use dwz_plan_files::{PlannedFiles, Spaces, part_lines, pinned_spaces, spaces_of_files};
+use std::alloc::Global;
+
+/// What is settled of files before their units are written.
+#[derive(Drop)]
+pub struct SettledFiles {
+    /// Which files share.
+    pub scope: Scope,
+    /// The tops of all files, and their plan.
+    pub planned: PlannedFiles,
+    /// Of each top whether it stays in its unit, and whether it is pinned.
+    pub marks: Vec<TopMark>,
+    /// Of each space whether it is pinned.
+    pub pinned: Vec<bool>,
+    /// The spaces of all files, and those that tops stand in.
+    pub spaces: Spaces,
+    /// For each partial unit the offset of the line table that its root names, if it names one (DWARF 5, 3.1.1).
+    pub lines: Vec<Option<u32>>,
+    /// For each file whether something of it moves. Those files are written.
+    pub written: Vec<bool>,
+    /// For each file whether it imports from the common file (3.2.5).
+    pub importing: Vec<bool>,
+}
+
+impl SettledFiles {
+    /// What is settled, borrowed.
+    pub fn as_settled(&self) -> Settled<'_>
+        ensures { Lends self.now result }
+    {
+        let marks = Marks {
+            tops: self.marks.as_slice(),
+            spaces: self.pinned.as_slice(),
+        };
+        Settled {
+            plan: &self.planned.plan,
+            marks,
+            rows: self.spaces.rows.as_slice(),
+            of_tops: self.spaces.of_tops.as_slice(),
+            lines: self.lines.as_slice(),
+            files: self.written.as_slice(),
+        }
+    }
+}
+
+/// All that is settled of files that share so, by their plan: which tops and spaces stay, the spaces of all files, the line tables of
+/// partial units, which files are written, and which of them import from the common file.
+pub fn settle_files(
+    alloc: Global,
+    graph: &Graph,
+    indexes: &[Index],
+    scope: Scope,
+    planned: PlannedFiles,
+) -> Result<SettledFiles, NoMemory>
+    requires few { length graph.now < 2 ^ 32 }
+    requires indexes { AreIndexes (docs_of graph.now) indexes.now }
+    requires planned { ArePlanned scope (docs_of graph.now) planned }
+    ensures scope { IfOk result (λ r. r.scope ≡ scope) }
+    ensures planned { IfOk result (λ r. r.planned ≡ planned) }
+    ensures settled { IfOk result (λ r. (f : RunFacts) (s : Lent) → AreFactsOf graph.now indexes.now scope planned f → Lends r s
+        → IsSettled f s) }
+    ensures importing { IfOk result (λ r. (f : RunFacts) → AreFactsOf graph.now indexes.now scope planned f
+        → r.importing.items ≡ map (imports_common (move f) (units f)) (file_numbers 0 (docs f))) }
+    ensures fits { IfOk result (λ r. (s : Lent) → Lends r s → AreSettled s) }
+{
+    let files = graph.files().len() as u32;
+    let tops = &planned.tops;
+    let plan = &planned.plan;
+    let marks = marks_of(alloc, tops, plan)?;
+    let pinned = pinned_spaces(alloc, graph, indexes)?;
+    let spaces = spaces_of_files(alloc, graph, indexes)?;
+    let lines = part_lines(alloc, graph, indexes, tops, plan)?;
+    let written = changed_files(alloc, tops, plan, files)?;
+    let importing = importing_files(alloc, tops, plan, files)?;
+    Ok(SettledFiles {
+        scope,
+        planned,
+        marks,
+        pinned,
+        spaces,
+        lines,
+        written,
+        importing,
+    })
+}

@@ -1,0 +1,25 @@
+//! Entries, images and written units by their numbers over all files.
+//!
+//! `starts` and `tops` count the entries of all files; `references` gives for each reference of a file the number of what stands for its
+//! target after (`image`: two look-ups and one difference, since alike tops have trees of one shape); `befores` counts texts and numbers of
+//! files. `UnitNumbers::make` numbers the units that are written, the common file's first; `owner` and `put_owners` say in which of them an
+//! entry is written.
+//!
+//! Laws: `count_laws`, `image_laws`, `owner_laws`, `reach_laws`.
+//!
+//! Read first: `specs/Names.antt`, `specs/Images.antt`, `specs/Owners.antt`.
+#![tactic(auto)]
+
+mod counted;
+mod firsts;
+mod images;
+mod laws;
+mod numbers;
+mod owners;
+
+pub use counted::{starts, tops};
+pub use firsts::{CountsBefore, befores};
+pub use images::{image, references};
+pub use laws::{count_laws, image_laws, owner_laws, reach_laws};
+pub use numbers::UnitNumbers;
+pub use owners::{owner, put_owners};

@@ -1,0 +1,12 @@
+pub mod Kept
+pub mod Lists
+pub mod Marks
+pub mod Named
+pub mod Orders
+pub mod Outline
+pub mod Parts
+pub mod Shown
+pub mod Sorts
+pub mod Spaces
+pub mod Ordered
+pub mod Steps

@@ -1,5 +1,0 @@
-pub mod TopSteps
-pub mod RowSteps
-pub mod OwnerSteps
-pub mod Fits
-pub mod TextSteps

@@ -1,5 +1,0 @@
-use Rattle.dwz_listed.proofs.OwnerSteps.{Owning}
-use Rattle.dwz_listed.proofs.owned.owners_of.Given as goal
-
-abbrev pub invariant-loop-number : goal.invariant-loop-number
-invariant-loop-number l = Owning l.files l.indexes l.plan l.numbers l.number l.owners.items

@@ -1,5 +1,0 @@
-use Rattle.dwz_listed.proofs.RowSteps.{FirstsTo}
-use Rattle.dwz_listed.proofs.rows.firsts_of.Given as goal
-
-abbrev pub invariant-loop-entry : goal.invariant-loop-entry
-invariant-loop-entry l = FirstsTo l.starts l.before-items l.entry l.firsts.items

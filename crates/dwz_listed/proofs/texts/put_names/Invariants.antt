@@ -1,6 +1,0 @@
-use Rattle.std.proofs.Common.{◌≡◌}
-use Rattle.dwz_listed.proofs.TextSteps.{named_to}
-use Rattle.dwz_listed.proofs.texts.put_names.Given as goal
-
-abbrev pub invariant-loop-i : goal.invariant-loop-i
-invariant-loop-i l = l.spaces ≡ named_to l.fn.spaces l.texts l.commons l.i

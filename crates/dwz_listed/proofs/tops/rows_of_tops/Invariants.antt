@@ -1,6 +1,0 @@
-use Rattle.std.proofs.Common.{◌≡◌, ◌++◌, drop}
-use Rattle.dwz_laid.specs.Listed.{top_rows}
-use Rattle.dwz_listed.proofs.tops.rows_of_tops.Given as goal
-
-abbrev pub invariant-loop-file : goal.invariant-loop-file
-invariant-loop-file l = l.rows.items ++ top_rows l.file (drop l.file l.indexes) ≡ top_rows 0 l.indexes

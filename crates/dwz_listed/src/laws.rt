@@ -1,9 +1,0 @@
-//! What the lists need is there.
-
-ghost use Rattle.dwz_listed.specs.ListedLaws.{FitLaw, MadeLaw};
-
-/// Files that are kept, their indexes and their plan are what the lists need. What is known of them is of the lists.
-pub fn listed_laws()
-    ensures fit { FitLaw }
-    ensures made { MadeLaw }
-{}

@@ -1,6 +1,0 @@
-use Rattle.std.proofs.Common.{◌∙◌}
-use Rattle.dwz_make.proofs.SameBytes.{same_bytes}
-use Rattle.dwz_make.proofs.bytes.same.Goals as goal
-
-pub returns : goal.returns
-returns c = c.eq.ensures ∙ same_bytes c.args.old.now c.args.new.now

@@ -1,5 +1,0 @@
-use Rattle.dwz_make.proofs.FirstFaults.{refused}
-use Rattle.dwz_make.proofs.laws.refused_laws.Goals as goal
-
-pub returns : goal.returns
-returns c = λ contents r is. refused contents r is

@@ -1,5 +1,0 @@
-use Rattle.dwz_make.proofs.MoveSteps.{Moving}
-use Rattle.dwz_make.proofs.moving.moved_rows.Given as goal
-
-abbrev pub invariant-loop-row : goal.invariant-loop-row
-invariant-loop-row l = Moving l.pruned l.fn.rows.items l.number l.row-iterator.rest.items l.moved.items

@@ -1,7 +1,0 @@
-use Rattle.std.proofs.Common.{◌≡◌, map, take}
-use Rattle.dwz_docs.specs.Units.{RawUnit}
-use Rattle.dwz_unit.specs.Rows.{units_of}
-use Rattle.dwz_make.proofs.numbers.unit_starts.Given as goal
-
-abbrev pub invariant-loop-n : goal.invariant-loop-n
-invariant-loop-n l = l.starts.items ≡ map (λ (u : RawUnit). u.at) (take l.n (units_of l.units))

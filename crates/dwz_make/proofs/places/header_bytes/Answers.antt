@@ -1,8 +1,0 @@
-use Rattle.dwz_make.proofs.UnitSteps.{is_other, is_type}
-use Rattle.dwz_make.proofs.places.header_bytes.Goals as goal
-
-pub returns : goal.returns
-returns c = λ k e. is_other k c.args.kind e c.if-kind-eq-TYPE.false
-
-pub returns-then-kind-eq-TYPE : goal.returns-then-kind-eq-TYPE
-returns-then-kind-eq-TYPE c = λ k e. is_type k c.args.kind e c.if-kind-eq-TYPE.true

@@ -1,5 +1,0 @@
-use Rattle.dwz_make.proofs.PruneSteps.{Keeping}
-use Rattle.dwz_make.proofs.pruned.prune_files.Given as goal
-
-abbrev pub invariant-loop-number : goal.invariant-loop-number
-invariant-loop-number l = Keeping l.graph l.known l.written l.prunes l.number l.pruned.items

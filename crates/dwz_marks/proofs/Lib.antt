@@ -1,8 +1,0 @@
-pub mod OperandNumbers
-pub mod UnitAttrs
-pub mod ListNames
-pub mod RowNames
-pub mod MarkSteps
-pub mod FileMarks
-pub mod FileSteps
-pub mod FilesKnown

@@ -1,0 +1,161 @@
+//! What binds a top: what an entry of it holds that says where it stands, or leads out of its unit.
+
+ghost use Rattle.std.specs.Prelude.{◌≡◌, ℕ, ◌<◌, ◌≤◌, List, Option, Ok, None, Some, drop, slice_index_or, IfOk};
+ghost use Rattle.dwz_def_tops.specs.Alike;
+ghost use Rattle.dwz_def_tops.specs.Alike.{attr_binds, binding_forms, entry_binds};
+ghost use Rattle.dwz_def_tops.specs.Spots.{EntryName, Top};
+ghost use Rattle.dwz_def_reading.specs.Rows.{has};
+ghost use Rattle.dwz_def_reading.specs.Units.{entries_in};
+ghost use Rattle.dwz_graph.specs.Rows.{IsEntryMeant, node_refs};
+ghost use Rattle.dwz_def_reading.specs.Documents.{Node, Value, attr_map, node_map};
+ghost use Rattle.dwz_def_reading.specs.Classes;
+ghost use Rattle.dwz_def_reading.specs.Meanings.{MeaningContext};
+ghost use Rattle.dwz_def_reading.specs.Meant.{attr_with, meaning};
+ghost use Rattle.dwz_graph.specs.Classes.{class_view};
+ghost use Rattle.dwz_graph.specs.Named.{value_refs};
+ghost use Rattle.dwz_graph.specs.Resolved.{stored};
+ghost use Rattle.dwz_move.specs.Bound;
+ghost use Rattle.dwz_move.specs.Bound.{AreInto, HasTops};
+ghost use Rattle.dwz_graph.specs.Names.{top_in};
+ghost use Rattle.dwz_unit.specs.Rows.{EntryRow, units_of};
+
+use crate::values::{SIBLING, is_entry, read_expression};
+use dwz_expr::Operand;
+use dwz_forms::Raw;
+use dwz_graph::{Class, class_of};
+use dwz_model::{NoMemory, Pair};
+use dwz_unit::{Units, Values, known_value};
+
+// DW_TAG_imported_unit.
+const IMPORTED_UNIT: u16 = 0x3d;
+
+/// The tops of a unit, by their numbers: from the first to before the end.
+#[derive(Clone, Copy, Debug, PartialEq, Eq)]
+pub struct TopRange {
+    pub first: u32,
+    pub end: u32,
+}
+
+// Whether a form binds: what it stores is an address, an index of one, an offset into another section, or an index of a list.
+#[inline(always)]
+#[tactic(auto, unfolding(dwz_codes::specs::Rows::has))]
+fn is_binding(form: u64) -> bool
+    ensures { result ≡ has form binding_forms }
+{
+    match form {
+        0x01 => true,
+        0x17 => true,
+        0x1b => true,
+        0x22 => true,
+        0x23 => true,
+        0x29 => true,
+        0x2a => true,
+        0x2b => true,
+        0x2c => true,
+        _ => false,
+    }
+}
+
+#[inline(always)]
+pub(crate) fn is_expression(class: Class) -> bool
+    ensures { result ≡ Bound.is_expression (class_view class) }
+{
+    match class {
+        Class::Expression => true,
+        _ => false,
+    }
+}
+
+// Whether a reference into that top, or into none, leaves the unit of these tops.
+#[inline(always)]
+fn leaves(own: &TopRange, into: Option<u32>) -> bool
+    ensures { (tops : List Top) (unit : ℕ) (s : EntryName) → HasTops tops unit own.now → into ≡ top_in s
+        → result ≡ Alike.leaves tops unit s }
+{
+    match into {
+        None => true,
+        Some(top) => top < own.first || top >= own.end,
+    }
+}
+
+// Whether what a value says binds the top that it stands in. The tops that references go into are given from `next` on.
+#[inline(always)]
+fn value_binds(
+    own: &TopRange,
+    into: &[Option<u32>],
+    next: usize,
+    end: u64,
+    pair: &Pair,
+    raw: &Raw,
+    operands: &mut Vec<Operand>,
+) -> Result<bool, NoMemory>
+    ensures { (s : MeaningContext ℕ) (at : ℕ) (v : Value ℕ) (tops : List Top) (unit : ℕ) (name : ℕ → EntryName) → HasTops tops unit own.now
+        → meaning s (stored at end pair.now raw.now) ≡ Ok v → AreInto name (drop next into.now) (value_refs v)
+        → IfOk result (λ b. b ≡ attr_binds tops unit (attr_map name (attr_with (stored at end pair.now raw.now) v))) }
+{
+    if is_binding(pair.form) {
+        return Ok(true);
+    }
+    let class = class_of(pair.form);
+    if is_entry(class) {
+        return Ok(leaves(own, top_at(into, next)));
+    }
+    if is_expression(class) {
+        let address = read_expression(raw, end, operands)?;
+        return Ok(address || !operands.is_empty());
+    }
+    Ok(false)
+}
+
+// The top that stands there, if one does.
+#[inline(always)]
+pub(crate) fn top_at(into: &[Option<u32>], at: usize) -> Option<u32>
+    ensures { result ≡ slice_index_or into.now at None }
+{
+    match into.get(at) {
+        Some(top) => *top,
+        None => None,
+    }
+}
+
+/// Whether what an entry holds binds the top that it stands in, which is one of these of its unit. The tops that its references go
+/// into are given in order.
+pub(crate) fn entry_binds(
+    units: &Units,
+    own: &TopRange,
+    into: &[Option<u32>],
+    i: u32,
+    operands: &mut Vec<Operand>,
+) -> Result<bool, NoMemory>
+    requires { i < entries_in (units_of units.now) }
+    ensures { (s : MeaningContext ℕ) (numbers : List ℕ) (row : EntryRow) (d : Node ℕ) (tops : List Top) (unit : ℕ) (name : ℕ → EntryName)
+        → HasTops tops unit own.now → IsEntryMeant (units_of units.now) s i numbers row d → AreInto name into.now (node_refs d)
+        → IfOk result (λ b. b ≡ entry_binds tops unit (node_map name d)) }
+{
+    if units.entry(i).tag == IMPORTED_UNIT {
+        return Ok(true);
+    }
+    let Values { pairs, mut cursor } = units.values(i);
+    let mut next = 0;
+    for pair in pairs {
+        let raw = known_value(&mut cursor, pair);
+        let end = cursor.at() as u64;
+        if pair.name == SIBLING {
+            continue;
+        }
+        if value_binds(own, into, next, end, pair, &raw, operands)? {
+            return Ok(true);
+        }
+        next += count_of(pair.form);
+    }
+    Ok(false)
+}
+
+// How many entries a value of that form names, if it doesn't bind.
+#[inline(always)]
+fn count_of(form: u64) -> usize
+    ensures few { result ≤ 1 }
+    ensures count { result ≡ Bound.count_of (Classes.class_of form) }
+{
+    if is_entry(class_of(form)) { 1 } else { 0 }
+}

@@ -1,0 +1,66 @@
+//! Values of entries, read once more.
+
+ghost use Rattle.std.specs.Prelude.{◌≡◌, ℕ, ◌-◌, Ok, length, IfOk};
+ghost use Rattle.dwz_forms.specs.RawValues.{raw_view};
+ghost use Rattle.dwz_def_reading.specs.Exprs.{Expression, expr_at};
+ghost use Rattle.dwz_def_reading.specs.Meanings;
+ghost use Rattle.dwz_def_reading.specs.Meanings.{MeaningContext, expr_context};
+ghost use Rattle.dwz_graph.specs.Classes.{class_view};
+ghost use Rattle.dwz_move.specs.Values;
+
+use dwz_expr::{Operand, read_into};
+use dwz_forms::Raw;
+use dwz_graph::Class;
+use dwz_model::{NoMemory, ReadErr};
+use std::alloc::AllocError;
+
+/// `DW_AT_sibling` (DWARF 5, 7.5.4).
+pub(crate) const SIBLING: u16 = 0x01;
+
+// `.debug_info`.
+const INFO: u8 = 1;
+
+/// The bytes of a value.
+#[inline(always)]
+pub(crate) fn bytes_of<'a>(raw: &Raw<'a>) -> &'a [u8]
+    ensures { result.now ≡ Meanings.bytes_of (raw_view raw.now) }
+{
+    match raw {
+        Raw::Bytes(bytes) => bytes,
+        Raw::Number(_) => &[],
+    }
+}
+
+/// Whether a value of that class is an entry.
+#[inline(always)]
+pub(crate) fn is_entry(class: Class) -> bool
+    ensures { result ≡ Values.is_entry (class_view class) }
+{
+    match class {
+        Class::UnitEntry => true,
+        Class::InfoEntry => true,
+        Class::CommonEntry => true,
+        _ => false,
+    }
+}
+
+/// Reads an expression that was read before, and ends at that place: its operands that name entries take the place of what stands in
+/// the row. Answers whether it has an address, or the index of one.
+pub(crate) fn read_expression(
+    raw: &Raw,
+    end: u64,
+    operands: &mut Vec<Operand>,
+) -> Result<bool, NoMemory>
+    ensures { (s : MeaningContext ℕ) (e : Expression) → expr_at (expr_context s 1)
+        (record { at = end - length (Meanings.bytes_of (raw_view raw.now)); rest = Meanings.bytes_of (raw_view raw.now) }) ≡ Ok e
+        → IfOk result (λ address. (address ≡ e.address) × (operands.new.items ≡ e.operands)) }
+{
+    let bytes = bytes_of(raw);
+    let at = end.saturating_sub(bytes.len() as u64);
+    operands.clear();
+    match read_into(operands, bytes, at, INFO) {
+        Ok(address) => Ok(address),
+        Err(ReadErr::NoMemory) => Err(AllocError),
+        Err(ReadErr::Refused(_)) => Ok(false),
+    }
+}

@@ -1,0 +1,178 @@
+//! What is gathered of the tops of each file by itself, by several workers, and put together in the order of the files.
+
+ghost use Rattle.std.specs.Prelude.{◌≡◌, ℕ, ◌+◌, ◌<◌, ◌^◌, List, length, slice_index_or, vec_len, IfOk, IfSome, OnOk};
+ghost use Rattle.dwz_law_files.specs.Across.{starts_at};
+ghost use Rattle.dwz_def_tops.specs.Spots.{tops_of, units_of};
+ghost use Rattle.dwz_graph.specs.Files.{docs_of};
+ghost use Rattle.dwz_graph.specs.Index.{Index};
+ghost use Rattle.dwz_graph.specs.Indexed.{AreIndexes};
+ghost use Rattle.dwz_move_files.specs.Named.{AreNamed};
+ghost use Rattle.dwz_def_reading.specs.Documents.{Doc};
+ghost use Rattle.dwz_move_files.specs.Drafts.{AreParts, IsDraft, IsFileDraft};
+
+use crate::draft::{Draft, gather, nothing, put_file};
+use dwz_graph::{Graph, Index};
+use dwz_model::NoMemory;
+use dwz_move::Named;
+use std::alloc::{AllocError, Global};
+use std::thread;
+use std::thread::Threads;
+
+// What is gathered of the tops of the file with a number.
+fn part_at(
+    alloc: Global,
+    graph: &Graph,
+    indexes: &[Index],
+    named: &Named,
+    k: usize,
+) -> Result<Draft, NoMemory>
+    requires at { k < length graph.now }
+    requires few { length graph.now < 2 ^ 32 }
+    requires indexes { AreIndexes (docs_of graph.now) indexes.now }
+    ensures { AreNamed (units_of (docs_of graph.now)) named.now
+        → IfOk result (IsFileDraft (docs_of graph.now) indexes.now k) }
+{
+    let files = graph.files();
+    let mut draft = nothing(alloc);
+    let mut operands = Vec::new(alloc);
+    put_file(
+        alloc,
+        &mut draft,
+        &files[k],
+        &indexes[k],
+        k as u32,
+        named,
+        &mut operands,
+    )?;
+    Ok(draft)
+}
+
+// Puts it into a slot, which is left empty where memory ran out.
+fn fill(
+    alloc: Global,
+    graph: &Graph,
+    indexes: &[Index],
+    named: &Named,
+    k: usize,
+    slot: &mut Option<Draft>,
+)
+    requires at { k < length graph.now }
+    requires few { length graph.now < 2 ^ 32 }
+    requires indexes { AreIndexes (docs_of graph.now) indexes.now }
+    ensures { AreNamed (units_of (docs_of graph.now)) named.now
+        → IfSome slot.new (IsFileDraft (docs_of graph.now) indexes.now k) }
+{
+    *slot = part_at(alloc, graph, indexes, named, k).ok();
+}
+
+// Fills the slots, of which there is one for each file.
+fn fill_slots<R: Threads + Sync>(
+    rt: &R,
+    alloc: Global,
+    graph: &Graph,
+    indexes: &[Index],
+    named: &Named,
+    workers: u32,
+    slots: &mut [Option<Draft>],
+)
+    requires len { length slots.old ≡ length graph.now }
+    requires few { length graph.now < 2 ^ 32 }
+    requires indexes { AreIndexes (docs_of graph.now) indexes.now }
+    requires workers { 0 < workers }
+    ensures { AreNamed (units_of (docs_of graph.now)) named.now → (k : ℕ) (d : _) → k < length slots.old
+        → IfSome (slice_index_or slots.new k d) (IsFileDraft (docs_of graph.now) indexes.now k) }
+{
+    let each = |k: usize, slot: &mut Option<Draft>|
+        requires { (k < length graph.now) × (length graph.now < 2 ^ 32) × AreIndexes (docs_of graph.now) indexes.now }
+        ensures { AreNamed (units_of (docs_of graph.entry.now)) named.entry.now
+            → IfSome slot.exit.now (IsFileDraft (docs_of graph.entry.now) indexes.entry.now k) }
+    { fill(alloc, graph, indexes, named, k, slot) };
+    thread::for_each_mut(rt, slots, workers as usize, &each);
+}
+
+// So many slots with nothing in them.
+fn empty_slots(alloc: Global, count: usize) -> Result<Vec<Option<Draft>>, NoMemory>
+    ensures { IfOk result (λ slots. vec_len slots ≡ count) }
+{
+    let mut slots = Vec::new(alloc);
+    for _ in 0..count {
+        slots.push(None)?;
+    }
+    Ok(slots)
+}
+
+// What is gathered of each file, by so many workers.
+fn parts_of<R: Threads + Sync>(
+    rt: &R,
+    alloc: Global,
+    graph: &Graph,
+    indexes: &[Index],
+    named: &Named,
+    workers: u32,
+) -> Result<Vec<Option<Draft>>, NoMemory>
+    requires few { length graph.now < 2 ^ 32 }
+    requires indexes { AreIndexes (docs_of graph.now) indexes.now }
+    requires workers { 0 < workers }
+    ensures len { IfOk result (λ parts. vec_len parts ≡ length graph.now) }
+    ensures are { AreNamed (units_of (docs_of graph.now)) named.now
+        → IfOk result (λ parts. AreParts (docs_of graph.now) indexes.now 0 parts.items) }
+{
+    let mut slots = empty_slots(alloc, graph.files().len())?;
+    fill_slots(
+        rt,
+        alloc,
+        graph,
+        indexes,
+        named,
+        workers,
+        slots.as_mut_slice(),
+    );
+    Ok(slots)
+}
+
+// Puts what is gathered of a file behind what is gathered of those before it.
+fn put_part(draft: &mut Draft, mut part: Draft) -> Result<(), NoMemory>
+    ensures { (docs : List (Doc ℕ)) (count more : ℕ) → IsDraft docs 0 count draft.old → IsDraft docs count more part
+        → OnOk result (IsDraft docs 0 (count + more) draft.new) }
+{
+    draft.rows.append(&mut part.rows)?;
+    draft.binds.append(&mut part.binds)?;
+    draft.pairs.append(&mut part.pairs)
+}
+
+// The parts of all files together; one that isn't there is for want of memory.
+fn join_parts(alloc: Global, parts: Vec<Option<Draft>>) -> Result<Draft, NoMemory>
+    ensures { (docs : List (Doc ℕ)) (indexes : List Index) → AreParts docs indexes 0 parts.items
+        → IfOk result (IsDraft docs 0 (starts_at docs indexes (vec_len parts)).top) }
+{
+    let mut draft = nothing(alloc);
+    for part in parts {
+        let Some(part) = part else {
+            return Err(AllocError);
+        };
+        put_part(&mut draft, part)?;
+    }
+    Ok(draft)
+}
+
+/// What is gathered of the tops of all files, by at most so many workers. How many there are makes no difference.
+pub(crate) fn gather_by<R: Threads + Sync>(
+    rt: &R,
+    alloc: Global,
+    graph: &Graph,
+    indexes: &[Index],
+    named: &Named,
+    workers: u32,
+) -> Result<Draft, NoMemory>
+    requires few { length graph.now < 2 ^ 32 }
+    requires indexes { AreIndexes (docs_of graph.now) indexes.now }
+    requires workers { 0 < workers }
+    ensures { AreNamed (units_of (docs_of graph.now)) named.now
+        → IfOk result (IsDraft (docs_of graph.now) 0 (length (tops_of (units_of (docs_of graph.now))))) }
+{
+    if workers == 1 || graph.files().len() < 2 {
+        return gather(alloc, graph, indexes, named);
+    }
+    let parts = parts_of(rt, alloc, graph, indexes, named, workers)?;
+    join_parts(alloc, parts)
+}

@@ -1,5 +1,0 @@
-pub mod FirstLemmas
-pub mod ValueLemmas
-pub mod EntryLemmas
-pub mod UnitLemmas
-pub mod ListedLemmas

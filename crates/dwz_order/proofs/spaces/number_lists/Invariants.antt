@@ -1,5 +1,0 @@
-use Rattle.dwz_order.proofs.ListNumbers.{Numbering}
-use Rattle.dwz_order.proofs.spaces.number_lists.Given as goal
-
-abbrev pub invariant-loop-k : goal.invariant-loop-k
-invariant-loop-k l = Numbering l.rows l.texts l.k l.lists.items l.seen

@@ -1,5 +1,0 @@
-use Rattle.dwz_ordered.proofs.ChangedLemmas.{Flagged}
-use Rattle.dwz_ordered.proofs.changed.changed_files.Given as goal
-
-abbrev pub invariant-loop-top : goal.invariant-loop-top
-invariant-loop-top l = Flagged l.tops.rows l.plan.homes l.tops.files_of_units l.files l.top l.flags.items

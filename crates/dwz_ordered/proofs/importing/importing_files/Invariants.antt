@@ -1,6 +1,0 @@
-use Rattle.std.proofs.Common.{take}
-use Rattle.dwz_ordered.proofs.ImportingLemmas.{Flagged}
-use Rattle.dwz_ordered.proofs.importing.importing_files.Given as goal
-
-abbrev pub invariant-loop-part : goal.invariant-loop-part
-invariant-loop-part l = Flagged l.files l.tops.files_of_units (take l.part-index l.plan.partials) l.flags.items

@@ -1,6 +1,0 @@
-use Rattle.std.proofs.Common.{◌≡◌, ℕ, ◌<◌, Some, slice_get}
-use Rattle.dwz_index.specs.declared.index.TopEntry.{TopEntry}
-use Rattle.dwz_outline.proofs.ranges.run_length.Given as goal
-
-abbrev pub invariant-loop-k : goal.invariant-loop-k
-invariant-loop-k l = (j : ℕ) (x : TopEntry) → j < l.k → slice_get l.tops j ≡ Some x → x.unit ≡ l.unit

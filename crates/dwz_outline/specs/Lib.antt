@@ -1,4 +1,0 @@
-pub mod Ranges
-pub mod Drafts
-pub mod Rows
-pub mod Outlines

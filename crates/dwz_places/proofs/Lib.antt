@@ -1,9 +1,0 @@
-pub mod NumberLemmas
-pub mod PlainLemmas
-pub mod PartLemmas
-pub mod KnownLemmas
-pub mod WalkLemmas
-pub mod LeftLemmas
-pub mod SizeLemmas
-pub mod NameLemmas
-pub mod LaidLemmas

@@ -1,7 +1,0 @@
-use Rattle.std.proofs.Common.{◌≡◌, []}
-use Rattle.dwz_places.specs.Ways.{holder_view}
-use Rattle.dwz_places.proofs.NameLemmas.{NameLeft}
-use Rattle.dwz_places.proofs.sizes.measure_name.Given as goal
-
-abbrev pub invariant-loop-pair : goal.invariant-loop-pair
-invariant-loop-pair l = record { left : NameLeft l.known (holder_view l.holder) l.fn.space l.pairs l.pair-index l.cursor; none : l.room.pairs.items ≡ [] }

@@ -1,0 +1,9 @@
+pub mod Known
+pub mod Names
+pub mod Pinned
+pub mod Places
+pub mod Rules
+pub mod Fits
+pub mod Laws
+pub mod Roots
+pub mod Steps

@@ -1,5 +1,0 @@
-use Rattle.dwz_prunable.proofs.FileLemmas.{FilesLeft}
-use Rattle.dwz_prunable.proofs.files.prunable_files.Given as goal
-
-abbrev pub invariant-loop-number : goal.invariant-loop-number
-invariant-loop-number l = let files = l.file-items in FilesLeft l.graph files l.number l.flags.items

@@ -1,2 +1,0 @@
-pub mod FactsAre
-pub mod SettledParts

@@ -1,5 +1,0 @@
-pub mod NumberSteps
-pub mod RowEntries
-pub mod FilePlaces
-pub mod SectionNumbers
-pub mod LawLemmas

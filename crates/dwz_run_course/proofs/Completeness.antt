@@ -1,0 +1,76 @@
+-- What follows of how a run ended.
+use Rattle.std.proofs.Common.{◌≡◌, ℕ, List, [], ◌∷◌, Option, Some, None, refl, sym, subst, ◌∙◌, inl, inr}
+use Rattle.std.specs.Prelude.{IfSome}
+use Rattle.dwz_model.specs.declared.fault.Refusal.{Refusal}
+use Rattle.dwz_outside.specs.Counts.{Rose}
+use Rattle.dwz_outside.specs.Store.{Store}
+use Rattle.dwz_outside.specs.Told.{ConsoleSeen, FilesSeen}
+use Rattle.dwz_words.specs.declared.options.Options.{Options}
+use Rattle.dwz_run_course.specs.declared.output.Output.{Output}
+use Rattle.dwz_run_course.specs.declared.status.Status.{Status}
+use Rattle.dwz_run_course.specs.declared.status.Status.TheVariants.{Done, Refused, Usage, ReadFault, WriteFault, NoMemory, ConsoleFault}
+use Rattle.dwz_run_course.specs.Demo.{asked}
+use Rattle.dwz_run_course.specs.Ends.{AreContents, AreHeld, AsksFor, Came, Complete, Ends, EndsFor, Refuses, Says, SaysNothing, before_text}
+use Rattle.dwz_run_course.specs.Gets.{gets}
+use Rattle.dwz_run_course.specs.Outcome.{Giving, Outcome, refuses, writes}
+
+-- one thing at most comes of options and contents
+abbrev One : Giving → Type 0
+One gives = (o : Options) (contents : List (List ℕ)) (a b : Outcome) → gives o contents a → gives o contents b → a ≡ b
+
+same_some : (o : Option (List (List ℕ))) (a b : List (List ℕ)) → o ≡ Some a → o ≡ Some b → a ≡ b
+same_some o a b one other = cc
+
+-- the contents that are there are those that are asked for
+same_contents : (makes : ℕ → List (List ℕ)) (demo : Option ℕ) (old : FilesSeen) (names seen there : List (List ℕ)) → AreContents makes demo old names seen → AreHeld makes demo old names there
+    → seen ≡ there
+same_contents makes None old names seen there are held =
+    let here : gets held.0 0 names ≡ Some seen = subst (λ (h : Option Store). IfSome h (λ store. gets store 0 names ≡ Some seen)) held.1 are in
+    same_some (gets held.0 0 names) seen there here held.2
+same_contents makes (Some n) old names seen there are held = are ∙ sym held
+
+same_outcome : (makes : ℕ → List (List ℕ)) (gives : Giving) (words : List (List ℕ)) (old : FilesSeen) (a b : Outcome) → One gives → Came makes gives words old a → AsksFor makes gives words old b
+    → a ≡ b
+same_outcome makes gives words old a b one came s =
+    let o : came.options ≡ s.options = came.lawful.values ∙ sym s.lawful.values in
+    let are : AreContents makes s.options.demo old s.options.files came.contents = subst (λ (x : Options). AreContents makes x.demo old x.files came.contents) o came.are in
+    let c : came.contents ≡ s.contents = same_contents makes s.options.demo old s.options.files came.contents s.contents are s.held in
+    one (asked s.options) s.contents a b
+    (subst (λ (x : List (List ℕ)). gives (asked s.options) x a) c (subst (λ (x : Options). gives (asked x) came.contents a) o came.given)) s.given
+
+-- an outcome isn't both
+abbrev IsWriting : Outcome → Type 0
+IsWriting (writes out) = Unit {0}
+IsWriting (refuses r) = ⊥
+
+not_both : (out : Output) (r : Refusal) → writes out ≡ refuses r → ⊥
+not_both out r is = subst IsWriting is tt
+
+pub unwritten : (shown shown_new : ConsoleSeen) (text : List ℕ) → SaysNothing shown shown_new text → Rose shown.faults shown_new.faults
+unwritten shown shown_new [] says = absurd says
+unwritten shown shown_new (byte ∷ text) says = says.rose
+
+module _ (makes : ℕ → List (List ℕ)) (gives : Giving) (words : List (List ℕ)) (old new : FilesSeen) (shown shown_new : ConsoleSeen) (one : One gives) where
+  pub complete : (status : Status) → Ends makes gives words old new shown shown_new status → Complete makes gives words old new shown shown_new status
+  complete Done e out s read write console = inl refl
+  complete Refused e out s read write console = absurd (not_both out e.files.0 (sym (same_outcome makes gives words old (refuses e.files.0) (writes out) one e.files.1 s)))
+  complete Usage e out s read write console = absurd (e.files.0 s.options s.lawful)
+  complete ReadFault e out s read write console = absurd (read e.files.4.rose)
+  complete WriteFault e out s read write console = absurd (write e.files.3.fault.rose)
+  complete NoMemory e out s read write console = inr refl
+  complete ConsoleFault e out s read write console = absurd (console (unwritten shown shown_new e.text e.console))
+
+  pub refuses_all : (status : Status) → Ends makes gives words old new shown shown_new status → Refuses makes gives words old new status
+  refuses_all Done e r s read = absurd (not_both e.files.0 r (same_outcome makes gives words old (writes e.files.0) (refuses r) one e.files.1 s))
+  refuses_all Refused e r s read = inl refl
+  refuses_all Usage e r s read = absurd (e.files.0 s.options s.lawful)
+  refuses_all ReadFault e r s read = absurd (read e.files.4.rose)
+  refuses_all WriteFault e r s read = absurd (not_both e.files.0 r (same_outcome makes gives words old (writes e.files.0) (refuses r) one e.files.1 s))
+  refuses_all NoMemory e r s read = inr refl
+  refuses_all ConsoleFault e r s read = absurd (not_both e.files.0 r (same_outcome makes gives words old (writes e.files.0) (refuses r) one e.files.1 s))
+
+-- how a run ended, and then said so
+pub ends_of : (makes : ℕ → List (List ℕ)) (gives : Giving) (words : List (List ℕ)) (old new : FilesSeen) (shown shown_new : ConsoleSeen) (first status : Status) (text : List ℕ)
+    → EndsFor makes gives words old new first text → before_text status ≡ first → Says shown shown_new status text → Ends makes gives words old new shown shown_new status
+ends_of makes gives words old new shown shown_new first status text files is says =
+    record { text = text; files = subst (λ (s : Status). EndsFor makes gives words old new s text) (sym is) files; console = says }

@@ -1,0 +1,13 @@
+-- Inner: what an answer of the work says.
+use Rattle.std.specs.Prelude.{◌≤◌, Result, Ok, Err}
+use Rattle.dwz_model.specs.declared.fault.GraphErr.{GraphErr}
+use Rattle.dwz_model.specs.declared.fault.GraphErr.TheVariants.{NoMemory, Refused}
+use Rattle.dwz_run_course.specs.declared.output.Output.{Output}
+use Rattle.dwz_run_course.specs.Demo.{HasLengths}
+use Rattle.dwz_run_course.specs.Outcome.{Outcome, refuses, writes}
+
+-- an output or a refusal is what the work gives, and a refusal is of a section; want of memory is always an answer
+abbrev pub IsAnswer : (Outcome → Type 0) → Result Output GraphErr → Type 0
+IsAnswer Is (Ok out) = Is (writes out) × HasLengths out.summary
+IsAnswer Is (Err (Refused r)) = Is (refuses r) × (r.section ≤ 9)
+IsAnswer Is (Err NoMemory) = Unit {0}

@@ -1,0 +1,76 @@
+-- What is new in each file is new in the files of the run, with as many partial units as the plan has; and so is the common file.
+use Rattle.std.proofs.Common.{[], ◌++◌, ◌+◌, ◌∙◌, ◌∷◌, ◌≡◌, Bool, List, Option, ℕ, ap, arith, inl, inr, length, subst, suc, sym}
+use Rattle.std.specs.List.{range_with_len}
+use Rattle.std.proofs.lemmas.List.{length-map}
+use Rattle.dwz_model.specs.declared.sections.Sections.{Sections}
+use Rattle.dwz_def_tops.specs.Lists.{Nth}
+use Rattle.dwz_def_tops.specs.Alike.{TopScope}
+use Rattle.dwz_def_tops.specs.Deciding.{alike_test}
+use Rattle.dwz_def_tops.specs.Spots.{units_of}
+use Rattle.dwz_def_tops.proofs.FileNumbers.{numbers_long}
+use Rattle.dwz_def_plan.specs.Gain.{gain_rule}
+use Rattle.dwz_def_plan.specs.Plan.{partials as unit_partials}
+use Rattle.dwz_def_readback.specs.Back.{run_of}
+use Rattle.dwz_def_readback.specs.Files.{Run, Stored}
+use Rattle.dwz_def_output.specs.Written.{stored_of}
+use Rattle.dwz_plan.specs.declared.plan.Scope.{Scope}
+use Rattle.dwz_plan.specs.Shows.{shown_part}
+use Rattle.dwz_plan.proofs.BridgeLemmas.{file_numbers_are}
+use Rattle.dwz_plan_files.specs.Rules.{alike_scope, rule_by}
+use Rattle.dwz_graph.specs.Files.{docs_of}
+use Rattle.dwz_law_layout.specs.Facts.{AreFacts, RunFacts, docs, move, rule, run, units}
+use Rattle.dwz_run_files.specs.declared.prepared.PreparedFiles.{PreparedFiles}
+use Rattle.dwz_run_files.specs.Ready.{AreFactsOf}
+use Rattle.dwz_def_output.specs.declared.new_file.NewFile.{NewFile}
+use Rattle.dwz_def_output.specs.NewFiles.{AreNew, IsNewCommon, IsNewOrOld}
+use Rattle.dwz_run_files.specs.Works.{AreNewFiles}
+
+pub parts_many : (f : RunFacts) → AreFacts f → length f.planned.partials ≡ length (move f).parts
+parts_many f facts =
+    let all = unit_partials (rule f) (units f) (range_with_len 0 (length (docs f))) in
+    ap length (sym facts.shows.partials)
+    ∙ length-map all (shown_part (length (docs f)))
+    ∙ ap (λ (numbers : List ℕ). length (unit_partials (rule f) (units f) numbers)) (sym (file_numbers_are 0 (docs f)))
+
+-- the run of files in that scope
+abbrev run_with : List (List ℕ) → TopScope → Stored → Run
+run_with contents scope input =
+    run_of (gain_rule (alike_test scope (units_of (docs_of contents))) (units_of (docs_of contents))) (docs_of contents) input
+
+module _ (contents : List (List ℕ)) (prunes : List Bool) (sharing : Scope) (p : PreparedFiles) (f : RunFacts)
+    (shares : p.run.settled.scope ≡ sharing) (of : AreFactsOf contents prunes p f) where
+  abbrev run_made : Run
+  run_made = run_of (rule_by sharing (docs_of contents)) (docs_of contents) (stored_of contents prunes)
+
+  same_run : run f ≡ run_made
+  same_run =
+      let scope : f.scope ≡ alike_scope sharing = of.scope_is ∙ ap alike_scope shares in
+      (λ i. run_with (of.contents_are i) (scope i) (of.input_is i))
+
+  pub is_new_common : (common : Option Sections) → IsNewCommon (run f) common → IsNewCommon run_made common
+  is_new_common common is = subst (λ (r : Run). IsNewCommon r common) same_run is
+
+  pub are_new : AreFacts f → (made : List (Option NewFile)) (partials : ℕ) → AreNewFiles (run f) made
+      → partials ≡ length f.planned.partials → AreNew run_made made partials
+  are_new facts made partials are parts =
+      let many : length (docs f) ≡ length made = sym (are.many ∙ numbers_long 0 (docs f)) in
+      subst (λ (r : Run). AreNew r made partials) same_run (record {
+        files = file_numbers_are 0 (docs f) ∙ ap (range_with_len 0) many;
+        each = are.each;
+        parts = parts ∙ parts_many f facts;
+      })
+
+-- ---- one file after another
+
+abbrev pub EachIs : Run → ℕ → List (Option NewFile) → Type 0
+EachIs r start made = (file : ℕ) (new : Option NewFile) → Nth start made file new → IsNewOrOld r file new
+
+pub each_push : (r : Run) (start : ℕ) (made : List (Option NewFile)) (new : Option NewFile) (n : ℕ) → EachIs r start made
+    → start + length made ≡ n → IsNewOrOld r n new → EachIs r start (made ++ new ∷ [])
+each_push r start [] new n each at is file other (inl here) =
+    let same : n ≡ file = omega (arith, at, here.0) in
+    subst (λ (o : Option NewFile). IsNewOrOld r file o) here.1 (subst (λ (k : ℕ). IsNewOrOld r k new) same is)
+each_push r start [] new n each at is file other (inr later) = absurd later
+each_push r start (y ∷ made) new n each at is file other (inl here) = each file other (inl here)
+each_push r start (y ∷ made) new n each at is file other (inr later) =
+    each_push r (suc start) made new n (λ g o nth. each g o (inr nth)) (omega arith) is file other later

@@ -1,0 +1,97 @@
+-- The uses that are counted in the order of a file are those of its units after, since the order shows these while no text is taken out.
+use Rattle.std.proofs.Common.{◌≡◌, ℕ, zero, suc, ◌+◌, All, IsSome, List, [], ◌∷◌, length, Some, None, slice_get, take, sym, subst, ◌∙◌}
+use Rattle.std.proofs.Common.{arith}
+use Rattle.dwz_def_reading.specs.Lists.{In}
+use Rattle.dwz_def_reading.specs.Texts.{text_at}
+use Rattle.dwz_def_reading.proofs.ListFacts.{got_in, got_map}
+use Rattle.dwz_def_tops.specs.Shown.{units_keys}
+use Rattle.dwz_def_tops.proofs.Members.{in_filter_from}
+use Rattle.dwz_def_tops.specs.Spots.{EntryName, file_numbers}
+use Rattle.dwz_def_images.specs.Units.{changes, out_units}
+use Rattle.dwz_def_encoding.specs.Placing.{FileFit, with_keys}
+use Rattle.dwz_def_encoding.specs.Pruned.{units_uses}
+use Rattle.dwz_def_readback.specs.Files.{formed_by}
+use Rattle.dwz_def_readback.specs.Files.{file_forms, formed, sources, tells}
+use Rattle.dwz_def_readback.specs.Sound.{FewTexts}
+use Rattle.dwz_layout.specs.declared.known.EntryTable.{EntryTable}
+use Rattle.dwz_layout.specs.declared.order.UnitItems.{UnitItems}
+use Rattle.dwz_encode.specs.Shown.{Keys, ShowUnits, unit_count}
+use Rattle.dwz_law_layout.specs.Fitted.{KnowFiles, KnowUnits, Unfitted}
+use Rattle.dwz_law_layout.proofs.FileFits.{files_fit}
+use Rattle.dwz_layout_order.specs.declared.orders.Settled.{Settled}
+use Rattle.dwz_law_layout.specs.Facts.{RunFacts, docs, files_written, move, run, units}
+use Rattle.dwz_law_layout.specs.Listed.{TextsAt}
+use Rattle.dwz_law_layout.specs.Named.{keys}
+use Rattle.dwz_law_layout.specs.Unfitted.{before_forms, unfitted_file}
+use Rattle.dwz_law_layout.proofs.FilesKnown.{run_known}
+use Rattle.dwz_encode_texts.specs.Used.{order_uses}
+use Rattle.dwz_encode_texts.proofs.NamedUses.{named_uses}
+use Rattle.dwz_encode_texts.proofs.ShownUses.{shown_uses}
+use Rattle.dwz_run_files.specs.Prepared.{ArePrepared, IsOrdered}
+use Rattle.dwz_run_files.specs.Whole.{StandWhole}
+use Rattle.dwz_run_files.specs.MovedLaws.{UsesLaw}
+use Rattle.dwz_run_files.proofs.FilesSay.{formed_say}
+
+-- what is known of the units of a file, the first of which has that number
+abbrev Know : Keys EntryName → EntryTable → ℕ → List UnitItems → Unfitted → Type 0
+Know names k here order x = KnowUnits names k (with_keys x.forms (units_keys x.units)) x.texts here order x.units
+
+-- so of the file with a number among those that are written
+know_at : (names : Keys EntryName) (k : EntryTable) (here : ℕ) (orders : List (List UnitItems)) (files : List Unfitted)
+    → KnowFiles names k here orders files
+    → (i : ℕ) (order : List UnitItems) (x : Unfitted) → slice_get orders i ≡ Some order → slice_get files i ≡ Some x
+    → Know names k (here + unit_count (take i orders)) order x
+unfolding unit_count
+know_at names k here [] files known i order x e g = absurd cc
+know_at names k here (a ∷ orders) [] known i order x e g = absurd known
+know_at names k here (a ∷ orders) (y ∷ files) known zero order x e g =
+    let none : here ≡ here + 0 = omega arith in
+    let order_is : a ≡ order = cc in
+    let file_is : y ≡ x = cc in
+    subst (λ (n : ℕ). Know names k n order x) none
+    (subst (λ (w : List UnitItems). Know names k here w x) order_is (subst (Know names k here a) file_is known.0))
+know_at names k here (a ∷ orders) (y ∷ files) known (suc i) order x e g =
+    let far : here + length a + unit_count (take i orders) ≡ here + (length a + unit_count (take i orders)) = omega arith in
+    subst (λ (n : ℕ). Know names k n order x) far (know_at names k (here + length a) orders files known.1 i order x e g)
+
+-- the units of a file after, before their values have forms
+abbrev pub file_keys : RunFacts → ℕ → FileFit EntryName
+file_keys f n = with_keys (file_forms (run f) n) (units_keys (out_units (move f) (units f) n))
+
+module _ (f : RunFacts) (s : Settled) (t : TextsAt) (k : EntryTable) (orders : List (List UnitItems)) (p : ArePrepared f s t k orders)
+    (stand : StandWhole f k orders) where
+  pub units_known : (n rank first : ℕ) (order : List UnitItems) → IsOrdered f orders n rank first order
+      → KnowUnits (keys f) k (file_keys f n) None first order (out_units (move f) (units f) n)
+  units_known n rank first order is =
+      let known = run_known f t k s p.facts p.listed p.settled orders p.ordered (λ n. None) stand.known in
+      let x = unfitted_file f (λ n. None) n in
+      let there : slice_get (before_forms f (λ n. None)) (suc rank) ≡ Some x =
+      got_map (unfitted_file f (λ n. None)) (files_written f) rank n is.file in
+      let own = know_at (keys f) k 0 orders (before_forms f (λ n. None)) known (suc rank) order x is.order_is there in
+      let begins : 0 + unit_count (take (suc rank) orders) ≡ first =
+      (let zero_first : 0 + unit_count (take (suc rank) orders) ≡ unit_count (take (suc rank) orders) = omega arith in
+      zero_first ∙ sym is.first_is) in
+      subst (λ (n : ℕ). Know (keys f) k n order x) begins own
+
+  units_shown : (n rank first : ℕ) (order : List UnitItems) → IsOrdered f orders n rank first order
+      → ShowUnits (keys f) k first order (formed (run f) n)
+  unfolding formed_by
+  units_shown n rank first order is =
+      (files_fit (keys f) k first (order ∷ []) (unfitted_file f (λ n. None) n ∷ []) (units_known n rank first order is, tt)).0
+
+  pub uses_are : (n rank first : ℕ) (order : List UnitItems) → IsOrdered f orders n rank first order
+      → order_uses k first order ≡ units_uses (formed (run f) n)
+  uses_are n rank first order is = shown_uses (keys f) k first order (formed (run f) n) (units_shown n rank first order is)
+
+  uses_named : FewTexts (run f) → (n rank first : ℕ) (order : List UnitItems) → IsOrdered f orders n rank first order
+      → All (λ used. IsSome (text_at (sources (run f) n).strs used)) (order_uses k first order)
+  uses_named few n rank first order is =
+      let there : In n (file_numbers 0 (docs f)) =
+      (in_filter_from (changes (move f) (units f)) n (file_numbers 0 (docs f)) (got_in (files_written f) rank n is.file)).0 in
+      let say = formed_say f p.facts p.read few n there in
+      subst (λ (w : List ℕ). All (λ used. IsSome (text_at (sources (run f) n).strs used)) w) (sym (uses_are n rank first order is))
+      (named_uses (tells (run f) n) (formed (run f) n) say)
+
+pub order_uses_are : UsesLaw
+order_uses_are = λ f s t k orders p stand few n rank first order is.
+    (uses_are f s t k orders p stand n rank first order is, uses_named f s t k orders p stand few n rank first order is)

@@ -1,0 +1,120 @@
+//! What is new in all files, by several threads. Files differ much in size, so each thread has every so many of them.
+
+ghost use Rattle.std.specs.Prelude.{◌≡◌, ◌<◌, ◌≤◌, None, length, map, slice_index_or, IfOk};
+ghost use Rattle.std.specs.Vec.Iter.{into_iter_items};
+ghost use Rattle.dwz_def_readback.specs.Files.{Run};
+ghost use Rattle.dwz_law_layout.specs.Facts.{RunFacts, run};
+ghost use Rattle.dwz_run_files.specs.Lanes.{AreEvery, AreLanes};
+ghost use Rattle.dwz_run_files.specs.Works.{AreNewFiles, IsWork};
+
+use crate::sections::new_or_old;
+use crate::work::LaidRun;
+use dwz_def_output::NewFile;
+use dwz_model::NoMemory;
+use std::alloc::Global;
+use std::collections::VecDeque;
+use std::thread;
+use std::thread::Threads;
+use std::vec::IntoIter;
+
+// What one thread made of its files, in order.
+type Lane = IntoIter<Option<NewFile>>;
+
+// The rank of the file with a number, if it is written.
+#[inline(always)]
+fn rank_at(ranks: &[Option<u32>], number: usize) -> Option<u32>
+    ensures { result ≡ slice_index_or ranks.now number None }
+{
+    match ranks.get(number) {
+        Some(rank) => *rank,
+        None => None,
+    }
+}
+
+// What is new in the file with that number, and in every so many files behind it.
+fn every(
+    alloc: Global,
+    work: &LaidRun,
+    first: usize,
+    step: usize,
+) -> Result<Vec<Option<NewFile>>, NoMemory>
+    requires work { (f : RunFacts) × IsWork f work.now }
+    requires step { (0 < step) × (step ≤ 64) }
+    ensures { (f : RunFacts) → IsWork f work.now → IfOk result (λ made. AreEvery (run f) step first made.items) }
+{
+    let ranks = work.prepared.ordered.ranks.as_slice();
+    let mut made = Vec::with_capacity(alloc, ranks.len().div_ceil(step))?;
+    let mut number = first;
+    while number < ranks.len() {
+        let rank = rank_at(ranks, number);
+        let new = new_or_old(alloc, work, number, rank)?;
+        made.push(new)?;
+        number += step;
+    }
+    Ok(made)
+}
+
+// What so many threads make: the first has the first file, the next the file behind, and each every so many files from there on.
+fn lanes<R: Threads + Sync>(
+    rt: &R,
+    alloc: Global,
+    work: &LaidRun,
+    step: usize,
+) -> Result<VecDeque<Lane>, NoMemory>
+    requires work { (f : RunFacts) × IsWork f work.now }
+    requires step { (0 < step) × (step ≤ 64) }
+    ensures len { IfOk result (λ lanes. length lanes.items ≡ step) }
+    ensures each { (f : RunFacts) → IsWork f work.now → IfOk result (λ lanes. AreLanes (run f) step 0 (map into_iter_items lanes.items)) }
+{
+    let made = thread::map_indices(rt, alloc, step, &|first| every(alloc, work, first, step))?;
+    let mut lanes = VecDeque::with_capacity(alloc, step)?;
+    for lane in made {
+        lanes.push_back(lane?.into_iter())?;
+    }
+    Ok(lanes)
+}
+
+// What lanes have of so many files, in order of the files: the lanes take turns.
+fn take_turns(
+    alloc: Global,
+    mut lanes: VecDeque<Lane>,
+    count: usize,
+) -> Result<Vec<Option<NewFile>>, NoMemory>
+    requires lanes { (r : Run) × AreLanes r (length lanes.items) 0 (map into_iter_items lanes.items) × (count ≡ length r.files) }
+    requires some { 0 < length lanes.items }
+    ensures { (r : Run) → AreLanes r (length lanes.items) 0 (map into_iter_items lanes.items) → count ≡ length r.files
+        → IfOk result (λ made. AreNewFiles r made.items) }
+{
+    let mut made = Vec::with_capacity(alloc, count)?;
+    for _number in 0..count {
+        let Some(mut lane) = lanes.pop_front() else {
+            unreachable!();
+        };
+        let Some(new) = lane.next() else {
+            unreachable!();
+        };
+        made.push(new)?;
+        lanes.push_back(lane)?;
+    }
+    Ok(made)
+}
+
+/// What is new in each file, by at most so many threads. With one file or one worker no thread is started.
+pub(crate) fn new_files<R: Threads + Sync>(
+    rt: &R,
+    alloc: Global,
+    work: &LaidRun,
+    workers: u32,
+) -> Result<Vec<Option<NewFile>>, NoMemory>
+    requires work { (f : RunFacts) × IsWork f work.now }
+    requires workers { (0 < workers) × (workers ≤ 64) }
+    ensures { (f : RunFacts) → IsWork f work.now → IfOk result (λ made. AreNewFiles (run f) made.items) }
+{
+    let count = work.prepared.ordered.ranks.len();
+    let step = count.min(workers as usize);
+    if step < 2 {
+        return every(alloc, work, 0, 1);
+    }
+    let lanes = lanes(rt, alloc, work, step)?;
+    take_turns(alloc, lanes, count)
+}

@@ -1,0 +1,45 @@
+//! A run, planned and settled.
+
+ghost use Rattle.std.specs.Prelude.{◌≡◌, ◌<◌, ◌≤◌, ◌^◌, length, IfOk};
+ghost use Rattle.dwz_run_files.specs.SettledRun.{IsSettledRun};
+
+use dwz_gate::Gate;
+use dwz_graph::{Graph, Index, indexes};
+use dwz_layout_input::{SettledFiles, settle_files};
+use dwz_model::NoMemory;
+use dwz_plan::Scope;
+use dwz_plan_files::plan_files;
+use std::alloc::Global;
+use std::thread::Threads;
+
+/// The files of a run, each by itself or all together: what their entries are, and what is settled of them.
+#[derive(Drop)]
+pub struct SettledRun {
+    /// What the entries of each file are.
+    pub indexes: Vec<Index>,
+    /// What is settled of the files, with their plan.
+    pub settled: SettledFiles,
+}
+
+/// Plans and settles files that share so.
+pub(crate) fn settle_run<R: Threads + Sync, G: Gate>(
+    rt: &R,
+    alloc: Global,
+    graph: &Graph,
+    scope: Scope,
+    workers: u32,
+    gate: &G,
+) -> Result<SettledRun, NoMemory>
+    requires few { length graph.now < 2 ^ 32 }
+    requires workers { (0 < workers) × (workers ≤ 64) }
+    ensures settled { IfOk result (IsSettledRun graph.now) }
+    ensures scope { IfOk result (λ run. run.settled.scope ≡ scope) }
+{
+    let indexes = indexes(alloc, graph)?;
+    let planned = plan_files(rt, alloc, graph, &indexes, scope, workers, gate)?;
+    let settled = settle_files(alloc, graph, &indexes, scope, planned)?;
+    // What these say is known of what is settled.
+    let _files = graph.files();
+    let _lent = settled.as_settled();
+    Ok(SettledRun { indexes, settled })
+}

@@ -1,0 +1,40 @@
+-- A file imports from the common file only where there is one, and then `.debug_sup` is added to it.
+use Rattle.std.proofs.Common.{◌≡◌, ◌&&◌, ◌||◌, ◌==◌, ℕ, Bool, true, false, List, [], ◌∷◌, Some, None, refl, sym, ap}
+use Rattle.std.specs.List.{list_any}
+use Rattle.std.specs.Prelude.{if◌then◌else◌}
+use Rattle.dwz_def_reading.specs.Supplementary.{sup_bytes}
+use Rattle.dwz_def_tops.specs.Spots.{EntryName, FileUnit}
+use Rattle.dwz_def_plan.specs.Homes.{Common, file_of, same_home}
+use Rattle.dwz_def_plan.specs.Plan.{PartialUnit}
+use Rattle.dwz_def_readback.specs.Files.{Run, imports_common}
+use Rattle.dwz_words.specs.declared.options.Options.{Options}
+use Rattle.dwz_def_output.specs.FilesAfter.{has_common, is_common, sup_after, sup_of}
+use Rattle.dwz_def_run.specs.Out.{sup_name}
+use Rattle.dwz_run_output.specs.Common.{IsCommonMade}
+
+abbrev imports_here : List (FileUnit EntryName) → ℕ → List PartialUnit → Bool
+imports_here units file parts = list_any (λ (part : PartialUnit). same_home part.home Common && list_any (λ i. file_of units i == file) part.users) parts
+
+none_imported : (units : List (FileUnit EntryName)) (file : ℕ) (parts : List PartialUnit) → list_any is_common parts ≡ false → imports_here units file parts ≡ false
+none_imported units file [] none = refl
+none_imported units file (part ∷ parts) none = by (none_imported units file parts) (is_common part) none where
+  by : (list_any is_common parts ≡ false → imports_here units file parts ≡ false) → (b : Bool) → (b || list_any is_common parts) ≡ false
+      → ((b && list_any (λ i. file_of units i == file) part.users) || imports_here units file parts) ≡ false
+  by rest true e = absurd cc
+  by rest false e = rest e
+
+pub no_imports : (r : Run) (file : ℕ) → has_common r ≡ false → imports_common r.move r.units file ≡ false
+unfolding imports_common has_common
+no_imports r file none = none_imported r.units file r.move.parts none
+
+-- ---- `.debug_sup` of a file
+
+sup_by : (name : List ℕ) (r : Run) (file : ℕ) (b : Bool) → imports_common r.move r.units file ≡ b
+    → sup_after name r file ≡ (if b then Some (sup_bytes (sup_of name r)) else None)
+sup_by name r file b e = ap (λ (b : Bool). if b then Some (sup_bytes (sup_of name r)) else None) e
+
+pub sup_not : (o : Options) (r : Run) (file : ℕ) → imports_common r.move r.units file ≡ false → None ≡ sup_after (sup_name o) r file
+sup_not o r file imports = sym (sup_by (sup_name o) r file false imports)
+
+pub sup_none : (o : Options) (r : Run) (file : ℕ) → IsCommonMade o r None → None ≡ sup_after (sup_name o) r file
+sup_none o r file none = sup_not o r file (no_imports r file none)

@@ -1,0 +1,11 @@
+pub mod FirstFound
+pub mod SectionFaults
+pub mod FirstFile
+pub mod CommonRoom
+pub mod CommonFaults
+pub mod Imports
+pub mod RowsAfter
+pub mod FileAnswers
+pub mod RunReady
+pub mod AllLengths
+pub mod Outcomes

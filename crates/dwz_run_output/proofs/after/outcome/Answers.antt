@@ -1,0 +1,84 @@
+use Rattle.std.proofs.Common.{◌≡◌, ℕ, List, [], Option, Vec, Global, length, map, get_or, None, refl, sym, subst, ap, ◌∙◌, arith}
+use Rattle.std.proofs.lemmas.List.{length-map}
+use Rattle.std.proofs.lemmas.Result.{err_from_is_err_and}
+use Rattle.dwz_model.specs.declared.fault.Fault.{Fault}
+use Rattle.dwz_model.specs.declared.fault.Refusal.{Refusal}
+use Rattle.dwz_model.specs.declared.sections.Sections.{Sections}
+use Rattle.dwz_def_reading.specs.Values.{AreBytes}
+use Rattle.dwz_def_reading.specs.Lists.{Each}
+use Rattle.dwz_def_readback.specs.Files.{Run}
+use Rattle.dwz_def_run.specs.Out.{run_for, summary_lines, sup_name}
+use Rattle.dwz_def_output.specs.Refusals.{CommonRefusal}
+use Rattle.dwz_def_output.proofs.FreeLemmas.{Nothing}
+use Rattle.dwz_def_output.specs.NewFiles.{IsFound, IsNewCommon}
+use Rattle.dwz_run_output.specs.Common.{FaultWith}
+use Rattle.dwz_run_output.specs.Making.{AreBefore, AreBytesOf, AreMadeSo}
+use Rattle.dwz_run_output.proofs.CommonFaults.{no_refusal}
+use Rattle.dwz_run_output.proofs.Outcomes.{OfSections, all_written, common_refused, err_answer, none_of_files, numbered, sections_found, sections_refused}
+use Rattle.dwz_run_output.proofs.RunReady.{all_bytes, can_make}
+use Rattle.dwz_run_output.proofs.after.outcome.Goals as goal
+
+as_many_contents : (graph : List (List ℕ)) (contents : List (Vec ℕ Global)) → graph ≡ map (λ v. v.items) contents → length graph ≡ length contents
+as_many_contents graph contents read = ap (λ (g : List (List ℕ)). length g) read ∙ length-map contents (λ (v : Vec ℕ Global). v.items)
+
+-- the common file isn't refused where no fault of it was found
+alone : (r : Run) (common : Option Sections) (found : Option Fault) → IsNewCommon r common → found ≡ None → IsFound (FaultWith common) found → Nothing (CommonRefusal r)
+alone r common found new none is = no_refusal r common new (subst (IsFound (FaultWith common)) none is)
+
+pub returns-in-Some : goal.returns-in-Some
+returns-in-Some c docs prunes read are new =
+    let contents = c.args.graph.now in
+    let f = c.in-Some.fault in
+    let named : ℕ → Refusal = λ n. record { file = n; section = f.section; at = f.at; reason = f.reason } in
+    common_refused c.args.options.now contents docs prunes read c.args.common f c.in_file.result new c.in-Some.ensures
+    (c.in_file.ensures ∙ ap named (sym (as_many_contents contents c.args.contents.now c.requires.read)))
+
+pub returns-in-Some-sections_refusal : goal.returns-in-Some-sections_refusal
+returns-in-Some-sections_refusal c docs prunes read are new =
+    let o = c.args.options.now in
+    let contents = c.args.graph.now in
+    let first = alone (run_for o contents docs prunes) c.args.common c.common_fault.result new c.in_default.is c.common_fault.ensures in
+    let found = sections_found o contents docs prunes read c.args.made.items c.deref.result.now c.args.partials c.sections_refusal.result are c.deref.ensures.value
+    c.sections_refusal.ensures in
+    sections_refused o contents docs prunes read first c.in-Some-sections_refusal.refusal
+    (subst (IsFound (OfSections o contents docs prunes read)) c.in-Some-sections_refusal.is found)
+
+pub returns-in_err-files : goal.returns-in_err-files
+returns-in_err-files c docs prunes read are new =
+    let o = c.args.options.now in
+    let contents = c.args.graph.now in
+    let r = run_for o contents docs prunes in
+    let first = alone r c.args.common c.common_fault.result new c.in_default.is c.common_fault.ensures in
+    let found = sections_found o contents docs prunes read c.args.made.items c.deref.result.now c.args.partials c.sections_refusal.result are c.deref.ensures.value
+    c.sections_refusal.ensures in
+    let none = subst (IsFound (OfSections o contents docs prunes read)) c.in_default-sections_refusal.is found in
+    let bytes = subst (Each AreBytes) (sym c.requires.read) c.look_at_all.ensures in
+    let count = as_many_contents contents c.args.contents.now c.requires.read in
+    let common = c.in_ok-common.ensures r refl new in
+    let p = err_from_is_err_and c.from_residual-in_err-files.result c.from_residual-in_err-files.ensures.1 in
+    let has = c.in_err-files.ensures o r common (λ file less. can_make o contents docs prunes read bytes c.args.made.items c.args.partials are file (omega (arith, less, count))) in
+    rw (p.1, p.2) (err_answer o contents docs prunes read (λ (files : Vec (Option (List ℕ)) Global). files.items) (length c.args.contents.now) c.in_err-files.field-0.0
+    (numbered o contents docs prunes read c.args.made.items c.args.partials (length c.args.contents.now) are c.requires.each) first none has)
+
+pub returns : goal.returns
+returns c docs prunes read are new =
+    let o = c.args.options.now in
+    let contents = c.args.graph.now in
+    let n = length c.args.contents.now in
+    let r = run_for o contents docs prunes in
+    let first = alone r c.args.common c.common_fault.result new c.in_default.is c.common_fault.ensures in
+    let found = sections_found o contents docs prunes read c.args.made.items c.deref.result.now c.args.partials c.sections_refusal.result are c.deref.ensures.value
+    c.sections_refusal.ensures in
+    let none = subst (IsFound (OfSections o contents docs prunes read)) c.in_default-sections_refusal.is found in
+    let bytes = subst (Each AreBytes) (sym c.requires.read) c.look_at_all.ensures in
+    let count = as_many_contents contents c.args.contents.now c.requires.read in
+    let common = c.in_ok-common.ensures r refl new in
+    let made = c.in_ok-files.ensures o r common (λ file less. can_make o contents docs prunes read bytes c.args.made.items c.args.partials are file (omega (arith, less, count))) in
+    let files = none_of_files o contents docs prunes read n c.in_ok-files.files.items
+    (numbered o contents docs prunes read c.args.made.items c.args.partials n are c.requires.each) made in
+    let before : AreBefore r (map (λ (v : Vec ℕ Global). v.items) c.args.contents.now) = λ file. ap (λ (g : List (List ℕ)). get_or g file []) (sym c.requires.read) in
+    let all = all_bytes o contents docs prunes read bytes c.in_ok-files.files.items (subst (λ (k : ℕ). AreMadeSo (sup_name o) r k c.in_ok-files.files.items) (sym count) made) in
+    let lines = c.in_ok-lines.ensures o r before (subst (AreBytesOf o r) (sym c.deref-2.ensures.value) all) in
+    let names : List (List ℕ) → Type 0 = λ ns. c.in_ok-lines.lines.items ≡ summary_lines o r 0 ns in
+    all_written o contents docs prunes read first none files _ (c.new.ensures ∙ c.in_ok-puts.ensures r before common all) (c.in_ok-line.ensures o r common)
+    (c.new-2.ensures ∙ subst names c.as_slice.ensures lines) are.parts bytes (omega (arith, count, c.requires.few))

@@ -1,5 +1,0 @@
-pub mod Values
-pub mod Weights
-pub mod Bound
-pub mod Marked
-pub mod Known

@@ -1,9 +1,0 @@
-use Rattle.dwz_sections.proofs.OverLemmas.{le_done, le_step}
-use Rattle.dwz_sections.proofs.numbers.put_bytes.Goals as goal
-
-pub loop-left-preserved : goal.loop-left-preserved
-loop-left-preserved c =
-    le_step c.args.out.now.items c.loop-left.out.items c.args.at c.args.width c.args.number c.loop-left.place c.loop-left.left c.loop-left.rest c.loop-left-test.true c.loop-left.invariant
-
-pub returns : goal.returns
-returns c = le_done c.args.out.now.items c.loop-left.out.items c.args.at c.args.width c.args.number c.loop-left.place c.loop-left.left c.loop-left.rest c.loop-left-test.false c.loop-left.invariant

@@ -1,2 +1,0 @@
-pub mod NewNumbers
-pub mod FilesSound

@@ -1,4 +1,0 @@
-pub mod Known
-pub mod Names
-pub mod Pinned
-pub mod Places

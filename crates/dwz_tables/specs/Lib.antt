@@ -1,4 +1,0 @@
-pub mod Keys
-pub mod Maps
-pub mod Shapes
-pub mod Tables

@@ -1,9 +1,0 @@
-pub mod TextSteps
-pub mod RowUnits
-pub mod SpaceEntries
-pub mod NameSteps
-pub mod FormTexts
-pub mod EntryTexts
-pub mod FileTexts
-pub mod SpaceNames
-pub mod LawLemmas

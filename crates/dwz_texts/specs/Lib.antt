@@ -1,4 +1,0 @@
-pub mod Texts
-pub mod Files
-pub mod Names
-pub mod TextLaws

@@ -1,9 +1,0 @@
-pub mod PairUses
-pub mod UseSteps
-pub mod ShownUses
-pub mod SlotSteps
-pub mod PrunedUses
-pub mod NamedUses
-pub mod MovedUses
-pub mod SlotUses
-pub mod MovedNames

@@ -1,6 +1,0 @@
-use Rattle.std.proofs.Common.{◌≡◌, ◌++◌, drop}
-use Rattle.dwz_writing.specs.Pruned.{slot_uses}
-use Rattle.dwz_uses.proofs.pruning.put_slots.Given as goal
-
-abbrev pub invariant-loop-place : goal.invariant-loop-place
-invariant-loop-place l = l.uses.items ++ slot_uses l.strs l.offsets (drop l.place-index l.places) ≡ l.fn.uses.items ++ slot_uses l.strs l.offsets l.places

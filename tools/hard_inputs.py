@@ -2,7 +2,8 @@
 """Measures the program on files that are made to be hard: an entry with 40,000 attributes, 4,000 units over the suffixes of one
 abbreviation table (in ascending, descending and random order of offset), units over each byte of a table at which a table is
 spelled, 4,000 units over tables that begin inside one declaration, and 40,000 abbreviations whose shapes have one hash, beside as
-many that haven't.
+many that haven't. Others ask again and again for what is behind many things: for attributes of a root or of a namespace that come behind
+thousands, of many units, or for many tops; and for location lists, that are named by many units, or whose suffixes are lists as well.
 
     tools/hard_inputs.py [--program PROGRAM] [--times N]
 
@@ -18,9 +19,9 @@ import tempfile
 from bench_runs import best_of
 from many_units import elf
 
-SIBLING, NAME, BYTE_SIZE, ENCODING, FIRST_USER_NAME = 0x01, 0x03, 0x0B, 0x3E, 0x2000
-ADDR, STRING, DATA1, IMPLICIT_CONST = 0x01, 0x08, 0x0B, 0x21
-COMPILE_UNIT, BASE_TYPE, VARIABLE, FIRST_USER_TAG = 0x11, 0x24, 0x34, 0x4080
+SIBLING, LOCATION, NAME, BYTE_SIZE, ENCODING, FIRST_USER_NAME = 0x01, 0x02, 0x03, 0x0B, 0x3E, 0x2000
+ADDR, STRING, DATA1, SEC_OFFSET, FLAG_PRESENT, IMPLICIT_CONST = 0x01, 0x08, 0x0B, 0x17, 0x19, 0x21
+COMPILE_UNIT, BASE_TYPE, VARIABLE, NAMESPACE, TYPE_UNIT, FIRST_USER_TAG = 0x11, 0x24, 0x34, 0x39, 0x41, 0x4080
 
 # How a shape is hashed (dwz_layout): from 0 on, for each word the exclusive or with it, times this, of which 64 bits stay.
 STEP, MASK = 0x9E3779B97F4A7C15, (1 << 64) - 1
@@ -51,6 +52,11 @@ def unit(table, body):
     return struct.pack("<I", len(body)) + body
 
 
+def type_unit(signature, type_offset, body):
+    body = struct.pack("<HBBIQI", 5, 2, 8, 0, signature, type_offset) + body
+    return struct.pack("<I", len(body)) + body
+
+
 # A unit's declaration, and that of a base type, which stands in each unit of a file, so that something moves.
 FRONT = declaration(1, COMPILE_UNIT, 1, [(NAME, STRING)]) + declaration(2, BASE_TYPE, 0, [(NAME, STRING), (BYTE_SIZE, DATA1), (ENCODING, DATA1)])
 INT = b"\x02a type with a name of some length\0\x04\x05"
@@ -65,6 +71,60 @@ def two_units(table, body):
 def many_attributes(count):
     pairs = [(FIRST_USER_NAME + number, DATA1) for number in range(count)]
     return two_units(declaration(3, VARIABLE, 0, pairs), b"\x03" + bytes(number & 255 for number in range(count)))
+
+
+def flags(count):
+    """Pairs whose values have no bytes."""
+    return [(FIRST_USER_NAME + number % 0x1000, FLAG_PRESENT) for number in range(count)]
+
+
+def root_of(count):
+    """A unit whose root has so many attributes."""
+    pairs = [(FIRST_USER_NAME + number % 0x1000, DATA1) for number in range(count)]
+    return elf(unit(0, b"\x01" + bytes(count)), declaration(1, COMPILE_UNIT, 0, pairs) + b"\0")
+
+
+def roots_of(count):
+    """So many units, whose roots have as many attributes."""
+    return elf(unit(0, b"\x01") * count, declaration(1, COMPILE_UNIT, 0, flags(count)) + b"\0")
+
+
+def type_roots_of(count):
+    """The same of type units, each with its type."""
+    table = declaration(1, TYPE_UNIT, 1, flags(count)) + declaration(2, BASE_TYPE, 0, [(BYTE_SIZE, DATA1)]) + b"\0"
+    return elf(b"".join(type_unit(number, 25, b"\x01\x02\x04\0") for number in range(count)), table)
+
+
+def named_late(count):
+    """So many tops in a namespace that has as many attributes before its name."""
+    table = declaration(3, NAMESPACE, 1, flags(count) + [(NAME, STRING)]) + declaration(4, BASE_TYPE, 0, [(BYTE_SIZE, DATA1)])
+    return two_units(table, b"\x03n\0" + b"\x04\x04" * count + b"\0")
+
+
+# Entries of a location list: `DW_LLE_default_location`, with no expression, and with `DW_OP_convert`, whose operand names the entry behind
+# the header of its unit (DWARF 5, 7.7.3 and 7.7.1).
+DEFAULT, CONVERT = b"\x05\0", b"\x05\x02\xa8\x0c"
+
+
+def lists_of(entries):
+    content = struct.pack("<HBBI", 5, 8, 0, 0) + entries + b"\0"
+    return struct.pack("<I", len(content)) + content
+
+
+LISTED = declaration(1, COMPILE_UNIT, 1, []) + declaration(2, VARIABLE, 0, [(LOCATION, SEC_OFFSET)]) + b"\0"
+
+
+def listed_suffixes(count, entry, arrange):
+    """So many variables, in that order, each of which names its own suffix of one list."""
+    places = [12 + len(entry) * number for number in range(count)]
+    arrange(places)
+    body = b"".join(b"\x02" + struct.pack("<I", place) for place in places)
+    return elf(unit(0, b"\x01" + body + b"\0"), LISTED, lists_of(entry * count))
+
+
+def listed_units(count):
+    """So many units with a variable each, which names a list of as many entries."""
+    return elf(unit(0, b"\x01\x02" + struct.pack("<I", 12) + b"\0") * count, LISTED, lists_of(DEFAULT * count))
 
 
 def suffixes(count, arrange):
@@ -159,6 +219,15 @@ def main():
         ("the same, shuffled", suffixes(4000, random.Random(1).shuffle)),
         ("units over each byte of 1,000 declarations", every_byte(1000)),
         ("4,000 units over tables inside one declaration", inside_one(4000)),
+        ("a root of 20,000 attributes", root_of(20000)),
+        ("2,500 units whose roots have 2,500 attributes", roots_of(2500)),
+        ("the same of type units", type_roots_of(2500)),
+        ("2,500 tops in a namespace that has 2,500 attributes before its name", named_late(2500)),
+        ("5,000 variables over suffixes of one location list, ascending", listed_suffixes(5000, DEFAULT, lambda places: None)),
+        ("the same, descending", listed_suffixes(5000, DEFAULT, list.reverse)),
+        ("4,000 variables over suffixes of a location list of operands, ascending", listed_suffixes(4000, CONVERT, lambda places: None)),
+        ("the same, descending", listed_suffixes(4000, CONVERT, list.reverse)),
+        ("4,000 units that name one location list", listed_units(4000)),
         ("40,000 shapes of one hash", many_shapes(40000, True)),
         ("40,000 shapes of different hashes", many_shapes(40000, False)),
     )

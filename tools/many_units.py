@@ -45,15 +45,17 @@ def section_header(name, kind, at, size):
     return struct.pack("<IIQQQQIIQQ", name, kind, 0, 0, at, size, 0, 0, 1, 0)
 
 
-def elf(info, abbrev):
-    names = b"\0.debug_info\0.debug_abbrev\0.shstrtab\0"
+def elf(info, abbrev, lists=None):
+    """A file of these sections; `lists` is `.debug_loclists`, if there is one."""
+    sections = [(b".debug_info", 1, info), (b".debug_abbrev", 1, abbrev)] + [(b".debug_loclists", 1, lists)] * (lists is not None)
+    names = b"\0" + b"".join(name + b"\0" for name, *_ in sections) + b".shstrtab\0"
     headers, body = [bytes(64)], b""
-    for name, kind, content in ((1, 1, info), (13, 1, abbrev), (27, 3, names)):
-        headers.append(section_header(name, kind, 64 + len(body), len(content)))
+    for name, kind, content in sections + [(b".shstrtab", 3, names)]:
+        headers.append(section_header(names.index(b"\0" + name + b"\0") + 1, kind, 64 + len(body), len(content)))
         body += content
     body += bytes(-len(body) % 8)
     head = b"\x7fELF\x02\x01\x01" + bytes(9)
-    head += struct.pack("<HHIQQQIHHHHHH", 3, 62, 1, 0, 0, 64 + len(body), 0, 64, 0, 0, 64, 4, 3)
+    head += struct.pack("<HHIQQQIHHHHHH", 3, 62, 1, 0, 0, 64 + len(body), 0, 64, 0, 0, 64, len(headers), len(headers) - 1)
     return head + body + b"".join(headers)
 
 

@@ -1,8 +1,5 @@
 use dwz_model::Pairs;
 
-/// The form that a signed number follows.
-pub(crate) const IMPLICIT_CONST: u64 = 0x21;
-
 /// A declaration: what the entries with a code have in common.
 #[derive(Debug, Drop)]
 pub struct Decl {

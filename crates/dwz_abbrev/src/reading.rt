@@ -8,10 +8,11 @@ ghost use Rattle.dwz_model.specs.declared.fault.ReadErr.TheVariants.{Refused};
 ghost use Rattle.dwz_abbrev.specs.Starts.{IsReadUpTo, IsStop};
 ghost use Rattle.dwz_abbrev.specs.Views.{decl_view};
 
-use crate::decl::{Decl, IMPLICIT_CONST};
+use crate::decl::Decl;
 use crate::rows::Rows;
 use crate::table::{ReadTable, Table};
 use dwz_bytes::Cursor;
+use dwz_codes::DW_FORM_IMPLICIT_CONST;
 use dwz_model::{DEBUG_ABBREV, Fault, Pair, Pairs, ReadErr, Reason};
 use std::alloc::Global;
 
@@ -32,7 +33,7 @@ fn bad(start: usize) -> ReadErr
 fn constant(start: usize, form: u64, cursor: &mut Cursor) -> Result<i64, ReadErr>
     ensures { AnswersAt (λ x. x) cursor.new result (constant_at start form cursor.old) }
 {
-    if form == IMPLICIT_CONST {
+    if form == DW_FORM_IMPLICIT_CONST {
         cursor.sleb().map_err(|_| bad(start))
     } else {
         Ok(0)

@@ -9,9 +9,10 @@ ghost use Rattle.dwz_def_reading.specs.Abbrevs.{SpellsTable, by_code, declaratio
 ghost use Rattle.dwz_abbrev.specs.Views.{decl_view, lent_views, views};
 ghost use Rattle.dwz_abbrev.specs.Written.{Begins, Differ};
 
-use crate::decl::{Decl, IMPLICIT_CONST};
+use crate::decl::Decl;
 use crate::table::Table;
 use dwz_bytes::{put_sleb, put_uleb};
+use dwz_codes::DW_FORM_IMPLICIT_CONST;
 use dwz_model::{NoMemory, Pair};
 use std::alloc::Global;
 use std::collections::BTreeMap;
@@ -23,7 +24,7 @@ fn put_pair(out: &mut Vec<u8>, pair: &Pair) -> Result<(), NoMemory>
 {
     put_uleb(out, pair.name as u64)?;
     put_uleb(out, pair.form)?;
-    if pair.form == IMPLICIT_CONST {
+    if pair.form == DW_FORM_IMPLICIT_CONST {
         put_sleb(out, pair.constant)?;
     }
     Ok(())

@@ -1,5 +1,5 @@
-//! The codes of DWARF 5, chapter 7, each once: forms, operators and kinds of list entries with their shapes, classes and names, and the
-//! codes of attributes, tags, units and columns of line tables.
+//! The codes of DWARF 5, chapter 7, each once in the whole program: forms, operators and kinds of list entries with their shapes, classes
+//! and names, and the codes of attributes, tags, units and columns of line tables. All other crates take them from here.
 //!
 //! `forms`, `operators`, `list_kinds`, `tag_names` and `attribute_names` give a table each, of which `Codes::find` answers the row of a
 //! code, or that there is none; `form_shape`, `class_of`, `operator_shape` and `list_kind_shape` say the same in a step. Constants have the
@@ -165,4 +165,5 @@ pub use tag::tag_names;
 pub use unit::DW_LNCT_DIRECTORY_INDEX;
 pub use unit::DW_LNCT_PATH;
 pub use unit::DW_UT_COMPILE;
+pub use unit::DW_UT_PARTIAL;
 pub use unit::DW_UT_TYPE;

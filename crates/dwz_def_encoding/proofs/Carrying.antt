@@ -26,7 +26,7 @@ use Rattle.dwz_def_reading.proofs.WrittenLemmas.{same_shape}
 use Rattle.dwz_def_encoding.specs.Carried.{CameFrom, CarriedAttr, From, Imports, IsBuiltAs, NamesLines, NumbersFile}
 use Rattle.dwz_def_encoding.specs.Bases.{Bases}
 use Rattle.dwz_def_encoding.specs.Meant.{AttrSays, FileSays, Own, SaysAs, Tells, WasRead}
-use Rattle.dwz_def_encoding.specs.Placing.{Chosen, Fit, as_constant, as_file, as_read, as_reference, fit_as, fit_attr, with_form, zeros}
+use Rattle.dwz_def_encoding.specs.Placing.{Chosen, UnitForms, as_constant, as_file, as_read, as_reference, fit_as, fit_attr, with_form, zeros}
 use Rattle.dwz_def_encoding.specs.Sound.{HasBytes, SoundAttr, StoresAs}
 use Rattle.dwz_def_encoding.specs.Writing.{block_in, expr_bytes, pair_of, text_or_empty}
 use Rattle.dwz_def_encoding.proofs.ValuesMean.{plain_is, so_not}
@@ -57,7 +57,7 @@ pub record Reference {K : Type 0} (a : Attr K) : Type 0 where
   pub no_sibling : a.name ≢ 0x01
   pub target : K
   pub value : a.value ≡ ref target
-  pub chosen : (f : Fit K) → fit_attr f a ≡ with_form a (as_reference f a)
+  pub chosen : (f : UnitForms K) → fit_attr f a ≡ with_form a (as_reference f a)
 
 -- a text that has a place in a section
 pub record Placed {K : Type 0} (from : From) (a : Attr K) : Type 0 where
@@ -92,7 +92,7 @@ pub record Filed {K : Type 0} (from : From) (origin : Bases) (a : Attr K) : Type
   pub file : from scope old
   pub numbers : NumbersFile a
   pub says : FileSays (text_sections_of scope.around.sources) scope.around.sources.line origin.line a
-  pub chosen : (f : Fit K) → fit_attr f a ≡ with_form a (as_file f.holder f a)
+  pub chosen : (f : UnitForms K) → fit_attr f a ≡ with_form a (as_file f.holder f a)
   pub sound : SoundAttr a
 
 -- an expression
@@ -109,12 +109,12 @@ pub record Computed {K : Type 0} (a : Attr K) : Type 0 where
 -- a location list
 pub record Listed {K : Type 0} (a : Attr K) : Type 0 where
   pub class : ((class_of a.form ≡ OfOffset) × (names_list a.name ≡ true)) ⊎ (class_of a.form ≡ OfListIndex)
-  pub stays : (f : Fit K) → fit_attr f a ≡ a
+  pub stays : (f : UnitForms K) → fit_attr f a ≡ a
   pub sound : SoundAttr a
 
 -- any other attribute, whose form stays
 pub record Other {K : Type 0} (a : Attr K) : Type 0 where
-  pub stays : (f : Fit K) → fit_attr f a ≡ a
+  pub stays : (f : UnitForms K) → fit_attr f a ≡ a
   pub sound : SoundAttr a
   pub says : (t : Tells K) (own : Own K) → AttrSays t own a
 
@@ -187,14 +187,14 @@ module _ {K : Type 0} (from : From) (origin : Bases) (a : Attr K) (came : CameFr
   other_sound value = record { some_name = some_name; name_fits = name_fits; no_sibling = no_sibling; known = λ u. subst IsBuiltAs u came.built; constant = fits_constant; value = value }
 
   -- one whose form stays
-  other : (c : Class) → class_of a.form ≡ c → ((f : Fit K) → fit_as c f a ≡ as_read a) → (HasBytes a old.raw → StoresAs c a) → (WasRead a → (t : Tells K) (own : Own K) → SaysAs c t own a) → Other a
+  other : (c : Class) → class_of a.form ≡ c → ((f : UnitForms K) → fit_as c f a ≡ as_read a) → (HasBytes a old.raw → StoresAs c a) → (WasRead a → (t : Tells K) (own : Own K) → SaysAs c t own a) → Other a
   other c e form stores says = record {
     stays = λ f. ap (λ (d : Class). with_form a (fit_as d f a)) e ∙ ap (λ (x : Chosen). with_form a x) (form f);
     sound = other_sound (subst (λ (d : Class). StoresAs d a) (sym e) (stores has_bytes));
     says = λ t own. subst (λ (d : Class). SaysAs d t own a) (sym e) (says came.was_read t own);
   }
 
-  reference : (c : Class) → class_of a.form ≡ c → ((f : Fit K) → fit_as c f a ≡ as_reference f a) → (k : K) → a.value ≡ ref k → Reference a
+  reference : (c : Class) → class_of a.form ≡ c → ((f : UnitForms K) → fit_as c f a ≡ as_reference f a) → (k : K) → a.value ≡ ref k → Reference a
   reference c e form k value = record {
     some_name = some_name;
     name_fits = name_fits;

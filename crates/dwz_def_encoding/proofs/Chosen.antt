@@ -14,8 +14,8 @@ use Rattle.dwz_def_reading.specs.LinesWritten.{AreTexts}
 use Rattle.dwz_def_reading.proofs.DecideLemmas.{if_true}
 use Rattle.dwz_def_encoding.specs.Fitting.{EachAttr}
 use Rattle.dwz_def_encoding.specs.Meant.{AttrSays, EntriesSay, KindSays, NodeSays, Own, SaysAs, Tells, UnitSays, UnitsSay, all_entry_keys, entry_keys, own_of}
-use Rattle.dwz_def_encoding.specs.Placing.{FileFit, Fit, Forms, UnitRole, fit, fit_as, fit_attr, fit_node, fit_unit, fit_units, has_key, holder_of, lines_bytes, reach_by, ref_form, texts_bytes}
-use Rattle.dwz_def_encoding.specs.Placing.{unit_fit}
+use Rattle.dwz_def_encoding.specs.Placing.{Forms, KeyedForms, UnitForms, UnitRole, fit, fit_as, fit_attr, fit_node, fit_unit, fit_units, has_key, holder_of, lines_bytes, reach_by, ref_form, texts_bytes}
+use Rattle.dwz_def_encoding.specs.Placing.{unit_forms}
 use Rattle.dwz_def_encoding.specs.Placing.{with_form, with_keys}
 use Rattle.dwz_def_tops.specs.Shown.{unit_keys, units_keys}
 use Rattle.dwz_def_tops.specs.Seen.{Seen, all_seen, see, seen_below, seen_roots}
@@ -49,7 +49,7 @@ none_has {K} same is k (x ∷ xs) there e = go (λ i r. none_has same is k xs i 
 
 -- ---- what a root says is as it was
 
-first_fit : {K : Type 0} (x : Fit K) (name : ℕ) (attrs : List (Attr K)) → offset_in (first_named name (map (fit_attr x) attrs)) ≡ offset_in (first_named name attrs)
+first_fit : {K : Type 0} (x : UnitForms K) (name : ℕ) (attrs : List (Attr K)) → offset_in (first_named name (map (fit_attr x) attrs)) ≡ offset_in (first_named name attrs)
 unfolding first_named
 first_fit x name [] = refl
 first_fit x name (a ∷ attrs) = by (first_fit x name attrs) (eqb a.name name) where
@@ -58,22 +58,22 @@ first_fit x name (a ∷ attrs) = by (first_fit x name attrs) (eqb a.name name) w
   by rest true = offset_fit x a
   by rest false = rest
 
-pub bases_fit : {K : Type 0} (f : FileFit K) (u : DwUnit K) → bases_in (fit_unit f u) ≡ bases_in u
-bases_fit f u = same_bases _ _ _ _ _ _ (first_fit (unit_fit f u) 0x72 u.root.attrs) (first_fit (unit_fit f u) 0x10 u.root.attrs) (first_fit (unit_fit f u) 0x8c u.root.attrs)
+pub bases_fit : {K : Type 0} (f : KeyedForms K) (u : DwUnit K) → bases_in (fit_unit f u) ≡ bases_in u
+bases_fit f u = same_bases _ _ _ _ _ _ (first_fit (unit_forms f u) 0x72 u.root.attrs) (first_fit (unit_forms f u) 0x10 u.root.attrs) (first_fit (unit_forms f u) 0x8c u.root.attrs)
 
-own_fit : {K : Type 0} (f : FileFit K) (u : DwUnit K) → own_of u ≡ own_of (fit_unit f u)
+own_fit : {K : Type 0} (f : KeyedForms K) (u : DwUnit K) → own_of u ≡ own_of (fit_unit f u)
 own_fit {K} f u =
     ap (λ (ks : List K). record { at = u.at; keys = ks; bases = bases_in u }) (sym (fit_entry_keys f u))
     ∙ ap (λ (b : Bases). record { at = u.at; keys = entry_keys (fit_unit f u); bases = b }) (sym (bases_fit f u))
 
 -- ---- each value is written as its form says
 
-module _ {K : Type 0} (f : FileFit K) (is : IsSame f.same) (from : From) (t : Tells K) (small : length t.strs < 2 ^ 32) (u : DwUnit K) (within : (k : K) → In k t.all → In k f.keys)
+module _ {K : Type 0} (f : KeyedForms K) (is : IsSame f.same) (from : From) (t : Tells K) (small : length t.strs < 2 ^ 32) (u : DwUnit K) (within : (k : K) → In k t.all → In k f.keys)
     (other : (k : K) → In k t.common → In k f.keys → ⊥)
-    (entries : (k : K) → In k (unit_keys u) → In k f.keys) (apart : In u.at t.all → ⊥) (sections_at : SectionsAt (holder_of f.is_common u.kind) from (unit_fit f u) t)
+    (entries : (k : K) → In k (unit_keys u) → In k f.keys) (apart : In u.at t.all → ⊥) (sections_at : SectionsAt (holder_of f.is_common u.kind) from (unit_forms f u) t)
     (itself : ComesFromItself (holder_of f.is_common u.kind) (bases_in u) (f.origin u.at)) where
-  abbrev x : Fit K
-  x = unit_fit f u
+  abbrev x : UnitForms K
+  x = unit_forms f u
 
   abbrev own : Own K
   own = own_of u
@@ -177,7 +177,7 @@ module _ {K : Type 0} (f : FileFit K) (is : IsSame f.same) (from : From) (t : Te
 
 -- ---- the units of a file
 
-file_at : {K : Type 0} (from : From) (f : Forms K) (x : Fit K) (t : Tells K) (units : List (DwUnit K)) → f.offsets ≡ x.offsets → f.shared ≡ x.shared → SectionsStand false from f t units
+file_at : {K : Type 0} (from : From) (f : Forms K) (x : UnitForms K) (t : Tells K) (units : List (DwUnit K)) → f.offsets ≡ x.offsets → f.shared ≡ x.shared → SectionsStand false from f t units
     → FileAt from x t
 file_at from f x t units offsets shared at = record {
   sources = subst (λ (w : List ℕ). SourcesAt from w t) offsets at.1;
@@ -185,7 +185,7 @@ file_at from f x t units offsets shared at = record {
   few = at.2.few;
 }
 
-sections_common : {K : Type 0} (kind : Kind K) (from : From) (f : Forms K) (x : Fit K) (t : Tells K) (units : List (DwUnit K)) (b : Bool) → f.texts ≡ x.texts → f.paths ≡ x.paths
+sections_common : {K : Type 0} (kind : Kind K) (from : From) (f : Forms K) (x : UnitForms K) (t : Tells K) (units : List (DwUnit K)) (b : Bool) → f.texts ≡ x.texts → f.paths ≡ x.paths
     → f.offsets ≡ x.offsets → f.shared ≡ x.shared → SectionsStand b from f t units → SectionsAt (holder_of b kind) from x t
 sections_common kind from f x t units true texts paths offsets shared at =
     record { strs = at.1.strs ∙ ap texts_bytes texts; line = at.1.line ∙ ap lines_bytes paths; few = at.1.few; are_texts = subst AreTexts paths at.1.are_texts }
@@ -245,7 +245,7 @@ keys_within (w ∷ units) u (inr r) k is = in_right k (unit_keys w) (units_keys 
 module _ {K : Type 0} (f : Forms K) (is : IsSame f.same) (from : From) (t : Tells K) (units : List (DwUnit K)) (all : t.all ≡ all_entry_keys units) (once : NoneTwice (units_keys units))
     (carried : Each (λ u. CarriedUnit from (f.origin u.at) u) units) (closed : ClosedIn t units) (apart : ApartIn t units) (stand : SectionsStand f.is_common from f t units)
     (bases : Each (BasesStand f) units) (operands : Each (OperandsStand t) units) where
-  abbrev file : FileFit K
+  abbrev file : KeyedForms K
   file = with_keys f (units_keys units)
 
   one_good : (u : DwUnit K) → In u units → SoundUnit (fit_unit file u) × UnitSays t (fit_unit file u)
@@ -260,7 +260,7 @@ module _ {K : Type 0} (f : Forms K) (is : IsSame f.same) (from : From) (t : Tell
       let exprs = each_in (OperandsStand t) u units operands there in
       let texts = texts_for u from f t units f.is_common there stand in
       let h = holder_of f.is_common u.kind in
-      unit_good file is from t (small_strs from f t units f.is_common stand) u within apart inside alone (sections_common u.kind from f (unit_fit file u) t units f.is_common refl refl refl refl stand)
+      unit_good file is from t (small_strs from f t units f.is_common stand) u within apart inside alone (sections_common u.kind from f (unit_forms file u) t units f.is_common refl refl refl refl stand)
       own.own
       (each_in (λ v. CarriedUnit from (f.origin v.at) v) u units carried there) root below
       (join_attrs (AttrAt h f.texts f.paths (bases_in u).line (f.origin u.at).line) (AttrOperands t (own_of u)) _ (λ a p q. (p, q)) u.root.attrs

@@ -10,8 +10,8 @@ use Rattle.dwz_def_reading.specs.Trees.{End, Entry}
 use Rattle.dwz_def_reading.proofs.ListFacts.{in_cases, in_left, in_map, in_right}
 use Rattle.dwz_def_encoding.specs.Bases.{offset_in}
 use Rattle.dwz_def_encoding.specs.Meant.{Tells, all_entry_keys, entry_keys}
-use Rattle.dwz_def_encoding.specs.Placing.{CommonUnit, FileFit, Fit, InCommon, InFile, InUnit, NewUnit, OldUnit, Reach, UnitRole, as_constant, as_file, as_line_text, as_slot, as_strp_if, as_text, fit}
-use Rattle.dwz_def_encoding.specs.Placing.{fit_as, fit_attr, fit_unit, has_key, has_text, reach_of, ref_form, slot_number, unit_fit, with_form}
+use Rattle.dwz_def_encoding.specs.Placing.{CommonUnit, InCommon, InFile, InUnit, KeyedForms, NewUnit, OldUnit, Reach, UnitForms, UnitRole, as_constant, as_file, as_line_text, as_slot, as_strp_if, as_text, fit}
+use Rattle.dwz_def_encoding.specs.Placing.{fit_as, fit_attr, fit_unit, has_key, has_text, reach_of, ref_form, slot_number, unit_forms, with_form}
 use Rattle.dwz_def_encoding.specs.Writing.{text_or_empty}
 use Rattle.dwz_def_tops.specs.Shown.{keys, unit_keys, units_keys}
 use Rattle.dwz_def_tops.specs.Seen.{Named, Seen, all_seen, named_value, see, seen, seen_below, seen_roots}
@@ -27,7 +27,7 @@ use Rattle.dwz_def_encoding.proofs.StoredClasses.{offset_class}
 
 -- ---- an offset of form sec_offset stays, and no other value gets that form
 
-same_offset : {K : Type 0} (x : Fit K) (a : Attr K) (c : Class) → class_of a.form ≡ c → eqb a.form 0x17 ≡ false → offset_in (Some (with_form a (fit_as c x a))) ≡ None
+same_offset : {K : Type 0} (x : UnitForms K) (a : Attr K) (c : Class) → class_of a.form ≡ c → eqb a.form 0x17 ≡ false → offset_in (Some (with_form a (fit_as c x a))) ≡ None
 same_offset x a c e other = by c where
   entry : (r : Reach) → cond (eqb (ref_form r) 0x17) (Some (reach a.raw)) None ≡ None
   entry InUnit = refl
@@ -54,7 +54,7 @@ same_offset x a c e other = by c where
   slots : (h : UnitRole) → offset_in (Some (with_form a (as_slot h x a))) ≡ None
   slots CommonUnit = refl
   slots OldUnit = kept
-  slots NewUnit = strp (has_text x.shared (text_or_empty a.value.plain)) (slot_number x.offsets x.origin.slots (reach a.raw))
+  slots NewUnit = strp (has_text x.shared (text_or_empty a.value.plain)) (slot_number x.offsets x.origin_bases.slots (reach a.raw))
 
   files : (h : UnitRole) → offset_in (Some (with_form a (as_file h x a))) ≡ None
   files CommonUnit = refl
@@ -75,7 +75,7 @@ same_offset x a c e other = by c where
   by OfTextBySlot = slots x.holder
   by _ = kept
 
-pub offset_fit : {K : Type 0} (x : Fit K) (a : Attr K) → offset_in (Some (fit_attr x a)) ≡ offset_in (Some a)
+pub offset_fit : {K : Type 0} (x : UnitForms K) (a : Attr K) → offset_in (Some (fit_attr x a)) ≡ offset_in (Some a)
 offset_fit x a = by (eqb a.form 0x17) refl where
   by : (b : Bool) → eqb a.form 0x17 ≡ b → offset_in (Some (fit_attr x a)) ≡ offset_in (Some a)
   by true e = ap (λ (c : Class). offset_in (Some (with_form a (fit_as c x a)))) (ap class_of (eqb-true a.form 0x17 e) ∙ offset_class)
@@ -89,40 +89,40 @@ chosen_fixed a InUnit = refl
 chosen_fixed a InFile = refl
 chosen_fixed a InCommon = refl
 
-strp_fixed : {K : Type 0} (b : Bool) (f : Fit K) (a : Attr K) (at : ℕ) → Fixed (with_form a (as_strp_if b f a at))
+strp_fixed : {K : Type 0} (b : Bool) (f : UnitForms K) (a : Attr K) (at : ℕ) → Fixed (with_form a (as_strp_if b f a at))
 unfolding class_rows class_in
 strp_fixed true f a at = tt
 strp_fixed false f a at = tt
 
-text_fixed : {K : Type 0} (h : UnitRole) (f : Fit K) (a : Attr K) → Fixed (with_form a (as_text h f a))
+text_fixed : {K : Type 0} (h : UnitRole) (f : UnitForms K) (a : Attr K) → Fixed (with_form a (as_text h f a))
 unfolding class_rows class_in
 text_fixed CommonUnit f a = tt
 text_fixed OldUnit f a = strp_fixed (has_text f.shared (text_or_empty a.value.plain)) f a (reach a.raw)
 text_fixed NewUnit f a = strp_fixed (has_text f.shared (text_or_empty a.value.plain)) f a (reach a.raw)
 
-line_text_fixed : {K : Type 0} (h : UnitRole) (f : Fit K) (a : Attr K) → FixedAs (class_of a.form) a → Fixed (with_form a (as_line_text h f a))
+line_text_fixed : {K : Type 0} (h : UnitRole) (f : UnitForms K) (a : Attr K) → FixedAs (class_of a.form) a → Fixed (with_form a (as_line_text h f a))
 unfolding class_rows class_in
 line_text_fixed CommonUnit f a e = tt
 line_text_fixed OldUnit f a e = e
 line_text_fixed NewUnit f a e = e
 
-slot_fixed : {K : Type 0} (h : UnitRole) (f : Fit K) (a : Attr K) → FixedAs (class_of a.form) a → Fixed (with_form a (as_slot h f a))
+slot_fixed : {K : Type 0} (h : UnitRole) (f : UnitForms K) (a : Attr K) → FixedAs (class_of a.form) a → Fixed (with_form a (as_slot h f a))
 unfolding class_rows class_in
 slot_fixed CommonUnit f a e = tt
 slot_fixed OldUnit f a e = e
-slot_fixed NewUnit f a e = strp_fixed (has_text f.shared (text_or_empty a.value.plain)) f a (slot_number f.offsets f.origin.slots (reach a.raw))
+slot_fixed NewUnit f a e = strp_fixed (has_text f.shared (text_or_empty a.value.plain)) f a (slot_number f.offsets f.origin_bases.slots (reach a.raw))
 
-file_fixed : {K : Type 0} (h : UnitRole) (f : Fit K) (a : Attr K) → FixedAs (class_of a.form) a → Fixed (with_form a (as_file h f a))
+file_fixed : {K : Type 0} (h : UnitRole) (f : UnitForms K) (a : Attr K) → FixedAs (class_of a.form) a → Fixed (with_form a (as_file h f a))
 unfolding class_rows class_in
 file_fixed CommonUnit f a e = tt
 file_fixed OldUnit f a e = e
 file_fixed NewUnit f a e = e
 
-constant_fixed : {K : Type 0} (b : Bool) (f : Fit K) (a : Attr K) → FixedAs (class_of a.form) a → Fixed (with_form a (as_constant b f a))
+constant_fixed : {K : Type 0} (b : Bool) (f : UnitForms K) (a : Attr K) → FixedAs (class_of a.form) a → Fixed (with_form a (as_constant b f a))
 constant_fixed true f a e = file_fixed f.holder f a e
 constant_fixed false f a e = e
 
-attr_fixed : {K : Type 0} (f : Fit K) (a : Attr K) → Fixed (fit_attr f a)
+attr_fixed : {K : Type 0} (f : UnitForms K) (a : Attr K) → Fixed (fit_attr f a)
 attr_fixed f a = by (class_of a.form) refl where
   by : (c : Class) → class_of a.form ≡ c → Fixed (with_form a (fit_as c f a))
   by OfUnitEntry e = chosen_fixed a (reach_of f a.value.refs)
@@ -134,38 +134,38 @@ attr_fixed f a = by (class_of a.form) refl where
   by OfConstant e = constant_fixed (names_file a.name) f a (subst (λ (d : Class). FixedAs d a) (sym e) tt)
   by c e = subst (λ (d : Class). FixedAs d a) (sym e) tt
 
-attrs_fixed : {K : Type 0} (f : Fit K) (attrs : List (Attr K)) → Each Fixed (map (fit_attr f) attrs)
+attrs_fixed : {K : Type 0} (f : UnitForms K) (attrs : List (Attr K)) → Each Fixed (map (fit_attr f) attrs)
 attrs_fixed f [] = tt
 attrs_fixed f (a ∷ attrs) = (attr_fixed f a, attrs_fixed f attrs)
 
-entries_fixed : {K : Type 0} (f : Fit K) (g : Entries K) → FixedEntries (fit f g)
+entries_fixed : {K : Type 0} (f : UnitForms K) (g : Entries K) → FixedEntries (fit f g)
 unfolding fit
 entries_fixed f End = tt
 entries_fixed f (Entry e children next) = (attrs_fixed f e.attrs, entries_fixed f children, entries_fixed f next)
 
-pub each_fixed : {K : Type 0} (f : FileFit K) (units : List (DwUnit K)) → Each FixedUnit (map (fit_unit f) units)
+pub each_fixed : {K : Type 0} (f : KeyedForms K) (units : List (DwUnit K)) → Each FixedUnit (map (fit_unit f) units)
 each_fixed f [] = tt
-each_fixed f (u ∷ units) = ((attrs_fixed (unit_fit f u) u.root.attrs, entries_fixed (unit_fit f u) u.below), each_fixed f units)
+each_fixed f (u ∷ units) = ((attrs_fixed (unit_forms f u) u.root.attrs, entries_fixed (unit_forms f u) u.below), each_fixed f units)
 
 -- ---- the names stay
 
-fit_keys : {K : Type 0} (x : Fit K) (f : Entries K) → keys (fit x f) ≡ keys f
+fit_keys : {K : Type 0} (x : UnitForms K) (f : Entries K) → keys (fit x f) ≡ keys f
 unfolding fit keys
 fit_keys x End = refl
 fit_keys {K} x (Entry e children next) =
     ap (λ (w : List K). e.at ∷ (w ++ keys (fit x next))) (fit_keys x children) ∙ ap (λ (w : List K). e.at ∷ (keys children ++ w)) (fit_keys x next)
 
-pub fit_entry_keys : {K : Type 0} (f : FileFit K) (u : DwUnit K) → entry_keys (fit_unit f u) ≡ entry_keys u
-fit_entry_keys {K} f u = ap (λ (w : List K). u.root.at ∷ w) (fit_keys (unit_fit f u) u.below)
+pub fit_entry_keys : {K : Type 0} (f : KeyedForms K) (u : DwUnit K) → entry_keys (fit_unit f u) ≡ entry_keys u
+fit_entry_keys {K} f u = ap (λ (w : List K). u.root.at ∷ w) (fit_keys (unit_forms f u) u.below)
 
-pub fit_units_keys : {K : Type 0} (f : FileFit K) (units : List (DwUnit K)) → units_keys (map (fit_unit f) units) ≡ units_keys units
+pub fit_units_keys : {K : Type 0} (f : KeyedForms K) (units : List (DwUnit K)) → units_keys (map (fit_unit f) units) ≡ units_keys units
 unfolding units_keys unit_keys
 fit_units_keys f [] = refl
 fit_units_keys {K} f (u ∷ units) =
-    ap (λ (w : List K). u.at ∷ (w ++ units_keys (map (fit_unit f) units))) (ap (λ (w : List K). u.root.at ∷ w) (fit_keys (unit_fit f u) u.below))
+    ap (λ (w : List K). u.at ∷ (w ++ units_keys (map (fit_unit f) units))) (ap (λ (w : List K). u.root.at ∷ w) (fit_keys (unit_forms f u) u.below))
     ∙ ap (λ (w : List K). u.at ∷ (u.root.at ∷ keys u.below) ++ w) (fit_units_keys f units)
 
-pub fit_all_keys : {K : Type 0} (f : FileFit K) (units : List (DwUnit K)) → all_entry_keys (map (fit_unit f) units) ≡ all_entry_keys units
+pub fit_all_keys : {K : Type 0} (f : KeyedForms K) (units : List (DwUnit K)) → all_entry_keys (map (fit_unit f) units) ≡ all_entry_keys units
 unfolding all_entry_keys
 fit_all_keys f [] = refl
 fit_all_keys {K} f (u ∷ units) =

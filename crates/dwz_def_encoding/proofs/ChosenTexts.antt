@@ -17,7 +17,7 @@ use Rattle.dwz_def_encoding.proofs.ValuesMean.{so_yes}
 use Rattle.dwz_def_encoding.specs.Bases.{Bases}
 use Rattle.dwz_def_encoding.specs.Carried.{AttrPaths, AttrTexts, ComesFromItself, FileStands, From, IsOf, LineFor, PathAs, TextAs}
 use Rattle.dwz_def_encoding.specs.Meant.{AttrSays, FileSays, Own, SaysAs, Tells, told_texts}
-use Rattle.dwz_def_encoding.specs.Placing.{CommonUnit, Fit, NewUnit, OldUnit, UnitRole, as_common, as_file, as_line_text, as_slot, as_strp, as_strp_if, as_text, file_number}
+use Rattle.dwz_def_encoding.specs.Placing.{CommonUnit, NewUnit, OldUnit, UnitForms, UnitRole, as_common, as_file, as_line_text, as_slot, as_strp, as_strp_if, as_text, file_number}
 use Rattle.dwz_def_encoding.specs.Placing.{fit_as, fit_attr, has_text, lines_bytes, path_index, slot_number, text_place, texts_bytes, with_form}
 use Rattle.dwz_def_encoding.specs.Sound.{SoundAttr, StoresAs}
 use Rattle.dwz_def_encoding.proofs.Carrying.{Filed, Placed, Slotted}
@@ -33,7 +33,7 @@ abbrev pub SourcesAt : {K : Type 0} → From → List ℕ → Tells K → Type 0
 SourcesAt from offsets t = (s : MeaningContext ℕ) (a : RawAttr) → from s a → IsOf offsets t s.around.sources
 
 -- those of the common file have its texts, and its paths
-pub record CommonAt {K : Type 0} (f : Fit K) (t : Tells K) : Type 0 where
+pub record CommonAt {K : Type 0} (f : UnitForms K) (t : Tells K) : Type 0 where
   pub strs : t.strs ≡ texts_bytes f.texts
   pub line : t.line ≡ lines_bytes f.paths
   pub few : length t.line < too_large
@@ -41,12 +41,12 @@ pub record CommonAt {K : Type 0} (f : Fit K) (t : Tells K) : Type 0 where
 
 -- what is asked of sections, of a unit, and of an attribute, by what holds it
 -- those of any other file, which shares these texts of the common file
-pub record FileAt {K : Type 0} (from : From) (f : Fit K) (t : Tells K) : Type 0 where
+pub record FileAt {K : Type 0} (from : From) (f : UnitForms K) (t : Tells K) : Type 0 where
   pub sources : SourcesAt from f.offsets t
   pub shared : t.common_strs ≡ texts_bytes f.shared
   pub few : length t.common_strs < 2 ^ 32
 
-abbrev pub SectionsAt : {K : Type 0} → UnitRole → From → Fit K → Tells K → Type 0
+abbrev pub SectionsAt : {K : Type 0} → UnitRole → From → UnitForms K → Tells K → Type 0
 SectionsAt CommonUnit from f t = CommonAt f t
 SectionsAt _ from f t = FileAt from f t
 
@@ -110,7 +110,7 @@ module _ {K : Type 0} (t : Tells K) (own : Own K) (a : Attr K) (text : List ℕ)
   }
 
   -- one that stands at a place is shared, or not
-  pub shared_good : {from : From} (f : Fit K) → FileAt from f t → NoZero text → (at : ℕ) → at < 2 ^ 32 → IsTextAt t.strs at text → Good t own (with_form a (as_strp f a at))
+  pub shared_good : {from : From} (f : UnitForms K) → FileAt from f t → NoZero text → (at : ℕ) → at < 2 ^ 32 → IsTextAt t.strs at text → Good t own (with_form a (as_strp f a at))
   shared_good f file none at less stands = by (has_text f.shared (text_or_empty a.value.plain)) refl where
     is : text_or_empty a.value.plain ≡ text
     is = ap (λ (v : Value K). text_or_empty v.plain) value
@@ -140,7 +140,7 @@ module _ {K : Type 0} (from : From) (t : Tells K) (small : length t.strs < 2 ^ 3
       }
 
   -- in `.debug_str` it may be shared
-  strs_good : (f : Fit K) → FileAt from f t → IsTextAt p.scope.around.sources.strs (reach a.raw) p.text → Good t own (with_form a (as_strp f a (reach a.raw)))
+  strs_good : (f : UnitForms K) → FileAt from f t → IsTextAt p.scope.around.sources.strs (reach a.raw) p.text → Good t own (with_form a (as_strp f a (reach a.raw)))
   strs_good f at stands =
       let there = subst (λ (w : List ℕ). IsTextAt w (reach a.raw) p.text) (sym (at.sources p.scope p.old p.file).strs) stands in
       shared_good t own a p.text p.value p.sound f at stands.spelled.no_zero (reach a.raw) (place_less t own a p.text p.value p.sound t.strs (reach a.raw) small there) there
@@ -154,17 +154,17 @@ module _ {K : Type 0} (from : From) (t : Tells K) (small : length t.strs < 2 ^ 3
   no_zero : NoZero p.text
   no_zero = elim p.class [ inl c ↦ c.1.spelled.no_zero | inr c ↦ c.1.spelled.no_zero ]
 
-  as_text_is : (h : UnitRole) (f : Fit K) → f.holder ≡ h → class_of a.form ≡ OfTextInStr → fit_attr f a ≡ with_form a (as_text h f a)
+  as_text_is : (h : UnitRole) (f : UnitForms K) → f.holder ≡ h → class_of a.form ≡ OfTextInStr → fit_attr f a ≡ with_form a (as_text h f a)
   as_text_is h f e c = ap (λ (d : Class). with_form a (fit_as d f a)) c ∙ ap (λ (x : UnitRole). with_form a (as_text x f a)) e
 
-  as_line_text_is : (h : UnitRole) (f : Fit K) → f.holder ≡ h → class_of a.form ≡ OfTextInLineStr → fit_attr f a ≡ with_form a (as_line_text h f a)
+  as_line_text_is : (h : UnitRole) (f : UnitForms K) → f.holder ≡ h → class_of a.form ≡ OfTextInLineStr → fit_attr f a ≡ with_form a (as_line_text h f a)
   as_line_text_is h f e c = ap (λ (d : Class). with_form a (fit_as d f a)) c ∙ ap (λ (x : UnitRole). with_form a (as_line_text x f a)) e
 
   -- in the common file
-  placed_good : (f : Fit K) → CommonAt f t → TextFor CommonUnit f.texts f.paths a → Good t own (with_form a (as_common f a))
+  placed_good : (f : UnitForms K) → CommonAt f t → TextFor CommonUnit f.texts f.paths a → Good t own (with_form a (as_common f a))
   placed_good f at there = pooled_good t own a p.text p.value p.sound f.texts small at.strs no_zero (one_of t own a p.text p.value p.sound f.texts (text_there f.texts there.0))
 
-  pub text_good : (h : UnitRole) (f : Fit K) → f.holder ≡ h → SectionsAt h from f t → TextFor h f.texts f.paths a → Good t own (fit_attr f a)
+  pub text_good : (h : UnitRole) (f : UnitForms K) → f.holder ≡ h → SectionsAt h from f t → TextFor h f.texts f.paths a → Good t own (fit_attr f a)
   text_good CommonUnit f e at there = elim p.class [
     | inl c ↦ subst (Good t own) (sym (as_text_is CommonUnit f e c.0)) (placed_good f at there)
     | inr c ↦ subst (Good t own) (sym (as_line_text_is CommonUnit f e c.0)) (placed_good f at there)
@@ -181,7 +181,7 @@ module _ {K : Type 0} (from : From) (t : Tells K) (small : length t.strs < 2 ^ 3
 -- ---- texts by slots
 
 module _ {K : Type 0} (from : From) (origin : Bases) (t : Tells K) (small : length t.strs < 2 ^ 32) (own : Own K) (a : Attr K) (p : Slotted from origin a) where
-  as_slot_is : (h : UnitRole) (f : Fit K) → f.holder ≡ h → fit_attr f a ≡ with_form a (as_slot h f a)
+  as_slot_is : (h : UnitRole) (f : UnitForms K) → f.holder ≡ h → fit_attr f a ≡ with_form a (as_slot h f a)
   as_slot_is h f e = ap (λ (d : Class). with_form a (fit_as d f a)) p.class ∙ ap (λ (x : UnitRole). with_form a (as_slot x f a)) e
 
   stands_there : (offsets : List ℕ) → SourcesAt from offsets t → IsTextAt t.strs p.offset p.text
@@ -201,13 +201,13 @@ module _ {K : Type 0} (from : From) (origin : Bases) (t : Tells K) (small : leng
     });
   }
 
-  number_is : (f : Fit K) → f.origin ≡ origin → SourcesAt from f.offsets t → slot_number f.offsets f.origin.slots (reach a.raw) ≡ p.offset
+  number_is : (f : UnitForms K) → f.origin_bases ≡ origin → SourcesAt from f.offsets t → slot_number f.offsets f.origin_bases.slots (reach a.raw) ≡ p.offset
   number_is f here same =
-      let base : f.origin.slots ≡ Some p.base = ap (λ (b : Bases). b.slots) here ∙ p.is_base in
+      let base : f.origin_bases.slots ≡ Some p.base = ap (λ (b : Bases). b.slots) here ∙ p.is_base in
       let slot = here_slot f.offsets p.base (reach a.raw) p.offset (subst (λ (w : List ℕ). IsSlot w p.base (reach a.raw) p.offset) (sym (same p.scope p.old p.file).slots) p.slot) in
       ap (λ (o : Option ℕ). slot_number f.offsets o (reach a.raw)) base ∙ ap or_zero slot
 
-  pub slot_good : (h : UnitRole) (f : Fit K) → f.holder ≡ h → f.origin ≡ origin → ComesFromItself h own.bases origin → SectionsAt h from f t → TextFor h f.texts f.paths a → Good t own (fit_attr f a)
+  pub slot_good : (h : UnitRole) (f : UnitForms K) → f.holder ≡ h → f.origin_bases ≡ origin → ComesFromItself h own.bases origin → SectionsAt h from f t → TextFor h f.texts f.paths a → Good t own (fit_attr f a)
   slot_good OldUnit f e here itself at there = subst (Good t own) (sym (as_slot_is OldUnit f e)) (kept_slot f.offsets at.sources itself)
   slot_good NewUnit f e here itself at there =
       let stands = stands_there f.offsets at.sources in
@@ -241,7 +241,7 @@ module _ {K : Type 0} (from : From) (origin : Bases) (t : Tells K) (own : Own K)
         (subst (λ (o : Option ℕ). FileSays (told_texts t) t.line o a) (sym line) (told offsets same origin.line p.says)));
   }
 
-  as_file_is : (h : UnitRole) (f : Fit K) → f.holder ≡ h → fit_attr f a ≡ with_form a (as_file h f a)
+  as_file_is : (h : UnitRole) (f : UnitForms K) → f.holder ≡ h → fit_attr f a ≡ with_form a (as_file h f a)
   as_file_is h f e = p.chosen f ∙ ap (λ (x : UnitRole). with_form a (as_file x f a)) e
 
   -- ---- in the common file
@@ -269,7 +269,7 @@ module _ {K : Type 0} (from : From) (origin : Bases) (t : Tells K) (own : Own K)
       subst (λ (q : Plain). Good t own (numbered (file_number paths q))) (sym plain)
       (numbered_good 0 (omega arith) (subst (λ (o : Option ℕ). FileSays (told_texts t) t.line o (numbered 0)) (sym none) (refl, value)))
 
-  some_good : (f : Fit K) → CommonAt f t → (path : List ℕ) → a.value ≡ only (File (Some path)) → AttrPaths f.paths a → LineFor own.bases.line a.value.plain
+  some_good : (f : UnitForms K) → CommonAt f t → (path : List ℕ) → a.value ≡ only (File (Some path)) → AttrPaths f.paths a → LineFor own.bases.line a.value.plain
       → Good t own (numbered (file_number f.paths a.value.plain))
   some_good f at path value among line =
       let plain : a.value.plain ≡ File (Some path) = ap (λ (v : Value K). v.plain) value in
@@ -288,13 +288,13 @@ module _ {K : Type 0} (from : From) (origin : Bases) (t : Tells K) (own : Own K)
       subst (λ (q : Plain). Good t own (numbered (file_number f.paths q))) (sym plain)
       (numbered_good number (omega (arith, few)) (subst (λ (o : Option ℕ). FileSays (told_texts t) t.line o (numbered number)) (sym zero_line) says))
 
-  common_good : (f : Fit K) → CommonAt f t → AttrPaths f.paths a → LineFor own.bases.line a.value.plain → (o : Option ℕ)
+  common_good : (f : UnitForms K) → CommonAt f t → AttrPaths f.paths a → LineFor own.bases.line a.value.plain → (o : Option ℕ)
       → FileSays (text_sections_of p.scope.around.sources) p.scope.around.sources.line o a
       → Good t own (numbered (file_number f.paths a.value.plain))
   common_good f at among line None says = none_good f.paths says.1 line
   common_good f at among line (Some place) says = some_good f at says.path says.value among line
 
-  pub file_good : (h : UnitRole) (f : Fit K) → f.holder ≡ h → ComesFromItself h own.bases origin → SectionsAt h from f t → TextFor h f.texts f.paths a → FileStands h own.bases.line origin.line a
+  pub file_good : (h : UnitRole) (f : UnitForms K) → f.holder ≡ h → ComesFromItself h own.bases origin → SectionsAt h from f t → TextFor h f.texts f.paths a → FileStands h own.bases.line origin.line a
       → Good t own (fit_attr f a)
   file_good OldUnit f e itself at there file = subst (Good t own) (sym (as_file_is OldUnit f e)) (file_told f.offsets at.sources (ap (λ (b : Bases). b.line) itself))
   file_good NewUnit f e itself at there file = subst (Good t own) (sym (as_file_is NewUnit f e)) (file_told f.offsets at.sources (file p.numbers))

@@ -11,7 +11,7 @@ use Rattle.dwz_def_reading.specs.Forms.{form_rows}
 use Rattle.dwz_def_reading.specs.LineTables.{FileTable, IsFileTable, TextSections}
 use Rattle.dwz_def_reading.specs.Values.{Number, SpellsShape, constant_of, shape_of, written_rows}
 use Rattle.dwz_def_encoding.specs.Meant.{AttrSays, Own, SaysAs, Tells}
-use Rattle.dwz_def_encoding.specs.Placing.{Fit, InCommon, InFile, InUnit, Reach}
+use Rattle.dwz_def_encoding.specs.Placing.{InCommon, InFile, InUnit, Reach, UnitForms}
 use Rattle.dwz_def_encoding.specs.Placing.{fit_attr, has_key, lines_bytes, path_index, reach_by, reach_of, ref_form, with_form}
 use Rattle.dwz_def_encoding.specs.Sound.{HasBytes, SoundAttr, StoresAs}
 use Rattle.dwz_def_encoding.proofs.Carrying.{Reference}
@@ -81,7 +81,7 @@ module _ {K : Type 0} (a : Attr K) (r : Reference a) where
   pub common_says_it : (t : Tells K) (own : Own K) → In r.target t.common → AttrSays t own (chosen a 0x1c)
   common_says_it t own there = says_as t own 0x1c OfCommonEntry common_class (subst (Each (λ k. In k t.common)) (sym refs_are) (there, tt))
 
-  pub form_is : (f : Fit K) → fit_attr f a ≡ chosen a (ref_form (reach_by (has_key f.same r.target f.own) (has_key f.same r.target f.file)))
+  pub form_is : (f : UnitForms K) → fit_attr f a ≡ chosen a (ref_form (reach_by (has_key f.same r.target f.own) (has_key f.same r.target f.keys)))
   form_is f = r.chosen f ∙ ap (λ (ks : List K). chosen a (ref_form (reach_of f ks))) refs_are
 
 -- ---- texts

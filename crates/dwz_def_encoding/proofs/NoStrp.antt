@@ -6,7 +6,8 @@ use Rattle.dwz_def_reading.specs.Spelling.{reach}
 use Rattle.dwz_def_reading.specs.Lists.{In}
 use Rattle.dwz_def_reading.specs.Texts.{IsTextAt}
 use Rattle.dwz_def_reading.specs.Values.{Bytes, Number, Raw}
-use Rattle.dwz_def_reading.specs.LineTables.{FileTable, IsFileTable, IsPathText, PathRow, SayRows, SaysRow, SaysTable, Tables, TextSections, names_strs, with_content}
+use Rattle.dwz_def_reading.specs.LineTables.{FileTable, HaveTheirTexts, IsFileTable, IsValueText, PathRow, SayRows, SaysRow, SaysTable, Tables, TextSections, names_strs}
+use Rattle.dwz_def_reading.specs.LineTables.{with_content}
 
 -- a value has one of the formats
 has_format : (content : ℕ) (formats : List Pair) (raws : List Raw) (x : Pair × Raw) → names_strs formats ≡ false → In x (with_content content formats raws) → eqb x.0.form 0x0e ≡ false
@@ -24,16 +25,24 @@ module _ (s : TextSections) (strs : List ℕ) where
   abbrev other : TextSections
   other = record { strs = strs; line_strs = s.line_strs }
 
-  path_other : (form : ℕ) (raw : Raw) (path : List ℕ) → eqb form 0x0e ≡ false → IsPathText s form raw path → IsPathText other form raw path
-  path_other form (Bytes bytes) path none is = is
-  path_other form (Number z) path none is =
-      subst (λ (b : Bool). IsTextAt (cond b strs s.line_strs) (reach z) path) (sym none) (subst (λ (b : Bool). IsTextAt (cond b s.strs s.line_strs) (reach z) path) none is)
+  text_other : (form : ℕ) (raw : Raw) (text : List ℕ) → eqb form 0x0e ≡ false → IsValueText s form raw text → IsValueText other form raw text
+  text_other form (Bytes bytes) text none is = is
+  text_other form (Number z) text none is =
+      subst (λ (b : Bool). IsTextAt (cond b strs s.line_strs) (reach z) text) (sym none) (subst (λ (b : Bool). IsTextAt (cond b s.strs s.line_strs) (reach z) text) none is)
+
+  texts_other : (formats : List Pair) (raws : List Raw) → names_strs formats ≡ false → HaveTheirTexts s formats raws → HaveTheirTexts other formats raws
+  texts_other [] raws none have = tt
+  texts_other (pair ∷ pairs) [] none have = tt
+  texts_other (pair ∷ pairs) (raw ∷ raws) none have =
+      let not = or_parts (eqb pair.form 0x0e) (names_strs pairs) none in
+      ((λ is. let h = have.0 is in (h.0, text_other pair.form raw h.0 not.0 h.1)), texts_other pairs raws not.1 have.1)
 
   row_other : (dirs : ℕ) (formats : List Pair) (raws : List Raw) (row : PathRow) → names_strs formats ≡ false → SaysRow s dirs formats raws row → SaysRow other dirs formats raws row
   row_other dirs formats raws row none is = record {
+    texts = texts_other formats raws none is.texts;
     named = is.named;
     one_path = is.one_path;
-    path = path_other is.named.0.form is.named.1 row.path (has_format 1 formats raws is.named none (subst (In is.named) (sym is.one_path) (inl refl))) is.path;
+    path = text_other is.named.0.form is.named.1 row.path (has_format 1 formats raws is.named none (subst (In is.named) (sym is.one_path) (inl refl))) is.path;
     indexes = is.indexes;
     dir = is.dir;
   }

@@ -13,9 +13,9 @@ use Rattle.dwz_def_tops.specs.Shown.{units_keys}
 use Rattle.dwz_def_encoding.specs.Bases.{Bases, bases_in}
 use Rattle.dwz_def_encoding.specs.Carried.{BasesStand, CarriedAttr, CarriedEntries, CarriedNode, CarriedUnit, ComesFromItself, FileStands, OfFile}
 use Rattle.dwz_def_encoding.specs.Fitting.{EachAttr}
-use Rattle.dwz_def_encoding.specs.Placing.{Chosen, CommonUnit, FileFit, Fit, Forms, InCommon, InFile, InUnit, NewUnit, OldUnit, Reach, UnitRole, as_constant, as_file, as_line_text, as_slot}
+use Rattle.dwz_def_encoding.specs.Placing.{Chosen, CommonUnit, Forms, InCommon, InFile, InUnit, KeyedForms, NewUnit, OldUnit, Reach, UnitForms, UnitRole, as_constant, as_file, as_line_text, as_slot}
 use Rattle.dwz_def_encoding.specs.Placing.{as_strp_if}
-use Rattle.dwz_def_encoding.specs.Placing.{as_text, fit, fit_as, fit_attr, fit_unit, fit_units, has_text, holder_of, reach_of, ref_form, slot_number, unit_fit, with_keys}
+use Rattle.dwz_def_encoding.specs.Placing.{as_text, fit, fit_as, fit_attr, fit_unit, fit_units, has_text, holder_of, reach_of, ref_form, slot_number, unit_forms, with_keys}
 use Rattle.dwz_def_encoding.specs.Pruned.{AttrStays, StaysAs, StaysIn, UnitStays}
 use Rattle.dwz_def_encoding.specs.Writing.{text_or_empty}
 use Rattle.dwz_def_encoding.proofs.Carrying.{import_class}
@@ -81,7 +81,7 @@ units_too sources places (u ∷ units) carried stays = (unit_too sources places 
 
 -- ---- with its form
 
-module _ {K : Type 0} (texts : TextSections) (line places : List ℕ) (x : Fit K) (own origin : Bases) (a : Attr K) where
+module _ {K : Type 0} (texts : TextSections) (line places : List ℕ) (x : UnitForms K) (own origin : Bases) (a : Attr K) where
   abbrev Goal : Chosen → Type 0
   Goal c = StaysAs (class_of c.form) texts line places own a.name (reach c.raw)
 
@@ -112,7 +112,7 @@ module _ {K : Type 0} (texts : TextSections) (line places : List ℕ) (x : Fit K
   unfolding class_rows class_in
   slot_stays CommonUnit itself stays = tt
   slot_stays OldUnit itself stays = subst (λ (b : Bases). AttrStays texts line places b a) (sym itself) stays
-  slot_stays NewUnit itself stays = strp_stays (has_text x.shared (text_or_empty a.value.plain)) (slot_number x.offsets x.origin.slots (reach a.raw))
+  slot_stays NewUnit itself stays = strp_stays (has_text x.shared (text_or_empty a.value.plain)) (slot_number x.offsets x.origin_bases.slots (reach a.raw))
 
   file_stays : (h : UnitRole) → (h ≡ CommonUnit → ⊥) → ComesFromItself h own origin → FileStands h own.line origin.line a → AttrStays texts line places origin a
       → class_of a.form ≡ OfConstant → Goal (as_file h x a)
@@ -150,7 +150,7 @@ no_common false Compile e is = absurd cc
 no_common false (OfType signature main) e is = absurd cc
 no_common false Partial e is = absurd cc
 
-module _ {K : Type 0} (f : FileFit K) (sources : Sources) (places : List ℕ) (own_file : f.is_common ≡ false) (u : DwUnit K)
+module _ {K : Type 0} (f : KeyedForms K) (sources : Sources) (places : List ℕ) (own_file : f.is_common ≡ false) (u : DwUnit K)
     (bases : ComesFromItself (holder_of f.is_common u.kind) (bases_in u) (f.origin u.at)) where
   abbrev At : Attr K → Type 0
   At a = AttrStays (text_sections_of sources) sources.line places (bases_in u) a
@@ -158,24 +158,24 @@ module _ {K : Type 0} (f : FileFit K) (sources : Sources) (places : List ℕ) (o
   abbrev Files : Attr K → Type 0
   Files a = FileStands (holder_of f.is_common u.kind) (bases_in u).line (f.origin u.at).line a
 
-  attr_stays : (a : Attr K) → CarriedAttr (StaysIn sources places) (f.origin u.at) a → Files a → At (fit_attr (unit_fit f u) a)
+  attr_stays : (a : Attr K) → CarriedAttr (StaysIn sources places) (f.origin u.at) a → Files a → At (fit_attr (unit_forms f u) a)
   attr_stays a carried file =
-      fit_stays (text_sections_of sources) sources.line places (unit_fit f u) (bases_in u) (f.origin u.at) a (holder_of f.is_common u.kind) (no_common f.is_common u.kind own_file) bases file
+      fit_stays (text_sections_of sources) sources.line places (unit_forms f u) (bases_in u) (f.origin u.at) a (holder_of f.is_common u.kind) (no_common f.is_common u.kind own_file) bases file
       (read_stays sources places (f.origin u.at) a carried) refl
 
-  attrs_stay : (attrs : List (Attr K)) → Each (CarriedAttr (StaysIn sources places) (f.origin u.at)) attrs → Each Files attrs → Each At (map (fit_attr (unit_fit f u)) attrs)
+  attrs_stay : (attrs : List (Attr K)) → Each (CarriedAttr (StaysIn sources places) (f.origin u.at)) attrs → Each Files attrs → Each At (map (fit_attr (unit_forms f u)) attrs)
   attrs_stay [] carried files = tt
   attrs_stay (a ∷ attrs) carried files = (attr_stays a carried.0 files.0, attrs_stay attrs carried.1 files.1)
 
-  entries_stay : (g : Entries K) → CarriedEntries (StaysIn sources places) (f.origin u.at) g → EachAttr Files g → EachAttr At (fit (unit_fit f u) g)
+  entries_stay : (g : Entries K) → CarriedEntries (StaysIn sources places) (f.origin u.at) g → EachAttr Files g → EachAttr At (fit (unit_forms f u) g)
   unfolding fit
   entries_stay End carried files = tt
   entries_stay (Entry e children next) carried files = (attrs_stay e.attrs carried.0.attrs files.0, entries_stay children carried.1 files.1, entries_stay next carried.2 files.2)
 
   unit_stays : CarriedUnit (StaysIn sources places) (f.origin u.at) u → Each Files u.root.attrs → EachAttr Files u.below → UnitStays (text_sections_of sources) sources.line places (fit_unit f u)
   unit_stays carried root below =
-      subst (λ (b : Bases). Each (AttrStays (text_sections_of sources) sources.line places b) (map (fit_attr (unit_fit f u)) u.root.attrs)
-      × EachAttr (AttrStays (text_sections_of sources) sources.line places b) (fit (unit_fit f u) u.below)) (sym (bases_fit f u))
+      subst (λ (b : Bases). Each (AttrStays (text_sections_of sources) sources.line places b) (map (fit_attr (unit_forms f u)) u.root.attrs)
+      × EachAttr (AttrStays (text_sections_of sources) sources.line places b) (fit (unit_forms f u) u.below)) (sym (bases_fit f u))
       (attrs_stay u.root.attrs carried.root.attrs root, entries_stay u.below carried.below below)
 
 each_stays : {K : Type 0} (f : Forms K) (keys : List K) (sources : Sources) (places : List ℕ) → f.is_common ≡ false → (units : List (DwUnit K))

@@ -99,19 +99,31 @@ holder_of true kind = CommonUnit
 holder_of false Partial = NewUnit
 holder_of false _ = OldUnit
 
--- What forms are chosen by: a test of keys; the keys of the unit and of its file; what holds the unit; the texts of the common file and
--- the paths of its line table, in order; the texts that the file shares with it, which are those of the common file where the file imports
--- from it; the slots of the file, and what is known of the unit that values come from.
-pub record Fit (K : Type 0) : Type 0 where
+-- What forms are chosen by in a file: a test of keys; whether it is the common file; the texts of the common file and the paths of its line
+-- table, in order; the texts that the file shares with it, which are those of the common file where the file imports from it; the slots of
+-- the file; and by the key of each unit what is known of the unit that its values come from.
+pub record Forms (K : Type 0) : Type 0 where
   pub same : K → K → Bool
-  pub own : List K
-  pub file : List K
-  pub holder : UnitRole
+  pub is_common : Bool
   pub texts : List (List ℕ)
   pub shared : List (List ℕ)
   pub paths : List (List ℕ)
   pub offsets : List ℕ
-  pub origin : Bases
+  pub origin : K → Bases
+
+-- the same, and the keys of the file's units
+pub record KeyedForms (K : Type 0) : Type 0 where
+  pub forms : Forms K
+  pub open forms use *
+  pub keys : List K
+
+-- in a unit of the file: also the keys of the unit, what holds it, and what is known of the unit that its values come from
+pub record UnitForms (K : Type 0) : Type 0 where
+  pub file : KeyedForms K
+  pub open file use *
+  pub own : List K
+  pub holder : UnitRole
+  pub origin_bases : Bases
 
 -- where an entry stands that is named: in the same unit, in another of the file, or in the common file
 pub data Reach : Type 0 where
@@ -125,9 +137,9 @@ reach_by false true = InFile
 reach_by false false = InCommon
 
 -- of the first of these keys
-abbrev pub reach_of : {K : Type 0} → Fit K → List K → Reach
+abbrev pub reach_of : {K : Type 0} → UnitForms K → List K → Reach
 reach_of f [] = InUnit
-reach_of f (k ∷ refs) = reach_by (has_key f.same k f.own) (has_key f.same k f.file)
+reach_of f (k ∷ refs) = reach_by (has_key f.same k f.own) (has_key f.same k f.keys)
 
 -- DW_FORM_ref4, DW_FORM_ref_addr, DW_FORM_ref_sup4
 abbrev pub ref_form : Reach → ℕ
@@ -143,7 +155,7 @@ pub record Chosen : Type 0 where
 abbrev pub as_read : {K : Type 0} → Attr K → Chosen
 as_read a = record { form = a.form; raw = a.raw }
 
-abbrev pub as_reference : {K : Type 0} → Fit K → Attr K → Chosen
+abbrev pub as_reference : {K : Type 0} → UnitForms K → Attr K → Chosen
 as_reference f a = record { form = ref_form (reach_of f a.value.refs); raw = a.raw }
 
 -- the place of a text among texts that stand one after the other, each with a zero byte behind it
@@ -156,25 +168,25 @@ has_text [] text = false
 has_text (t ∷ texts) text = elim (same_numbers t text) as (λ _. Bool) [ true ↦ true | false ↦ has_text texts text ]
 
 -- a text of the common file: DW_FORM_strp, with its place in `.debug_str`
-abbrev pub as_common : {K : Type 0} → Fit K → Attr K → Chosen
+abbrev pub as_common : {K : Type 0} → UnitForms K → Attr K → Chosen
 as_common f a = record { form = 0x0e; raw = pos (text_place f.texts (text_or_empty a.value.plain)) }
 
 -- a text of a file that stands at an offset of `.debug_str`: where it is shared DW_FORM_strp_sup, with its place in that of the common
 -- file; and else DW_FORM_strp
-abbrev pub as_strp_if : {K : Type 0} → Bool → Fit K → Attr K → ℕ → Chosen
+abbrev pub as_strp_if : {K : Type 0} → Bool → UnitForms K → Attr K → ℕ → Chosen
 as_strp_if true f a at = record { form = 0x1d; raw = pos (text_place f.shared (text_or_empty a.value.plain)) }
 as_strp_if false f a at = record { form = 0x0e; raw = pos at }
 
-abbrev pub as_strp : {K : Type 0} → Fit K → Attr K → ℕ → Chosen
+abbrev pub as_strp : {K : Type 0} → UnitForms K → Attr K → ℕ → Chosen
 as_strp f a at = as_strp_if (has_text f.shared (text_or_empty a.value.plain)) f a at
 
 -- a text in `.debug_str`, at the offset that was read
-abbrev pub as_text : {K : Type 0} → UnitRole → Fit K → Attr K → Chosen
+abbrev pub as_text : {K : Type 0} → UnitRole → UnitForms K → Attr K → Chosen
 as_text CommonUnit f a = as_common f a
 as_text _ f a = as_strp f a (reach a.raw)
 
 -- a text in `.debug_line_str` is as it was read
-abbrev pub as_line_text : {K : Type 0} → UnitRole → Fit K → Attr K → Chosen
+abbrev pub as_line_text : {K : Type 0} → UnitRole → UnitForms K → Attr K → Chosen
 as_line_text CommonUnit f a = as_common f a
 as_line_text _ f a = as_read a
 
@@ -184,9 +196,9 @@ slot_number offsets None index = 0
 slot_number offsets (Some base) index = or_zero (slot offsets base index)
 
 -- a text by its slot is as it was read; in a partial unit, which has no base, it is a text at the offset that is in the slot
-abbrev pub as_slot : {K : Type 0} → UnitRole → Fit K → Attr K → Chosen
+abbrev pub as_slot : {K : Type 0} → UnitRole → UnitForms K → Attr K → Chosen
 as_slot OldUnit f a = as_read a
-as_slot NewUnit f a = as_strp f a (slot_number f.offsets f.origin.slots (reach a.raw))
+as_slot NewUnit f a = as_strp f a (slot_number f.offsets f.origin_bases.slots (reach a.raw))
 as_slot CommonUnit f a = as_common f a
 
 -- where a path is among paths
@@ -200,16 +212,16 @@ file_number paths (File (Some path)) = suc (path_index paths path)
 file_number paths _ = 0
 
 -- the number of a file is as it was read, or in the common file DW_FORM_udata, with the number of its path there
-abbrev pub as_file : {K : Type 0} → UnitRole → Fit K → Attr K → Chosen
+abbrev pub as_file : {K : Type 0} → UnitRole → UnitForms K → Attr K → Chosen
 as_file CommonUnit f a = record { form = 0x0f; raw = pos (file_number f.paths a.value.plain) }
 as_file _ f a = as_read a
 
 -- any other constant is as it was read
-abbrev pub as_constant : {K : Type 0} → Bool → Fit K → Attr K → Chosen
+abbrev pub as_constant : {K : Type 0} → Bool → UnitForms K → Attr K → Chosen
 as_constant true f a = as_file f.holder f a
 as_constant false f a = as_read a
 
-abbrev pub fit_as : {K : Type 0} → Class → Fit K → Attr K → Chosen
+abbrev pub fit_as : {K : Type 0} → Class → UnitForms K → Attr K → Chosen
 fit_as OfConstant f a = as_constant (names_file a.name) f a
 fit_as OfUnitEntry f a = as_reference f a
 fit_as OfInfoEntry f a = as_reference f a
@@ -222,65 +234,24 @@ fit_as _ f a = as_read a
 abbrev pub with_form : {K : Type 0} → Attr K → Chosen → Attr K
 with_form a c = record { name = a.name; form = c.form; raw = c.raw; value = a.value }
 
-abbrev pub fit_attr : {K : Type 0} → Fit K → Attr K → Attr K
+abbrev pub fit_attr : {K : Type 0} → UnitForms K → Attr K → Attr K
 fit_attr f a = with_form a (fit_as (class_of a.form) f a)
 
-abbrev pub fit_node : {K : Type 0} → Fit K → Node K → Node K
+abbrev pub fit_node : {K : Type 0} → UnitForms K → Node K → Node K
 fit_node f e = record { at = e.at; tag = e.tag; attrs = map (fit_attr f) e.attrs }
 
-unfoldable pub fit : {K : Type 0} → Fit K → Entries K → Entries K
+unfoldable pub fit : {K : Type 0} → UnitForms K → Entries K → Entries K
 fit f End = End
 fit f (Entry e children next) = Entry (fit_node f e) (fit f children) (fit f next)
 
--- what is known of a file: whether it is the common file; the texts and paths of the common file, and the texts that the file shares with
--- it; its slots; and by the key of each unit what is known of the unit that its values come from
-pub record Forms (K : Type 0) : Type 0 where
-  pub same : K → K → Bool
-  pub is_common : Bool
-  pub texts : List (List ℕ)
-  pub shared : List (List ℕ)
-  pub paths : List (List ℕ)
-  pub offsets : List ℕ
-  pub origin : K → Bases
+abbrev pub with_keys : {K : Type 0} → Forms K → List K → KeyedForms K
+with_keys f keys = record { forms = f; keys = keys }
 
--- the same with the keys of its units
-pub record FileFit (K : Type 0) : Type 0 where
-  pub same : K → K → Bool
-  pub is_common : Bool
-  pub texts : List (List ℕ)
-  pub shared : List (List ℕ)
-  pub paths : List (List ℕ)
-  pub offsets : List ℕ
-  pub origin : K → Bases
-  pub keys : List K
+abbrev pub unit_forms : {K : Type 0} → KeyedForms K → DwUnit K → UnitForms K
+unit_forms f u = record { file = f; own = unit_keys u; holder = holder_of f.is_common u.kind; origin_bases = f.origin u.at }
 
-abbrev pub with_keys : {K : Type 0} → Forms K → List K → FileFit K
-with_keys f keys = record {
-  same = f.same;
-  is_common = f.is_common;
-  texts = f.texts;
-  shared = f.shared;
-  paths = f.paths;
-  offsets = f.offsets;
-  origin = f.origin;
-  keys = keys;
-}
-
-abbrev pub unit_fit : {K : Type 0} → FileFit K → DwUnit K → Fit K
-unit_fit f u = record {
-  same = f.same;
-  own = unit_keys u;
-  file = f.keys;
-  holder = holder_of f.is_common u.kind;
-  texts = f.texts;
-  shared = f.shared;
-  paths = f.paths;
-  offsets = f.offsets;
-  origin = f.origin u.at;
-}
-
-abbrev pub fit_unit : {K : Type 0} → FileFit K → DwUnit K → DwUnit K
-fit_unit f u = record { at = u.at; kind = u.kind; root = fit_node (unit_fit f u) u.root; below = fit (unit_fit f u) u.below }
+abbrev pub fit_unit : {K : Type 0} → KeyedForms K → DwUnit K → DwUnit K
+fit_unit f u = record { at = u.at; kind = u.kind; root = fit_node (unit_forms f u) u.root; below = fit (unit_forms f u) u.below }
 
 -- the units of a file
 unfoldable pub fit_units : {K : Type 0} → Forms K → List (DwUnit K) → List (DwUnit K)

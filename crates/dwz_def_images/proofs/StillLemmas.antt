@@ -12,7 +12,7 @@ use Rattle.dwz_def_tops.proofs.Members.{each_in}
 use Rattle.dwz_def_tops.proofs.SpaceLemmas.{text_map, under_count}
 use Rattle.dwz_def_tops.specs.Alike.{IsAlike, TopScope}
 use Rattle.dwz_def_tops.specs.Spots.{ASpace, ATop, FileUnit, InChain, InType, Import, Nothing, PartialOf, PartialRoot, RootOf, Row, SpaceAt, SpaceName, EntryName, Top, UnitOf, Within, below_spots}
-use Rattle.dwz_def_tops.specs.Spots.{entry_spots, in_file, name_of, named_files, named_in, row_below, row_in, row_tops, spot_in, spots_from, top_count, top_spots, tops_among, tops_from, tops_of}
+use Rattle.dwz_def_tops.specs.Spots.{entry_spots, in_file, name_of, named_files, named_in, no_name, row_below, row_in, row_tops, spot_in, spots_from, top_count, top_spots, tops_among, tops_from, tops_of}
 use Rattle.dwz_def_tops.specs.Spots.{units_of}
 use Rattle.dwz_def_tops.proofs.RowLemmas.{RowIs, row_is}
 use Rattle.dwz_def_plan.specs.Homes.{Home, IsChoice, Local, Rule, Stay, candidate, home, is_home, moves, same_home, users}
@@ -109,13 +109,13 @@ module _ (g : ℕ → EntryName) (file : ℕ) where
             (file_names (suc unit) (n + top_count u.kind u.below) units x b)
       ]
 
--- what is found for a place is the first name of all, or one of these
-found : (xs : List (ℕ × EntryName)) (p : ℕ) → (spot_in xs p ≡ UnitOf 0) ⊎ ((x : ℕ × EntryName) × In x xs × (x.1 ≡ spot_in xs p))
+-- what is found for a place is `no_name`, or one of these
+found : (xs : List (ℕ × EntryName)) (p : ℕ) → (spot_in xs p ≡ no_name) ⊎ ((x : ℕ × EntryName) × In x xs × (x.1 ≡ spot_in xs p))
 unfolding spot_in
 found [] p = inl refl
 found (x ∷ xs) p = go (x.0 == p) (found xs p) where
-  go : (b : Bool) → (spot_in xs p ≡ UnitOf 0) ⊎ ((y : ℕ × EntryName) × In y xs × (y.1 ≡ spot_in xs p))
-      → (let s : EntryName = elim b as (λ _. EntryName) [ true ↦ x.1 | false ↦ spot_in xs p ] in (s ≡ UnitOf 0) ⊎ ((y : ℕ × EntryName) × In y (x ∷ xs) × (y.1 ≡ s)))
+  go : (b : Bool) → (spot_in xs p ≡ no_name) ⊎ ((y : ℕ × EntryName) × In y xs × (y.1 ≡ spot_in xs p))
+      → (let s : EntryName = elim b as (λ _. EntryName) [ true ↦ x.1 | false ↦ spot_in xs p ] in (s ≡ no_name) ⊎ ((y : ℕ × EntryName) × In y (x ∷ xs) × (y.1 ≡ s)))
   go true more = inr (x, inl refl, refl)
   go false (inl e) = inl e
   go false (inr o) = inr (o.0, inr o.1, o.2)

@@ -8,9 +8,7 @@ use Rattle.dwz_def_tops.specs.Seen.{Closed, IsPartial, SameAlong}
 use Rattle.dwz_def_tops.specs.Shown.{HaveMains, OnePlace, UnitsShown, units_keys}
 use Rattle.dwz_def_tops.specs.Alike.{TopScope}
 use Rattle.dwz_def_tops.specs.Spots.{EntryName, FileUnit, InType, Labelled, LabelledSpaces, LabelledTop, RootOf, Row, Top, UnitOf}
-use Rattle.dwz_def_tops.specs.Spots.{rows_of_root}
-use Rattle.dwz_def_tops.specs.Spots.{spot_in}
-use Rattle.dwz_def_tops.specs.Spots.{spots_from, tops_among, tops_of, units_of}
+use Rattle.dwz_def_tops.specs.Spots.{no_name, rows_of_root, spot_in, spots_from, tops_among, tops_of, units_of}
 use Rattle.dwz_def_plan.specs.Homes.{Rule, moves}
 use Rattle.dwz_def_plan.specs.IsPlan.{Has, OfSpace}
 use Rattle.dwz_def_plan.specs.Moves.{Move, image_in, plan}
@@ -123,7 +121,7 @@ units_placed_from file (doc ∷ docs) = map (unit_map (at_file file)) doc.units 
 
 -- the name of a place; the first file, its first unit and its first top have these numbers
 unfoldable pub name_from : ℕ → ℕ → ℕ → List (Doc ℕ) → Place → EntryName
-name_from file unit top [] p = UnitOf 0
+name_from file unit top [] p = no_name
 name_from file unit top (doc ∷ docs) p = elim (file == p.file) as (λ _. EntryName) [
   | true ↦ spot_in (spots_from unit top doc.units) p.at
   | false ↦ name_from (suc file) (unit + length doc.units) (top + tops_among doc.units) docs p

@@ -21,7 +21,8 @@ use Rattle.dwz_def_readback.proofs.HomeLemmas.{no_common}
 use Rattle.dwz_def_readback.specs.Files.{HasCommon, Run, Stored, common_sections, imports_common, paths, texts}
 use Rattle.dwz_def_output.specs.FilesAfter.{common_bytes, file_after, has_common, sup_of}
 use Rattle.dwz_def_output.specs.Written.{CanBeWritten, common_under, rule_under, run_under, stored_of}
-use Rattle.dwz_def_output.specs.Refusals.{CommonFault, CommonRefusal, FileFault, FirstNarrow, InFile, IsLargeSection, OfFirst, OrElse, SectionsFault, spoken}
+use Rattle.dwz_def_output.specs.Refusals.{CommonFault, CommonRefusal, FileFault, FirstNarrow, InFile, IsLargeSection, SectionsFault, spoken}
+use Rattle.dwz_def_reading.specs.FirstOf.{OfFirst, OrElse}
 use Rattle.dwz_def_output.specs.Tied.{SaysSup, common_sup, file_sup, sum_of}
 use Rattle.dwz_def_output.proofs.CommonMade.{has_it, is_small, no_units, says_itself}
 use Rattle.dwz_def_output.proofs.NoneNarrow.{all_fit}

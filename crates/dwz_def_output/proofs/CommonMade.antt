@@ -36,7 +36,8 @@ use Rattle.dwz_def_encoding.proofs.WriteLengths.{no_lines}
 use Rattle.dwz_def_readback.specs.Files.{HasCommon, Run, common_fitted, common_forms, common_sections, common_sources, paths, places, texts}
 use Rattle.dwz_def_output.specs.Contents.{common_after, if_some}
 use Rattle.dwz_def_output.specs.FilesAfter.{common_bytes, has_common, is_common}
-use Rattle.dwz_def_output.specs.Refusals.{CommonFault, IsLargeCommon, IsLargeSection, OfFirst, too_large_at}
+use Rattle.dwz_def_output.specs.Refusals.{CommonFault, IsLargeCommon, IsLargeSection, too_large_at}
+use Rattle.dwz_def_reading.specs.FirstOf.{OfFirst}
 use Rattle.dwz_def_output.proofs.FreeLemmas.{Nothing, is_short, not_first, not_then}
 
 -- ---- where no top has its home there, it would hold nothing

@@ -11,7 +11,8 @@ use Rattle.dwz_def_images.specs.Units.{changes}
 use Rattle.dwz_def_readback.specs.Files.{Run}
 use Rattle.dwz_def_output.specs.Contents.{common_after, listed, sections_after}
 use Rattle.dwz_def_output.specs.FilesAfter.{changes_after, common_bytes, has_common, order_of}
-use Rattle.dwz_def_output.specs.Refusals.{CommonFault, CommonRefusal, FileFault, FirstNarrow, InFile, IsLargeCommon, IsLargeFile, IsLargeSection, IsUnplaced, OfFirst, OrElse, OutFault, SectionsFault}
+use Rattle.dwz_def_output.specs.Refusals.{CommonFault, CommonRefusal, FileFault, FirstNarrow, InFile, IsLargeCommon, IsLargeFile, IsLargeSection, IsUnplaced, OutFault, SectionsFault}
+use Rattle.dwz_def_reading.specs.FirstOf.{OfFirst, OrElse}
 use Rattle.dwz_def_output.specs.Refusals.{narrow_at, spoken, too_large_at}
 use Rattle.dwz_def_output.proofs.FreeLemmas.{Nothing}
 use Rattle.dwz_def_output.proofs.NoneNarrow.{least_of, not_narrow}

@@ -26,7 +26,8 @@ use Rattle.dwz_def_output.specs.Contents.{sections_after_by, strs_after_by}
 use Rattle.dwz_def_output.specs.FilesAfter.{file_after_by}
 use Rattle.dwz_def_output.specs.Contents.{lists_after, offsets_after, ranges_after, sections_after, strs_after}
 use Rattle.dwz_def_output.specs.FilesAfter.{changes_after, file_after, order_of, sup_after}
-use Rattle.dwz_def_output.specs.Refusals.{FileFault, FirstNarrow, IsLargeFile, IsLargeSection, IsUnplaced, OfFirst, OrElse, SectionsFault, spoken, too_large_at}
+use Rattle.dwz_def_output.specs.Refusals.{FileFault, FirstNarrow, IsLargeFile, IsLargeSection, IsUnplaced, SectionsFault, spoken, too_large_at}
+use Rattle.dwz_def_reading.specs.FirstOf.{OfFirst, OrElse}
 use Rattle.dwz_def_output.specs.Contents.{listed}
 use Rattle.dwz_def_output.proofs.FreeLemmas.{Nothing, is_short, not_first, not_then}
 use Rattle.dwz_def_output.proofs.GivenSections.{can_give, can_give_other, none_if_none, other_is, reads_sound, some_bytes}

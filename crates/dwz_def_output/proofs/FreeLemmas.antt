@@ -4,7 +4,8 @@ use Rattle.std.proofs.lemmas.Bool.{cases_lt}
 use Rattle.dwz_def_reading.specs.declared.elf.NewContent.{NewContent}
 use Rattle.dwz_def_reading.specs.ElfLayout.{too_large}
 use Rattle.dwz_def_reading.specs.Lists.{In}
-use Rattle.dwz_def_output.specs.Refusals.{IsLargeSection, OfFirst, OrElse, too_large_at}
+use Rattle.dwz_def_output.specs.Refusals.{IsLargeSection, too_large_at}
+use Rattle.dwz_def_reading.specs.FirstOf.{OfFirst, OrElse}
 
 abbrev pub Nothing : {X : Type 0} → (X → Type 0) → Type 0
 Nothing {X} P = (x : X) → ¬ P x

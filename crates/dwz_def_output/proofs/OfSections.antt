@@ -8,14 +8,16 @@ use Rattle.dwz_def_reading.specs.declared.elf.NewContent.{NewContent}
 use Rattle.dwz_def_reading.specs.declared.elf.Section.{Section}
 use Rattle.dwz_def_reading.specs.ElfFaults.{file_fault}
 use Rattle.dwz_def_reading.specs.ElfLayout.{Changes, inside_fault, is_inside, layout_fault}
-use Rattle.dwz_def_reading.specs.ElfReading.{ElfView, elf_of, ◌or◌, fault_if, first_in}
+use Rattle.dwz_def_reading.specs.ElfReading.{ElfView, elf_of, fault_if, first_in}
+use Rattle.dwz_def_reading.specs.FirstOf.{◌or◌}
 use Rattle.dwz_def_reading.specs.Lists.{In}
 use Rattle.dwz_def_reading.specs.Shared.{ListOperand}
 use Rattle.dwz_def_output.specs.Changed.{changes_by, if_new}
 use Rattle.dwz_def_readback.specs.Files.{Run}
 use Rattle.dwz_def_output.specs.Contents.{common_after, listed, sections_after}
 use Rattle.dwz_def_output.specs.FilesAfter.{changes_after}
-use Rattle.dwz_def_output.specs.Refusals.{CommonFault, CommonRefusal, FileFault, FirstNarrow, InFile, IsLargeCommon, IsLargeFile, IsLargeSection, IsUnplaced, OfFirst, OrElse, OutFault, SectionsFault, spoken}
+use Rattle.dwz_def_output.specs.Refusals.{CommonFault, CommonRefusal, FileFault, FirstNarrow, InFile, IsLargeCommon, IsLargeFile, IsLargeSection, IsUnplaced, OutFault, SectionsFault, spoken}
+use Rattle.dwz_def_reading.specs.FirstOf.{OfFirst, OrElse}
 
 -- what has this also has that
 abbrev Gives : {X : Type 0} → (X → Type 0) → (X → Type 0) → Type 0

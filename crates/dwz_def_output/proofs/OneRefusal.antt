@@ -6,7 +6,8 @@ use Rattle.dwz_def_reading.specs.Shared.{ListOperand}
 use Rattle.dwz_def_output.specs.Changed.{changes_by}
 use Rattle.dwz_def_readback.specs.Files.{Run}
 use Rattle.dwz_def_output.specs.Contents.{common_after, listed, sections_after}
-use Rattle.dwz_def_output.specs.Refusals.{CommonFault, CommonRefusal, FileFault, FirstNarrow, InFile, IsLargeCommon, IsLargeFile, IsLargeSection, IsUnplaced, OfFirst, OrElse, OutFault, SectionsFault}
+use Rattle.dwz_def_output.specs.Refusals.{CommonFault, CommonRefusal, FileFault, FirstNarrow, InFile, IsLargeCommon, IsLargeFile, IsLargeSection, IsUnplaced, OutFault, SectionsFault}
+use Rattle.dwz_def_reading.specs.FirstOf.{OfFirst, OrElse}
 use Rattle.dwz_def_output.specs.Refusals.{narrow_at, spoken}
 
 abbrev pub AtMostOne : {X : Type 0} → (X → Type 0) → Type 0

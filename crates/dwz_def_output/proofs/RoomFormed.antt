@@ -10,9 +10,9 @@ use Rattle.dwz_def_reading.specs.Lists.{Each}
 use Rattle.dwz_def_tops.specs.Shown.{units_keys}
 use Rattle.dwz_def_tops.specs.Alike.{joined_parts}
 use Rattle.dwz_def_encoding.specs.Fitting.{EachAttr, FitsWidth, HasRoom, HasRoomAs, OperandsHaveRoom, PlainHasRoom, UnitHasRoom}
-use Rattle.dwz_def_encoding.specs.Placing.{CommonUnit, FileFit, Fit, Forms, InCommon, InFile, InUnit, NewUnit, OldUnit, Reach, UnitRole, as_constant, as_file, as_line_text, as_slot, as_strp_if}
+use Rattle.dwz_def_encoding.specs.Placing.{CommonUnit, Forms, InCommon, InFile, InUnit, KeyedForms, NewUnit, OldUnit, Reach, UnitForms, UnitRole, as_constant, as_file, as_line_text, as_slot, as_strp_if}
 use Rattle.dwz_def_encoding.specs.Placing.{as_text, fit}
-use Rattle.dwz_def_encoding.specs.Placing.{fit_as, fit_attr, fit_unit, fit_units, has_text, reach_of, ref_form, slot_number, unit_fit, with_form, with_keys}
+use Rattle.dwz_def_encoding.specs.Placing.{fit_as, fit_attr, fit_unit, fit_units, has_text, reach_of, ref_form, slot_number, unit_forms, with_form, with_keys}
 use Rattle.dwz_def_encoding.specs.Writing.{Numbering, base_place, text_or_empty}
 
 -- ---- where places get names that have the same numbers
@@ -55,7 +55,7 @@ module _ {K L : Type 0} (n : Numbering K) (m : Numbering L) (g : K → L) (same 
 
 -- ---- with their forms
 
-module _ {K : Type 0} (x : Fit K) (n : Numbering K) (unit : ℕ) (a : Attr K) (room : HasRoom n unit a) where
+module _ {K : Type 0} (x : UnitForms K) (n : Numbering K) (unit : ℕ) (a : Attr K) (room : HasRoom n unit a) where
   entry_room : (r : Reach) → HasRoom n unit (with_form a (record { form = ref_form r; raw = a.raw }))
   unfolding class_rows class_in
   entry_room InUnit = tt
@@ -83,7 +83,7 @@ module _ {K : Type 0} (x : Fit K) (n : Numbering K) (unit : ℕ) (a : Attr K) (r
   unfolding class_rows class_in
   slot_room CommonUnit = tt
   slot_room OldUnit = room
-  slot_room NewUnit = strp_room (has_text x.shared (text_or_empty a.value.plain)) (slot_number x.offsets x.origin.slots (reach a.raw))
+  slot_room NewUnit = strp_room (has_text x.shared (text_or_empty a.value.plain)) (slot_number x.offsets x.origin_bases.slots (reach a.raw))
 
   file_room : (h : UnitRole) → HasRoom n unit (with_form a (as_file h x a))
   unfolding class_rows class_in
@@ -107,7 +107,7 @@ module _ {K : Type 0} (x : Fit K) (n : Numbering K) (unit : ℕ) (a : Attr K) (r
     by OfConstant = constant_room (names_file a.name)
     by _ = room
 
-module _ {K : Type 0} (x : Fit K) (n : Numbering K) (unit : ℕ) where
+module _ {K : Type 0} (x : UnitForms K) (n : Numbering K) (unit : ℕ) where
   attrs_room : (attrs : List (Attr K)) → Each (HasRoom n unit) attrs → Each (HasRoom n unit) (map (fit_attr x) attrs)
   attrs_room [] h = tt
   attrs_room (a ∷ attrs) h = (fit_room x n unit a h.0, attrs_room attrs h.1)
@@ -117,9 +117,9 @@ module _ {K : Type 0} (x : Fit K) (n : Numbering K) (unit : ℕ) where
   entries_room End h = tt
   entries_room (Entry e children next) h = (attrs_room e.attrs h.0, entries_room children h.1, entries_room next h.2)
 
-units_room : {K : Type 0} (f : FileFit K) (n : Numbering K) (units : List (DwUnit K)) → Each (UnitHasRoom n) units → Each (UnitHasRoom n) (map (fit_unit f) units)
+units_room : {K : Type 0} (f : KeyedForms K) (n : Numbering K) (units : List (DwUnit K)) → Each (UnitHasRoom n) units → Each (UnitHasRoom n) (map (fit_unit f) units)
 units_room f n [] h = tt
-units_room f n (u ∷ units) h = ((attrs_room (unit_fit f u) n (n.place u.at) u.root.attrs h.0.0, entries_room (unit_fit f u) n (n.place u.at) u.below h.0.1), units_room f n units h.1)
+units_room f n (u ∷ units) h = ((attrs_room (unit_forms f u) n (n.place u.at) u.root.attrs h.0.0, entries_room (unit_forms f u) n (n.place u.at) u.below h.0.1), units_room f n units h.1)
 
 pub fitted_room : {K : Type 0} (f : Forms K) (n : Numbering K) (units : List (DwUnit K)) → Each (UnitHasRoom n) units → Each (UnitHasRoom n) (fit_units f units)
 unfolding fit_units

@@ -15,7 +15,8 @@ use Rattle.dwz_def_reading.specs.declared.elf.Name.{Name}
 use Rattle.dwz_def_reading.specs.declared.elf.Section.{Section}
 use Rattle.dwz_def_reading.specs.ElfHeaders.{content, has_relocations, is_compressed, is_there}
 use Rattle.dwz_def_reading.specs.ElfLayout.{Changes, content_for, moved_in, replacement}
-use Rattle.dwz_def_reading.specs.ElfReading.{◌or◌, first_in, has_code, header_fault, is_misaligned, is_misnamed, is_misplaced, is_rewritten, missing_fault, range_in, unkept_fault}
+use Rattle.dwz_def_reading.specs.ElfReading.{first_in, has_code, header_fault, is_misaligned, is_misnamed, is_misplaced, is_rewritten, missing_fault, range_in, unkept_fault}
+use Rattle.dwz_def_reading.specs.FirstOf.{◌or◌}
 use Rattle.dwz_def_reading.specs.ElfReading.{bytes_in}
 use Rattle.dwz_def_reading.proofs.PlainFaults.{no_fault, none_or}
 use Rattle.dwz_def_reading.proofs.ElfFaultLemmas.{test_false}

@@ -8,7 +8,8 @@ use Rattle.dwz_def_images.specs.Units.{changes}
 use Rattle.dwz_def_readback.specs.Files.{Run, imports_common}
 use Rattle.dwz_def_output.specs.Contents.{common_after, listed, sections_after}
 use Rattle.dwz_def_output.specs.FilesAfter.{has_common}
-use Rattle.dwz_def_output.specs.Refusals.{FirstNarrow, OrElse, spoken}
+use Rattle.dwz_def_output.specs.Refusals.{FirstNarrow, spoken}
+use Rattle.dwz_def_reading.specs.FirstOf.{OrElse}
 use Rattle.dwz_def_output.specs.declared.new_file.NewFile.{NewFile}
 
 -- this is such a thing; or there is none

@@ -1,6 +1,6 @@
 -- Why nothing is written of files that read: a number doesn't fit, a section or a file is too large, a file can't be laid out; and in
 -- which order these are found.
-use Rattle.std.specs.Prelude.{◌≡◌, ◌⊎◌, ℕ, ◌^◌, ◌≤◌, Bool, true, false, List, [], ◌∷◌, ◌++◌, length, Some, None, Result, Ok, Err}
+use Rattle.std.specs.Prelude.{◌≡◌, ℕ, ◌^◌, ◌≤◌, Bool, true, false, List, [], ◌∷◌, ◌++◌, length, Some, None, Result, Ok, Err}
 use Rattle.dwz_model.specs.declared.fault.Fault.{Fault}
 use Rattle.dwz_model.specs.declared.fault.Reason.TheVariants.{OperandWidth, TooLarge}
 use Rattle.dwz_model.specs.declared.fault.Refusal.{Refusal}
@@ -13,6 +13,7 @@ use Rattle.dwz_def_reading.specs.Trees.{End, Entry, Forest}
 use Rattle.dwz_def_reading.specs.Units.{RawUnit}
 use Rattle.dwz_def_reading.specs.declared.exprs.Operand.{Operand}
 use Rattle.dwz_def_reading.specs.Exprs.{Expression, expr_at}
+use Rattle.dwz_def_reading.specs.FirstOf.{OfFirst, OrElse}
 use Rattle.dwz_def_reading.specs.Files.{around_of}
 use Rattle.dwz_def_reading.specs.Meanings.{Around, MeaningContext, block_begins, bytes_of, expr_context, scope_of}
 use Rattle.dwz_def_reading.specs.Classes.{OfExpression}
@@ -64,17 +65,6 @@ operands_of_units around (u ∷ units) = all_of_unit u.at (operands_of_unit arou
 -- the operands of the expressions of a file, as it was read
 abbrev pub spoken : Run → ℕ → List ListOperand
 spoken r file = operands_of_units (around_of (r.input.bytes file) (r.input.raw file)) (r.input.raw file)
-
--- ---- one fault before another
-
--- the one holds, or it holds of nothing and the other does
-abbrev pub OrElse : {X : Type 0} → (X → Type 0) → (X → Type 0) → X → Type 0
-OrElse {X} First Then x = First x ⊎ (((y : X) → ¬ First y) × Then x)
-
--- that of the first of a list that has one
-abbrev pub OfFirst : {X Y : Type 0} → (Y → X → Type 0) → List Y → X → Type 0
-OfFirst Has [] x = ⊥
-OfFirst Has (y ∷ ys) x = OrElse (Has y) (OfFirst Has ys) x
 
 -- ---- faults of sections
 

@@ -36,9 +36,9 @@ use Rattle.dwz_def_encoding.specs.Bases.{Bases}
 use Rattle.dwz_def_encoding.specs.Carried.{AttrOperands, CarriedAttr, CarriedEntries, CarriedUnit, ExprIn, From, OperandsStand, OperandsStandAs}
 use Rattle.dwz_def_encoding.specs.Fitting.{EachAttr, HasRoom, HasRoomAs, OperandsHaveRoom, PlainHasRoom, UnitHasRoom}
 use Rattle.dwz_def_encoding.specs.Meant.{OperandsIn, Own, Tells, own_of}
-use Rattle.dwz_def_encoding.specs.Placing.{FileFit, Fit, Forms, UnitRole, InCommon, InFile, InUnit, CommonUnit, NewUnit, OldUnit, Reach, as_constant, as_file, as_line_text, as_slot, as_strp_if}
+use Rattle.dwz_def_encoding.specs.Placing.{KeyedForms, UnitForms, Forms, UnitRole, InCommon, InFile, InUnit, CommonUnit, NewUnit, OldUnit, Reach, as_constant, as_file, as_line_text, as_slot, as_strp_if}
 use Rattle.dwz_def_encoding.specs.Placing.{as_text, fit}
-use Rattle.dwz_def_encoding.specs.Placing.{fit_as, fit_attr, fit_unit, fit_units, has_text, reach_of, ref_form, unit_fit, slot_number, with_form, with_keys}
+use Rattle.dwz_def_encoding.specs.Placing.{fit_as, fit_attr, fit_unit, fit_units, has_text, reach_of, ref_form, unit_forms, slot_number, with_form, with_keys}
 use Rattle.dwz_def_encoding.specs.Writing.{Numbering, text_or_empty}
 use Rattle.dwz_def_encoding.proofs.Carrying.{import_class, no_list}
 use Rattle.dwz_def_encoding.proofs.Chosen.{join_attrs, join_entries}
@@ -134,7 +134,7 @@ module _ {K : Type 0} (a : Attr K) where
 
 -- ---- with its form
 
-module _ {K : Type 0} (x : Fit K) (n : Numbering K) (unit : ℕ) (a : Attr K) (asks : AsksNone a) where
+module _ {K : Type 0} (x : UnitForms K) (n : Numbering K) (unit : ℕ) (a : Attr K) (asks : AsksNone a) where
   entry_room : (r : Reach) → HasRoom n unit (with_form a (record { form = ref_form r; raw = a.raw }))
   unfolding class_rows class_in
   entry_room InUnit = tt
@@ -162,7 +162,7 @@ module _ {K : Type 0} (x : Fit K) (n : Numbering K) (unit : ℕ) (a : Attr K) (a
   unfolding class_rows class_in
   slot_room CommonUnit = tt
   slot_room OldUnit = asks.room n unit
-  slot_room NewUnit = strp_room (has_text x.shared (text_or_empty a.value.plain)) (slot_number x.offsets x.origin.slots (reach a.raw))
+  slot_room NewUnit = strp_room (has_text x.shared (text_or_empty a.value.plain)) (slot_number x.offsets x.origin_bases.slots (reach a.raw))
 
   file_room : (h : UnitRole) → HasRoom n unit (with_form a (as_file h x a))
   unfolding class_rows class_in
@@ -196,7 +196,7 @@ module _ {K : Type 0} (P Q : Attr K → Type 0) (more : (a : Attr K) → P a →
   entries_more End h = tt
   entries_more (Entry e children next) h = (each_more P Q e.attrs more h.0, entries_more children h.1, entries_more next h.2)
 
-module _ {K : Type 0} (x : Fit K) (n : Numbering K) (unit : ℕ) where
+module _ {K : Type 0} (x : UnitForms K) (n : Numbering K) (unit : ℕ) where
   attrs_room : (attrs : List (Attr K)) → Each AsksNone attrs → Each (HasRoom n unit) (map (fit_attr x) attrs)
   attrs_room [] asks = tt
   attrs_room (a ∷ attrs) asks = (fit_room x n unit a asks.0, attrs_room attrs asks.1)
@@ -212,10 +212,10 @@ asks_operands t u asks = (
   entries_more AsksNone (AttrOperands t (own_of u)) (λ a is. is.operands t (own_of u)) u.below asks.1,
 )
 
-unit_room : {K : Type 0} (f : FileFit K) (n : Numbering K) (u : DwUnit K) → UnitAsksNone u → UnitHasRoom n (fit_unit f u)
-unit_room f n u asks = (attrs_room (unit_fit f u) n (n.place u.at) u.root.attrs asks.0, entries_room (unit_fit f u) n (n.place u.at) u.below asks.1)
+unit_room : {K : Type 0} (f : KeyedForms K) (n : Numbering K) (u : DwUnit K) → UnitAsksNone u → UnitHasRoom n (fit_unit f u)
+unit_room f n u asks = (attrs_room (unit_forms f u) n (n.place u.at) u.root.attrs asks.0, entries_room (unit_forms f u) n (n.place u.at) u.below asks.1)
 
-units_room : {K : Type 0} (f : FileFit K) (n : Numbering K) (units : List (DwUnit K)) → Each UnitAsksNone units → Each (UnitHasRoom n) (map (fit_unit f) units)
+units_room : {K : Type 0} (f : KeyedForms K) (n : Numbering K) (units : List (DwUnit K)) → Each UnitAsksNone units → Each (UnitHasRoom n) (map (fit_unit f) units)
 units_room f n [] asks = tt
 units_room f n (u ∷ units) asks = (unit_room f n u asks.0, units_room f n units asks.1)
 

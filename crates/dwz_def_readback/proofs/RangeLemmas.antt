@@ -21,7 +21,7 @@ use Rattle.dwz_def_plan.specs.Moves.{image_in}
 use Rattle.dwz_def_images.specs.After.{AreOld, IsNamedBelow, Place, at_file, name_from}
 use Rattle.dwz_def_images.specs.Units.{kept_unit, kept_units, out_units, partial_units}
 use Rattle.dwz_def_encoding.specs.Meant.{placed_units}
-use Rattle.dwz_def_encoding.specs.Placing.{FileFit, Forms, fit_unit, fit_units, with_keys}
+use Rattle.dwz_def_encoding.specs.Placing.{Forms, KeyedForms, fit_unit, fit_units, with_keys}
 use Rattle.dwz_def_encoding.specs.Writing.{Numbering}
 use Rattle.dwz_def_readback.specs.Back.{AllStandAfter, around_in}
 use Rattle.dwz_def_readback.specs.Files.{AreRangedBy, CommonFile, Made, file_forms_by, fitted_by, fitted_if_by, formed_by, places_by, uses_by}
@@ -163,7 +163,7 @@ are_units : (others : ℕ → Bool) (number : ℕ → ℕ) (is_unit : ℕ → Bo
 are_units others number is_unit good [] h = tt
 are_units others number is_unit good (s ∷ sets) h = (let o = good s.unit h.0 in (o.0, o.1, are_units others number is_unit good sets h.1))
 
-fitted_there : (f : FileFit EntryName) (units : List (DwUnit EntryName)) (u : DwUnit EntryName) → In u units → In (fit_unit f u) (map (fit_unit f) units)
+fitted_there : (f : KeyedForms EntryName) (units : List (DwUnit EntryName)) (u : DwUnit EntryName) → In u units → In (fit_unit f u) (map (fit_unit f) units)
 fitted_there f units u there = in_map (fit_unit f) u units there
 
 fit_there : (f : Forms EntryName) (units : List (DwUnit EntryName)) (u : DwUnit EntryName) → In u units → (w : DwUnit EntryName) × In w (fit_units f units) × (w.at ≡ u.at) × (w.kind ≡ u.kind)

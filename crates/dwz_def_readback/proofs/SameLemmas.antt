@@ -16,7 +16,7 @@ use Rattle.dwz_def_images.proofs.FileLemmas.{files_same}
 use Rattle.dwz_def_images.proofs.ApartOwn.{keys_joined}
 use Rattle.dwz_def_images.proofs.OldFiles.{shown_append}
 use Rattle.dwz_def_encoding.specs.Meant.{placed_attr, placed_entries, placed_node, placed_units}
-use Rattle.dwz_def_encoding.specs.Placing.{FileFit, Fit, fit, fit_attr, fit_node, fit_unit, fit_units, unit_fit, with_form, with_keys}
+use Rattle.dwz_def_encoding.specs.Placing.{KeyedForms, UnitForms, fit, fit_attr, fit_node, fit_unit, fit_units, unit_forms, with_form, with_keys}
 use Rattle.dwz_def_encoding.specs.Writing.{Numbering}
 use Rattle.dwz_def_encoding.proofs.Chosen.{fit_units_fixed}
 use Rattle.dwz_def_encoding.proofs.Places.{numbering_stands}
@@ -34,7 +34,7 @@ use Rattle.dwz_def_readback.proofs.NameLemmas.{common_names, common_there, file_
 
 -- ---- forms and numbers aren't seen
 
-module _ {K P : Type 0} (n : Numbering K) (g : K → P) (unit : ℕ) (f : Fit K) where
+module _ {K P : Type 0} (n : Numbering K) (g : K → P) (unit : ℕ) (f : UnitForms K) where
   attrs_shown : (attrs : List (Attr K)) → map named_value (map (placed_attr n g unit) (map (fit_attr f) attrs)) ≡ map (named_map g) (map named_value attrs)
   attrs_shown [] = refl
   attrs_shown (a ∷ attrs) = ap (λ (w : List (Named P)). named_map g (named_value a) ∷ w) (attrs_shown attrs)
@@ -47,10 +47,10 @@ module _ {K P : Type 0} (n : Numbering K) (g : K → P) (unit : ℕ) (f : Fit K)
   entries_shown End = tt
   entries_shown (Entry e children next) = (node_shown e, entries_shown children, entries_shown next)
 
-units_shown : {K P : Type 0} (n : Numbering K) (g : K → P) (f : FileFit K) (units : List (DwUnit K)) → UnitsShown g units (placed_units n g (map (fit_unit f) units))
+units_shown : {K P : Type 0} (n : Numbering K) (g : K → P) (f : KeyedForms K) (units : List (DwUnit K)) → UnitsShown g units (placed_units n g (map (fit_unit f) units))
 units_shown n g f [] = tt
 units_shown n g f (u ∷ units) =
-    (record { kind = refl; root = node_shown n g (n.place u.at) (unit_fit f u) u.root; below = entries_shown n g (n.place u.at) (unit_fit f u) u.below }, units_shown n g f units)
+    (record { kind = refl; root = node_shown n g (n.place u.at) (unit_forms f u) u.root; below = entries_shown n g (n.place u.at) (unit_forms f u) u.below }, units_shown n g f units)
 
 -- nor are new numbers of texts
 module _ {K P : Type 0} (n : Numbering K) (g : K → P) (number : ℕ → ℕ) where

@@ -5,7 +5,7 @@ use Rattle.dwz_def_reading.specs.Trees.{End, Entry}
 use Rattle.dwz_def_reading.specs.Documents.{Attr, DwUnit, Entries, Kind, Node}
 use Rattle.dwz_def_tops.specs.Seen.{Named, Seen, all_seen, heads, named_value, see, seen, seen_below, seen_roots}
 use Rattle.dwz_def_tops.specs.Shown.{units_keys}
-use Rattle.dwz_def_encoding.specs.Placing.{Fit, Forms, fit, fit_attr, fit_node, fit_unit, fit_units, unit_fit, with_form, with_keys}
+use Rattle.dwz_def_encoding.specs.Placing.{Forms, UnitForms, fit, fit_attr, fit_node, fit_unit, fit_units, unit_forms, with_form, with_keys}
 use Rattle.dwz_def_encoding.specs.Pruned.{entries_renumbered, renumbered_attr, renumbered_node, renumbered_unit, renumbered_units}
 
 -- a change of entries that keeps the names and values of attributes
@@ -24,7 +24,7 @@ module _ {K : Type 0} where
 
   -- ---- forms
 
-  module _ (x : Fit K) where
+  module _ (x : UnitForms K) where
     attrs_fit : (attrs : List (Attr K)) → map named_value (map (fit_attr x) attrs) ≡ map named_value attrs
     attrs_fit [] = refl
     attrs_fit (a ∷ attrs) = ap (λ (w : List (Named K)). named_value a ∷ w) (attrs_fit attrs)
@@ -97,7 +97,7 @@ module _ {K : Type 0} where
   unfolding fit_units
   fit_seen f units =
       let file = with_keys f (units_keys units) in
-      all_changed (fit_unit file) (λ u. see_fit (unit_fit file u) u.root u.below) (λ u. seen_fit (unit_fit file u) u.below) units
+      all_changed (fit_unit file) (λ u. see_fit (unit_forms file u) u.root u.below) (λ u. seen_fit (unit_forms file u) u.below) units
 
   pub fit_kinds : (f : Forms K) (units : List (DwUnit K)) → map (λ u. u.kind) (fit_units f units) ≡ map (λ u. u.kind) units
   unfolding fit_units

@@ -17,8 +17,10 @@ use Rattle.dwz_def_reading.specs.declared.elf.Section.{Section}
 use Rattle.dwz_def_reading.specs.ElfHeaders.{end_of, file_header, has_relocations, headers_end, is_compressed, is_there, program_headers_end}
 use Rattle.dwz_def_reading.specs.ElfNames.{names_header, sections_in}
 use Rattle.dwz_def_reading.specs.ElfFaults
-use Rattle.dwz_def_reading.specs.ElfFaults.{ElfManner, file_fault, FaultRow, Before, Either, InOrder, IsFirstOther, identification}
-use Rattle.dwz_def_reading.specs.ElfReading.{◌or◌, fault_if, first_in, first_other, wrong_byte, identification_fault, field_fault_for, names_fault, header_fault, unkept_fault_for, missing_fault, elf_fault_for}
+use Rattle.dwz_def_reading.specs.ElfFaults.{ElfManner, file_fault, FaultRow, Either, InOrder, IsFirstOther, identification}
+use Rattle.dwz_def_reading.specs.FirstOf.{OrElse}
+use Rattle.dwz_def_reading.specs.ElfReading.{fault_if, first_in, first_other, wrong_byte, identification_fault, field_fault_for, names_fault, header_fault, unkept_fault_for, missing_fault, elf_fault_for}
+use Rattle.dwz_def_reading.specs.FirstOf.{◌or◌}
 use Rattle.dwz_def_reading.specs.ElfReading.{is_misaligned, is_misplaced, is_misnamed, is_rewritten, has_code}
 
 -- the answered fault is the one of which First holds, and where none is answered Any holds of none
@@ -40,7 +42,7 @@ pub row : (test : Bool) (What : Type 0) (reason : Reason) (at : ℕ) → Decides
 row test What reason at decides = alone _ _ (row_first test What reason at decides)
 
 before_first : (one other : Option Fault) (First Then : Fault → Type 0) → ((f : Fault) → (one ≡ Some f) ↔ First f) → ((f : Fault) → (other ≡ Some f) ↔ Then f) → (f : Fault)
-    → ((one or other) ≡ Some f) ↔ Before First Then f
+    → ((one or other) ≡ Some f) ↔ OrElse First Then f
 before_first (Some g) other First Then one_is other_is f = (
   λ is. inl ((one_is f).0 is),
   λ holds. elim holds as (λ h. Some g ≡ Some f) [ inl h ↦ (one_is f).1 h | inr h ↦ absurd (h.0 g ((one_is g).0 refl)) ],
@@ -58,7 +60,7 @@ either_none None other One Other one_is other_is is f holds =
 
 -- the one row, and then the other
 pub and_then : (one other : Option Fault) (First Any Then AnyThen : Fault → Type 0) → IsSound one First Any → IsSound other Then AnyThen
-    → IsSound (one or other) (Before First Then) (Either Any AnyThen)
+    → IsSound (one or other) (OrElse First Then) (Either Any AnyThen)
 and_then one other First Any Then AnyThen is other_is = record {
   first = before_first one other First Then is.first other_is.first;
   none = either_none one other Any AnyThen is.none other_is.none;
@@ -66,7 +68,7 @@ and_then one other First Any Then AnyThen is other_is = record {
 
 -- the rows of the items of a list
 pub in_order : {X : Type 0} (fault_of : List X → X → Option Fault) (First Any : List X → X → Fault → Type 0) → ((before : List X) (x : X) → IsSound (fault_of before x) (First before x) (Any before x))
-    → (before xs : List X) → IsSound (first_in fault_of before xs) (InOrder Before First before xs) (InOrder Either Any before xs)
+    → (before xs : List X) → IsSound (first_in fault_of before xs) (InOrder OrElse First before xs) (InOrder Either Any before xs)
 unfolding first_in
 in_order fault_of First Any each before [] = record {
   first = λ f. (λ (is : None ≡ Some f). absurd (cc), λ no. absurd no);
@@ -169,12 +171,12 @@ not_below a b = Decides-like (not (nat_lt a b)) (λ h. omega arith) (λ h less. 
 
 -- ---- the file header
 
-pub identification_is_sound : (bytes : List ℕ) → IsSound (identification_fault bytes) (ElfFaults.IdentificationRows Before bytes) (ElfFaults.IdentificationRows Either bytes)
+pub identification_is_sound : (bytes : List ℕ) → IsSound (identification_fault bytes) (ElfFaults.IdentificationRows OrElse bytes) (ElfFaults.IdentificationRows Either bytes)
 unfolding identification_fault
 identification_is_sound bytes = and_then _ _ _ _ _ _ (wrong_is_sound bytes) (row _ _ NotElf (length bytes) (below (length bytes) 64))
 
 pub field_is_sound : (m : ElfManner) (bytes : List ℕ) (file : FileHeader)
-    → IsSound (field_fault_for m (length bytes) file) (ElfFaults.FieldRowsFor m Before bytes file) (ElfFaults.FieldRowsFor m Either bytes file)
+    → IsSound (field_fault_for m (length bytes) file) (ElfFaults.FieldRowsFor m OrElse bytes file) (ElfFaults.FieldRowsFor m Either bytes file)
 unfolding field_fault_for
 field_is_sound m bytes file =
     and_then _ _ _ _ _ _ (row _ _ FileType 16 (Decides-and _ _ (unequal file.kind 2) (unequal file.kind 3)))
@@ -232,7 +234,7 @@ rewritten (Some s) =
     (Decides-and _ _ (Decides-and _ _ (is_true (is_there s.header)) (unequal s.name.code 0)) (below s.name.code 9))
 
 pub kept_is_sound : (m : ElfManner) (sections : List Section) (s : Section)
-    → IsSound (unkept_fault_for m sections s) (ElfFaults.KeptRowsFor m Before sections s) (ElfFaults.KeptRowsFor m Either sections s)
+    → IsSound (unkept_fault_for m sections s) (ElfFaults.KeptRowsFor m OrElse sections s) (ElfFaults.KeptRowsFor m Either sections s)
 unfolding unkept_fault_for Rewritten
 kept_is_sound m sections s =
     and_then _ _ _ _ _ _

@@ -11,7 +11,8 @@ use Rattle.dwz_bytes.specs.Reading.{◌>>=◌}
 use Rattle.dwz_def_reading.specs.declared.elf.FileHeader.{FileHeader}
 use Rattle.dwz_def_reading.specs.Documents.{Doc, DwUnit}
 use Rattle.dwz_def_reading.specs.ElfFaults
-use Rattle.dwz_def_reading.specs.ElfFaults.{Before, Either, ElfManner, InOrder, IsElfFault, IsElfFaultFor, IsFirstElfFault, IsFirstElfFaultFor, by_itself, file_fault}
+use Rattle.dwz_def_reading.specs.ElfFaults.{Either, ElfManner, InOrder, IsElfFault, IsElfFaultFor, IsFirstElfFault, IsFirstElfFaultFor, by_itself, file_fault}
+use Rattle.dwz_def_reading.specs.FirstOf.{OrElse}
 use Rattle.dwz_def_reading.specs.ElfHeaders.{file_header}
 use Rattle.dwz_def_reading.specs.ElfNames.{sections_in}
 use Rattle.dwz_def_reading.specs.ElfReading.{elf_fault}
@@ -41,15 +42,15 @@ record Covers (First Any : Fault → Type 0) : Type 0 where
 itself : (First : Fault → Type 0) → Covers First First
 itself First = record { each = λ f h. h }
 
-weaker : (First Any Then AnyThen : Fault → Type 0) → Covers First Any → Covers Then AnyThen → Covers (Before First Then) (Either Any AnyThen)
+weaker : (First Any Then AnyThen : Fault → Type 0) → Covers First Any → Covers Then AnyThen → Covers (OrElse First Then) (Either Any AnyThen)
 weaker First Any Then AnyThen one others = record { each = λ f h. elim h [ inl is ↦ inl (one.each f is) | inr p ↦ inr (others.each f p.1) ] }
 
 weaker_in_order : {X : Type 0} (One Any : List X → X → Fault → Type 0) → ((before : List X) (x : X) → Covers (One before x) (Any before x)) → (before xs : List X)
-    → Covers (InOrder Before One before xs) (InOrder Either Any before xs)
+    → Covers (InOrder OrElse One before xs) (InOrder Either Any before xs)
 weaker_in_order One Any each before [] = record { each = λ f h. h }
 weaker_in_order One Any each before (x ∷ xs) = weaker _ _ _ _ (each before x) (weaker_in_order One Any each (before ++ x ∷ []) xs)
 
-weaker_fields : (m : ElfManner) (bytes : List ℕ) (file : FileHeader) → Covers (ElfFaults.FieldRowsFor m Before bytes file) (ElfFaults.FieldRowsFor m Either bytes file)
+weaker_fields : (m : ElfManner) (bytes : List ℕ) (file : FileHeader) → Covers (ElfFaults.FieldRowsFor m OrElse bytes file) (ElfFaults.FieldRowsFor m Either bytes file)
 weaker_fields m bytes file =
     weaker _ _ _ _ (itself _)
     (weaker _ _ _ _ (itself _)

@@ -1,17 +1,18 @@
 -- Headers of units: the tests are passed exactly where a header is spelled, and what a header says is said by its bytes alone.
 -- And the zero bytes behind a tree.
-use Rattle.std.proofs.Common.{◌≡◌, ◌≢◌, ℕ, suc, ◌+◌, ◌<◌, ◌≤◌, inl, inr, Bool, true, false, cond, eqb, ltb, List, [], ◌∷◌, ◌++◌, length, take, drop, Some, None, refl, sym, ap, subst, ◌∙◌}
+use Rattle.std.proofs.Common.{◌≡◌, ◌≢◌, ℕ, suc, ◌+◌, ◌<◌, ◌≤◌, inl, inr, Bool, true, false, cond, eqb, ltb, List, [], ◌∷◌, ◌++◌, length, take, drop, Option, Some, None, refl, sym, ap, subst, ◌∙◌}
 use Rattle.std.proofs.Common.{append_assoc, arith}
 use Rattle.std.specs.Prelude.{◌&&◌, ◌||◌, not}
 use Rattle.std.proofs.lemmas.Bool.{eq-eqb, eqb-false, eqb-true, le-ltb, lt-ltb, ltb-false, ltb-true, ne_eqb, not-false, or_parts}
 use Rattle.std.proofs.lemmas.List.{drop-append-le, length-append, length-drop, length-take, take-append-drop, take-append-le}
+use Rattle.dwz_model.specs.declared.fault.Reason.{Reason}
 use Rattle.dwz_bytes.specs.Input.{Input}
 use Rattle.dwz_bytes.specs.Spelling.{le_value}
-use Rattle.dwz_bytes.proofs.GroupLemmas.{chosen}
 use Rattle.dwz_bytes.proofs.LebLemmas.{drop-front, take-front}
 use Rattle.dwz_def_reading.specs.Entries.{Mode}
 use Rattle.dwz_def_reading.specs.Units.{AreZeros, CompileUnit, HeaderTest, IsOtherByte, PartialUnit, RawKind, SpellsHeader, TypeUnit, address_size, behind_header, debug_abbrev_offset, field}
-use Rattle.dwz_def_reading.specs.Units.{first_failed}
+use Rattle.dwz_def_reading.specs.FirstOf.{◌or◌, of_first}
+use Rattle.dwz_def_reading.specs.Units.{reason_if_failed}
 use Rattle.dwz_def_reading.specs.Units.{header_reason, header_size, header_tests, is_read, kind_by, kind_of, unit_length, unit_size, unit_type, version, zero_count}
 use Rattle.dwz_def_reading.proofs.EntryLemmas.{second_false}
 
@@ -22,17 +23,21 @@ abbrev ArePassed : List HeaderTest → Type 0
 ArePassed [] = Unit {0}
 ArePassed (t ∷ tests) = (t.fails ≡ false) × ArePassed tests
 
-none_failed : (tests : List HeaderTest) → first_failed tests ≡ None → ArePassed tests
-none_failed [] e = tt
-none_failed (t ∷ tests) e =
-    elim (chosen t.fails (Some t.reason) (first_failed tests) None e) [
-      | inl p ↦ absurd cc
-      | inr p ↦ (p.0, none_failed tests p.1)
-    ]
+abbrev first_reason : HeaderTest → List HeaderTest → Bool → Option Reason
+first_reason t tests fails = cond fails (Some t.reason) None or of_first reason_if_failed tests
 
-all_passed : (tests : List HeaderTest) → ArePassed tests → first_failed tests ≡ None
+head_passed : (t : HeaderTest) (tests : List HeaderTest) (b : Bool) → first_reason t tests b ≡ None
+    → (b ≡ false) × (of_first reason_if_failed tests ≡ None)
+head_passed t tests true e = absurd (cc)
+head_passed t tests false e = (refl, e)
+
+none_failed : (tests : List HeaderTest) → of_first reason_if_failed tests ≡ None → ArePassed tests
+none_failed [] e = tt
+none_failed (t ∷ tests) e = let p = head_passed t tests t.fails e in (p.0, none_failed tests p.1)
+
+all_passed : (tests : List HeaderTest) → ArePassed tests → of_first reason_if_failed tests ≡ None
 all_passed [] are = refl
-all_passed (t ∷ tests) are = ap (λ (b : Bool). cond b (Some t.reason) (first_failed tests)) are.0 ∙ all_passed tests are.1
+all_passed (t ∷ tests) are = ap (first_reason t tests) are.0 ∙ all_passed tests are.1
 
 false_or : (a b : Bool) → a ≡ false → b ≡ false → (a || b) ≡ false
 false_or a b p q = ap (λ (x : Bool). x || b) p ∙ q

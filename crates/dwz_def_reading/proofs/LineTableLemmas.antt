@@ -1,6 +1,7 @@
 -- Line tables are read as they are spelled, and none is read exactly where none stands.
 use Rattle.std.proofs.Common.{◌≡◌, ◌↔◌, ℕ, ◌+◌, Bool, true, false, cond, eqb, List, [], ◌∷◌, length, map, drop, Option, Some, None, Result, Ok, Err, refl, sym, ap, subst, ◌∙◌}
-use Rattle.std.specs.Prelude.{◌||◌, not}
+use Rattle.std.specs.Prelude.{◌&&◌, ◌||◌, is_some, not}
+use Rattle.std.proofs.lemmas.Bool.{and_from}
 use Rattle.dwz_model.specs.declared.fault.Fault.{Fault}
 use Rattle.dwz_model.specs.declared.place.Pair.{Pair}
 use Rattle.dwz_bytes.specs.declared.error.ByteErr.{ByteErr}
@@ -10,14 +11,17 @@ use Rattle.dwz_bytes.specs.Spelling.{SpellsFixed, SpellsUleb, reach}
 use Rattle.dwz_codes.specs.Forms.{form_rows}
 use Rattle.dwz_def_reading.specs.Entries.{unless_so}
 use Rattle.dwz_def_reading.specs.Exprs.{or_fault}
-use Rattle.dwz_def_reading.specs.LineTables.{BeginsWith, FileTable, IsFileTable, IsNoFileTable, IsPathText, PathRow, SayRows, SaysRow, SaysTable, SpellsFormat, SpellsFormats, SpellsPathTable}
+use Rattle.dwz_def_reading.specs.LineTables.{BeginsWith, FileTable, IsFileTable, IsNoFileTable, IsValueText, HasItsText, HaveTheirTexts, PathRow, SayRows, SaysRow, SaysTable, SpellsFormat, SpellsFormats}
+use Rattle.dwz_def_reading.specs.LineTables.{SpellsPathTable}
 use Rattle.dwz_def_reading.specs.LineTables.{SpellsRows}
 use Rattle.dwz_def_reading.specs.LineTables.{SpellsTables, SpellsValues, Tables, TextSections, any_table, are_formats, are_indexes, bad_line_table, byte_or, dirs_after, file_table_at, files_after}
 use Rattle.dwz_def_reading.specs.LineTables.{first_index, format_at, format_of, formats_at, full_path, is_header, names_strs, one_fault, or_bad, row_after, row_path, row_said, rows_at, rows_said, second}
+use Rattle.dwz_def_reading.specs.LineTables.{has_its_text, have_their_texts, is_text_offset, value_text}
 use Rattle.dwz_def_reading.specs.LineTables.{path_table_at, table_said, table_with, tables_after, tables_at, tables_begin, tables_bytes, tables_with, uleb_or, values_at, with_content, with_row}
 use Rattle.dwz_def_reading.specs.Sequences.{SpellsTimes, times_at, value_only}
 use Rattle.dwz_def_reading.specs.Texts.{IsTextAt, text_at}
 use Rattle.dwz_def_reading.specs.Values.{Bytes, Number, Raw, SpellsValue, shape_of, value_at}
+use Rattle.dwz_def_reading.proofs.AbbrevLemmas.{and_true}
 use Rattle.dwz_def_reading.proofs.AgreeLemmas.{Agrees, Made, Next, agrees_ok, and_with, then_made}
 use Rattle.dwz_def_reading.proofs.FieldLemmas.{bytes_agree}
 use Rattle.dwz_def_reading.proofs.ReadLemmas.{Reads, fixed_reads, uleb_reads}
@@ -96,7 +100,7 @@ tested : {X : Type 0} (b : Bool) (bad : Fault) (f : Unit {0} → Result X Fault)
 tested true bad f s = record { ok = λ x. (λ e. (refl, (s.ok x).0 e), λ h. (s.ok x).1 h.1) }
 tested false bad f s = record { ok = λ x. (λ e. absurd cc, λ h. absurd (let no = h.0 in cc)) }
 
-path_says : (s : TextSections) (bad : Fault) (xs : List (Pair × Raw)) → Says (or_bad bad (row_path s xs)) (λ path. (named : Pair × Raw) × (xs ≡ named ∷ []) × IsPathText s named.0.form named.1 path)
+path_says : (s : TextSections) (bad : Fault) (xs : List (Pair × Raw)) → Says (or_bad bad (row_path s xs)) (λ path. (named : Pair × Raw) × (xs ≡ named ∷ []) × IsValueText s named.0.form named.1 path)
 path_says s bad [] = record { ok = λ path. (λ e. absurd cc, λ h. absurd (let no = h.1 in cc)) }
 path_says s bad (x ∷ y ∷ xs) = record { ok = λ path. (λ e. absurd cc, λ h. absurd (let no = h.1 in cc)) }
 path_says s bad ((pair, Bytes bytes) ∷ []) = record {
@@ -104,7 +108,7 @@ path_says s bad ((pair, Bytes bytes) ∷ []) = record {
     λ e. ((pair, Bytes bytes), refl, let same : Ok bytes ≡ Ok path = e in let is : bytes ≡ path = cc in sym is),
     λ h.
         let same : (pair, Bytes bytes) ≡ h.0 = cc-head (pair, Bytes bytes) h.0 h.1 in
-        let is : IsPathText s pair.form (Bytes bytes) path = subst (λ (x : Pair × Raw). IsPathText s x.0.form x.1 path) (sym same) h.2 in
+        let is : IsValueText s pair.form (Bytes bytes) path = subst (λ (x : Pair × Raw). IsValueText s x.0.form x.1 path) (sym same) h.2 in
         ap (λ (w : List ℕ). Ok w) (sym is),
   );
 } where
@@ -117,12 +121,12 @@ path_says s bad ((pair, Number z) ∷ []) = by (text_at section (reach z)) refl 
   head : (x y : Pair × Raw) → x ∷ [] ≡ y ∷ [] → x ≡ y
   head x y e = cc
 
-  by : (o : Option (List ℕ)) → text_at section (reach z) ≡ o → Says (or_bad bad o) (λ path. (named : Pair × Raw) × ((pair, Number z) ∷ [] ≡ named ∷ []) × IsPathText s named.0.form named.1 path)
+  by : (o : Option (List ℕ)) → text_at section (reach z) ≡ o → Says (or_bad bad o) (λ path. (named : Pair × Raw) × ((pair, Number z) ∷ [] ≡ named ∷ []) × IsValueText s named.0.form named.1 path)
   by None none = record {
     ok = λ path. (
       λ e. absurd cc,
       λ h. absurd (
-          let is : IsTextAt section (reach z) path = subst (λ (x : Pair × Raw). IsPathText s x.0.form x.1 path) (sym (head (pair, Number z) h.0 h.1)) h.2 in
+          let is : IsTextAt section (reach z) path = subst (λ (x : Pair × Raw). IsValueText s x.0.form x.1 path) (sym (head (pair, Number z) h.0 h.1)) h.2 in
           let some = here_text section path (reach z) is in
           cc),
     );
@@ -131,45 +135,72 @@ path_says s bad ((pair, Number z) ∷ []) = by (text_at section (reach z)) refl 
     ok = λ path. (
       λ e. ((pair, Number z), refl, let same : Ok text ≡ Ok path = e in let is : text ≡ path = cc in subst (IsTextAt section (reach z)) is (text_here section text (reach z) some)),
       λ h.
-          let is : IsTextAt section (reach z) path = subst (λ (x : Pair × Raw). IsPathText s x.0.form x.1 path) (sym (head (pair, Number z) h.0 h.1)) h.2 in
+          let is : IsTextAt section (reach z) path = subst (λ (x : Pair × Raw). IsValueText s x.0.form x.1 path) (sym (head (pair, Number z) h.0 h.1)) h.2 in
           let found = here_text section path (reach z) is in
           let same : text ≡ path = let both : Some text ≡ Some path = sym some ∙ found in cc in
           ap (λ (w : List ℕ). Ok w) same,
     );
   }
 
+-- a value that names a text
+text_stands : (s : TextSections) (form : ℕ) (raw : Raw) → (is_some (value_text s form raw) ≡ true) ↔ ((text : List ℕ) × IsValueText s form raw text)
+text_stands s form (Bytes bytes) = (λ e. (bytes, refl), λ h. refl)
+text_stands s form (Number z) = by (text_at section (reach z)) refl where
+  section : List ℕ
+  section = cond (eqb form 0x0e) s.strs s.line_strs
+
+  by : (o : Option (List ℕ)) → text_at section (reach z) ≡ o → (is_some o ≡ true) ↔ ((text : List ℕ) × IsTextAt section (reach z) text)
+  by None none = (λ e. absurd cc, λ h. absurd (let some = here_text section h.0 (reach z) h.1 in cc))
+  by (Some text) some = (λ e. (text, text_here section text (reach z) some), λ h. refl)
+
+has_text : (s : TextSections) (pair : Pair) (raw : Raw) → (has_its_text s pair raw ≡ true) ↔ HasItsText s pair raw
+has_text s pair raw = by (is_text_offset pair.form) where
+  by : (b : Bool) → ((not b || is_some (value_text s pair.form raw)) ≡ true) ↔ (b ≡ true → (text : List ℕ) × IsValueText s pair.form raw text)
+  by true = (λ e _. (text_stands s pair.form raw).0 e, λ h. (text_stands s pair.form raw).1 (h refl))
+  by false = (λ e no. absurd cc, λ h. refl)
+
+have_texts : (s : TextSections) (pairs : List Pair) (raws : List Raw) → (have_their_texts s pairs raws ≡ true) ↔ HaveTheirTexts s pairs raws
+have_texts s [] raws = (λ e. tt, λ h. refl)
+have_texts s (pair ∷ pairs) [] = (λ e. tt, λ h. refl)
+have_texts s (pair ∷ pairs) (raw ∷ raws) = (
+  λ e. let both = and_true (has_its_text s pair raw) (have_their_texts s pairs raws) e in ((has_text s pair raw).0 both.0, (have_texts s pairs raws).0 both.1),
+  λ h. and_from (has_its_text s pair raw) (have_their_texts s pairs raws) ((has_text s pair raw).1 h.0) ((have_texts s pairs raws).1 h.1),
+)
+
 -- a row with its path and its directory
 row_says : (s : TextSections) (bad : Fault) (dirs : ℕ) (formats : List Pair) (raws : List Raw) → Says (row_said s bad dirs formats raws) (SaysRow s dirs formats raws)
-row_says s bad dirs formats raws = says (itself (tested (are_indexes dirs (with_content 2 formats raws)) bad (row_after s bad formats raws) inner)) words where
+row_says s bad dirs formats raws = says (itself (tested (have_their_texts s formats raws && are_indexes dirs (with_content 2 formats raws)) bad (row_after s bad formats raws) inner)) words where
   dir : ℕ
   dir = first_index (with_content 2 formats raws)
 
   Path : List ℕ → Type 0
-  Path path = (named : Pair × Raw) × (with_content 1 formats raws ≡ named ∷ []) × IsPathText s named.0.form named.1 path
+  Path path = (named : Pair × Raw) × (with_content 1 formats raws ≡ named ∷ []) × IsValueText s named.0.form named.1 path
 
   with_dir : List ℕ → PathRow
   with_dir path = record { path = path; dir = first_index (with_content 2 formats raws) }
 
-  inner : Says (row_after s bad formats raws tt) (Made (λ path. (named : Pair × Raw) × (with_content 1 formats raws ≡ named ∷ []) × IsPathText s named.0.form named.1 path)
+  inner : Says (row_after s bad formats raws tt) (Made (λ path. (named : Pair × Raw) × (with_content 1 formats raws ≡ named ∷ []) × IsValueText s named.0.form named.1 path)
       (λ path. record { path = path; dir = first_index (with_content 2 formats raws) }))
   inner = says (then_made (itself (path_says s bad (with_content 1 formats raws))) (λ path. record { path = path; dir = first_index (with_content 2 formats raws) })) (λ row. (λ h. h, λ h. h))
 
   words : (row : PathRow)
-      → ((are_indexes dirs (with_content 2 formats raws) ≡ true) × Made (λ path. (named : Pair × Raw) × (with_content 1 formats raws ≡ named ∷ []) × IsPathText s named.0.form named.1 path)
+      → (((have_their_texts s formats raws && are_indexes dirs (with_content 2 formats raws)) ≡ true) × Made (λ path. (named : Pair × Raw) × (with_content 1 formats raws ≡ named ∷ []) × IsValueText s named.0.form named.1 path)
       (λ path. record { path = path; dir = first_index (with_content 2 formats raws) }) row)
       ↔ SaysRow s dirs formats raws row
   words row = (
     λ h.
         let made = h.1.2 in
         let p = h.1.1 in
+        let both = and_true (have_their_texts s formats raws) (are_indexes dirs (with_content 2 formats raws)) h.0 in
         record {
+          texts = (have_texts s formats raws).0 both.0;
           named = p.0;
           one_path = p.1;
-          path = subst (IsPathText s p.0.0.form p.0.1) (sym (ap (λ (r : PathRow). r.path) made)) p.2;
-          indexes = h.0;
+          path = subst (IsValueText s p.0.0.form p.0.1) (sym (ap (λ (r : PathRow). r.path) made)) p.2;
+          indexes = both.1;
           dir = ap (λ (r : PathRow). r.dir) made;
         },
-    λ r. (r.indexes, (row.path, (r.named, r.one_path, r.path), λ i. record { path = row.path; dir = r.dir i })),
+    λ r. (and_from (have_their_texts s formats raws) (are_indexes dirs (with_content 2 formats raws)) ((have_texts s formats raws).1 r.texts) r.indexes, (row.path, (r.named, r.one_path, r.path), λ i. record { path = row.path; dir = r.dir i })),
   )
 
 rows_say : (s : TextSections) (bad : Fault) (dirs : ℕ) (formats : List Pair) (table : List (List Raw)) → Says (rows_said s bad dirs formats table) (SayRows s dirs formats table)

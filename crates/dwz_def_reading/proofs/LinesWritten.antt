@@ -188,7 +188,7 @@ file_row path = record { path = path; dir = 0 }
 
 rows_say : (s : TextSections) (paths : List (List ℕ)) → SayRows s 1 formats (map row_of paths) (map file_row paths)
 rows_say s [] = tt
-rows_say s (path ∷ paths) = (record { named = (path_format, Bytes path); one_path = refl; path = refl; indexes = refl; dir = refl }, rows_say s paths)
+rows_say s (path ∷ paths) = (record { texts = ((λ e. absurd cc), ((λ e. absurd cc), tt)); named = (path_format, Bytes path); one_path = refl; path = refl; indexes = refl; dir = refl }, rows_say s paths)
 
 or_so : (b : Bool) → (b || true) ≡ true
 or_so true = refl
@@ -331,7 +331,7 @@ module _ (paths : List (List ℕ)) (some : 0 < length paths) (are : AreTexts pat
       says = record {
         formats = formats_good rows;
         dirs = dir_rows;
-        dirs_say = (record { named = (path_format, Bytes []); one_path = refl; path = refl; indexes = refl; dir = refl }, tt);
+        dirs_say = (record { texts = ((λ e. absurd cc), tt); named = (path_format, Bytes []); one_path = refl; path = refl; indexes = refl; dir = refl }, tt);
         files = map file_row rows;
         files_say = rows_say s rows;
         made = refl;

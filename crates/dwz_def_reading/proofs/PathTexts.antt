@@ -9,7 +9,7 @@ use Rattle.dwz_def_reading.specs.Texts.{NoZero}
 use Rattle.dwz_def_reading.specs.Values.{Bytes, Number, Raw, SpellsShape, SpellsValue, constant_of, shape_of}
 use Rattle.dwz_def_reading.proofs.AbbrevLemmas.{and_true}
 use Rattle.dwz_model.specs.declared.place.Pair.{Pair}
-use Rattle.dwz_def_reading.specs.LineTables.{FileTable, IsFileTable, IsPathText, PathRow, SayRows, SaysRow, SpellsPathTable, SpellsValues, Table, Tables, TextSections, begins_with_slash}
+use Rattle.dwz_def_reading.specs.LineTables.{FileTable, IsFileTable, IsValueText, PathRow, SayRows, SaysRow, SpellsPathTable, SpellsValues, Table, Tables, TextSections, begins_with_slash}
 use Rattle.dwz_def_reading.specs.LineTables.{dir_path, forms_for, full_path, is_format, is_no_path, join, nth_path, tables_begin, with_content}
 use Rattle.dwz_def_reading.specs.Sequences.{SpellsAll}
 use Rattle.dwz_def_reading.specs.LinesWritten.{AreTexts}
@@ -61,12 +61,12 @@ string_text form number bytes content (inr (inr (inl e))) h =
     (let h' = subst (λ (f : ℕ). SpellsShape (shape_of form_rows f) number bytes (Bytes content)) (sym e) h in absurd (let v = h'.value in cc))
 string_text form number bytes content (inr (inr (inr x))) h = absurd x
 
-path_text : (s : TextSections) (x : Pair × Raw) → IsSpelled x → (path : List ℕ) → IsPathText s x.0.form x.1 path → NoZero path
+path_text : (s : TextSections) (x : Pair × Raw) → IsSpelled x → (path : List ℕ) → IsValueText s x.0.form x.1 path → NoZero path
 path_text s x is path h = by x.1 refl h where
   form : In x.0.form (0x08 ∷ 0x0e ∷ 0x1f ∷ [])
   form = has_in x.0.form (0x08 ∷ 0x0e ∷ 0x1f ∷ []) (sym (ap (λ (n : ℕ). has x.0.form (forms_for n)) is.content) ∙ is.format)
 
-  by : (raw : Raw) → x.1 ≡ raw → IsPathText s x.0.form raw path → NoZero path
+  by : (raw : Raw) → x.1 ≡ raw → IsValueText s x.0.form raw path → NoZero path
   by (Bytes content) e h =
       let spelled = subst (λ (w : Raw). SpellsShape (shape_of form_rows x.0.form) (constant_of x.0) is.bytes w) e is.spelled in
       subst NoZero (sym h) (string_text x.0.form (constant_of x.0) is.bytes content form spelled)

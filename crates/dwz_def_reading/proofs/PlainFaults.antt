@@ -14,7 +14,8 @@ use Rattle.dwz_def_reading.specs.declared.elf.Section.{Section}
 use Rattle.dwz_def_reading.specs.ElfFaults.{identification}
 use Rattle.dwz_def_reading.specs.ElfHeaders.{file_header}
 use Rattle.dwz_def_reading.specs.ElfNames.{code_of, known_name, names_header, sections_in}
-use Rattle.dwz_def_reading.specs.ElfReading.{◌or◌, elf_fault, fault_if, field_fault, first_in, first_other, has_code, header_fault, identification_fault, missing_fault, names_fault, unkept_fault, wrong_byte}
+use Rattle.dwz_def_reading.specs.ElfReading.{elf_fault, fault_if, field_fault, first_in, first_other, has_code, header_fault, identification_fault, missing_fault, names_fault, unkept_fault, wrong_byte}
+use Rattle.dwz_def_reading.specs.FirstOf.{◌or◌}
 use Rattle.dwz_def_reading.specs.PlainFile.{AreKnown, FitsPlain, PlainSection, index_fault, plain_contents, plain_fields, plain_file, plain_headers_at, plain_names, plain_names_at, plain_sections}
 use Rattle.dwz_def_reading.specs.PlainFile.{section_names, section_read, sections_read}
 use Rattle.dwz_def_reading.proofs.PlainLemmas.{headers_behind, length_plain}

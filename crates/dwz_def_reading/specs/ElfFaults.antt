@@ -7,6 +7,7 @@ use Rattle.dwz_model.specs.declared.fault.Reason.TheVariants.{NotElf, FileType, 
 use Rattle.dwz_def_reading.specs.declared.elf.FileHeader.{FileHeader}
 use Rattle.dwz_def_reading.specs.declared.elf.Header.{Header}
 use Rattle.dwz_def_reading.specs.declared.elf.Section.{Section}
+use Rattle.dwz_def_reading.specs.FirstOf.{OrElse}
 use Rattle.dwz_def_reading.specs.ElfHeaders.{end_of, file_header, has_relocations, headers_end, is_compressed, is_there, program_headers_end}
 use Rattle.dwz_def_reading.specs.ElfNames.{names_header, sections_in}
 
@@ -19,10 +20,6 @@ file_fault reason at = record { section = 0; at = at; reason = reason }
 -- a row: what holds, and the fault that it is then
 abbrev pub FaultRow : Type 0 → Reason → ℕ → Fault → Type 0
 FaultRow What reason at f = (f ≡ file_fault reason at) × What
-
--- the one row holds, or it holds nowhere and the other does
-abbrev pub Before : (Fault → Type 0) → (Fault → Type 0) → Fault → Type 0
-Before First Then f = First f ⊎ (((g : Fault) → ¬ First g) × Then f)
 
 -- the one row holds, or the other
 abbrev pub Either : (Fault → Type 0) → (Fault → Type 0) → Fault → Type 0
@@ -189,7 +186,7 @@ ElfRowsFor m Join bytes =
 
 -- the first fault of the file, read in that manner: its row holds at its place, and no row before it does
 abbrev pub IsFirstElfFaultFor : ElfManner → List ℕ → Fault → Type 0
-IsFirstElfFaultFor m bytes = ElfRowsFor m Before bytes
+IsFirstElfFaultFor m bytes = ElfRowsFor m OrElse bytes
 
 abbrev pub IsFirstElfFault : List ℕ → Fault → Type 0
 IsFirstElfFault = IsFirstElfFaultFor by_itself

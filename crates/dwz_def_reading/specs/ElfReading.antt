@@ -10,6 +10,7 @@ use Rattle.dwz_def_reading.specs.declared.elf.FileHeader.{FileHeader}
 use Rattle.dwz_def_reading.specs.declared.elf.Header.{Header}
 use Rattle.dwz_def_reading.specs.declared.elf.Section.{Section}
 use Rattle.dwz_def_reading.specs.ElfFaults.{ElfManner, by_itself, file_fault, identification, is_index}
+use Rattle.dwz_def_reading.specs.FirstOf.{◌or◌}
 use Rattle.dwz_def_reading.specs.ElfHeaders.{end_of, file_header, has_relocations, headers_end, is_compressed, is_there, program_headers_end}
 use Rattle.dwz_def_reading.specs.ElfNames.{names_header, sections_in}
 
@@ -43,12 +44,6 @@ bytes_in bytes None = []
 bytes_in bytes (Some range) = take range.1 (drop range.0 bytes)
 
 -- ---- the first fault
-
--- the one fault, or where there is none the other
-infixr 5 ◌or◌
-abbrev pub ◌or◌ : Option Fault → Option Fault → Option Fault
-(Some f) or other = Some f
-None or other = other
 
 abbrev pub fault_if : Bool → Reason → ℕ → Option Fault
 fault_if test reason at = if test then Some (file_fault reason at) else None

@@ -8,6 +8,7 @@ pub use Rattle.dwz_codes.specs.ListKinds
 pub use Rattle.dwz_codes.specs.Operators
 pub use Rattle.dwz_codes.specs.Rows
 pub use Rattle.dwz_codes.specs.declared.shape.Shape
+pub mod FirstOf
 pub mod Parts
 pub mod Items
 pub mod Faults
@@ -27,6 +28,7 @@ pub mod PlainFile
 pub mod Supplementary
 pub mod SupplementaryFile
 pub mod Entries
+pub mod Modes
 pub mod Units
 pub mod Documents
 pub mod Sequences

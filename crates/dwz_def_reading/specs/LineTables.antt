@@ -1,6 +1,6 @@
 -- The directories and files of a line table (DWARF 5, 6.2.4): how its header is spelled, how it is read, and what the rows of files are.
 use Rattle.std.specs.Prelude.{◌≡◌, ℕ, pos, zero, suc, ◌+◌, Bool, true, false, List, [], ◌∷◌, ◌++◌, length, map, take, drop, Option, Some}
-use Rattle.std.specs.Prelude.{None, Result, Ok, Err, ◌==◌, ◌&&◌, ◌||◌, not, nat_lt, if◌then◌else◌}
+use Rattle.std.specs.Prelude.{None, Result, Ok, Err, is_some, ◌==◌, ◌&&◌, ◌||◌, not, nat_lt, if◌then◌else◌}
 use Rattle.std.specs.List.{list_all}
 use Rattle.dwz_model.specs.declared.fault.Fault.{Fault}
 use Rattle.dwz_model.specs.declared.fault.Reason.TheVariants.{BadLineTable}
@@ -94,10 +94,22 @@ SpellsTables = Both SpellsPathTable (λ _. SpellsPathTable) tables_with
 
 -- ---- what rows say
 
--- the text of a path, by its form: one that stands there, one in `.debug_str`, one in `.debug_line_str`
-abbrev pub IsPathText : TextSections → ℕ → Raw → List ℕ → Type 0
-IsPathText s form (Bytes bytes) path = path ≡ bytes
-IsPathText s form (Number z) path = IsTextAt (if form == 0x0e then s.strs else s.line_strs) (reach z) path
+-- the text of a value, by its form: one that stands there, one in `.debug_str`, one in `.debug_line_str`
+abbrev pub IsValueText : TextSections → ℕ → Raw → List ℕ → Type 0
+IsValueText s form (Bytes bytes) text = text ≡ bytes
+IsValueText s form (Number z) text = IsTextAt (if form == 0x0e then s.strs else s.line_strs) (reach z) text
+
+-- a value of the form DW_FORM_strp or DW_FORM_line_strp is the offset of a text (7.5.5), whatever its content type
+abbrev pub is_text_offset : ℕ → Bool
+is_text_offset form = form == 0x0e || form == 0x1f
+
+abbrev pub HasItsText : TextSections → Pair → Raw → Type 0
+HasItsText s pair raw = is_text_offset pair.form ≡ true → (text : List ℕ) × IsValueText s pair.form raw text
+
+-- of each value of a row, with its format
+abbrev pub HaveTheirTexts : TextSections → List Pair → List Raw → Type 0
+HaveTheirTexts s (pair ∷ pairs) (raw ∷ raws) = HasItsText s pair raw × HaveTheirTexts s pairs raws
+HaveTheirTexts s _ _ = Unit {0}
 
 abbrev pub index_in : Raw → ℕ
 index_in (Number z) = reach z
@@ -119,11 +131,12 @@ pub record PathRow : Type 0 where
   pub path : List ℕ
   pub dir : ℕ
 
--- one path, and no more than one index, which names one of so many directories
+-- all its texts stand, those that are passed over too; one path, and no more than one index, which names one of so many directories
 pub record SaysRow (s : TextSections) (dirs : ℕ) (formats : List Pair) (raws : List Raw) (row : PathRow) : Type 0 where
+  pub texts : HaveTheirTexts s formats raws
   pub named : Pair × Raw
   pub one_path : with_content 1 formats raws ≡ named ∷ []
-  pub path : IsPathText s named.0.form named.1 row.path
+  pub path : IsValueText s named.0.form named.1 row.path
   pub indexes : are_indexes dirs (with_content 2 formats raws) ≡ true
   pub dir : row.dir ≡ first_index (with_content 2 formats raws)
 
@@ -249,9 +262,16 @@ path_table_at bad = both_at (formats_at bad) (rows_at bad) table_with
 unfoldable pub tables_at : Fault → Reader Tables
 tables_at bad = both_at (path_table_at bad) (λ _. path_table_at bad) tables_with
 
-abbrev pub path_text : TextSections → ℕ → Raw → Option (List ℕ)
-path_text s form (Bytes bytes) = Some bytes
-path_text s form (Number z) = text_at (if form == 0x0e then s.strs else s.line_strs) (reach z)
+abbrev pub value_text : TextSections → ℕ → Raw → Option (List ℕ)
+value_text s form (Bytes bytes) = Some bytes
+value_text s form (Number z) = text_at (if form == 0x0e then s.strs else s.line_strs) (reach z)
+
+abbrev pub has_its_text : TextSections → Pair → Raw → Bool
+has_its_text s pair raw = not (is_text_offset pair.form) || is_some (value_text s pair.form raw)
+
+abbrev pub have_their_texts : TextSections → List Pair → List Raw → Bool
+have_their_texts s (pair ∷ pairs) (raw ∷ raws) = has_its_text s pair raw && have_their_texts s pairs raws
+have_their_texts s _ _ = true
 
 abbrev pub or_bad : {X : Type 0} → Fault → Option X → Result X Fault
 or_bad bad None = Err bad
@@ -260,7 +280,7 @@ or_bad bad (Some x) = Ok x
 -- the path of a row that has just one
 abbrev pub row_path : TextSections → List (Pair × Raw) → Option (List ℕ)
 row_path s [] = None
-row_path s (x ∷ []) = path_text s x.0.form x.1
+row_path s (x ∷ []) = value_text s x.0.form x.1
 row_path s (x ∷ y ∷ xs) = None
 
 abbrev pub row_with : ℕ → List ℕ → Result PathRow Fault
@@ -271,7 +291,9 @@ row_after s bad formats raws good = or_bad bad (row_path s (with_content 1 forma
     (first_index (with_content 2 formats raws))
 
 abbrev pub row_said : TextSections → Fault → ℕ → List Pair → List Raw → Result PathRow Fault
-row_said s bad dirs formats raws = unless_so (not (are_indexes dirs (with_content 2 formats raws))) bad >>= row_after s bad formats raws
+row_said s bad dirs formats raws =
+    unless_so (not (have_their_texts s formats raws && are_indexes dirs (with_content 2 formats raws))) bad
+    >>= row_after s bad formats raws
 
 abbrev pub with_row : PathRow → List PathRow → Result (List PathRow) Fault
 with_row row rows = Ok (row ∷ rows)

@@ -10,6 +10,7 @@ use Rattle.dwz_bytes.specs.Spelling.{le_value}
 use Rattle.dwz_def_reading.specs.Abbrevs.{Declaration, IsBadTable, SpellsTable, table_at}
 use Rattle.dwz_def_reading.specs.Entries.{IsFrontFault, Mode, RawEntry, SpellsEntry, SpellsFront, UnitContext, front_at, root_position, unless_so}
 use Rattle.dwz_def_reading.specs.Faults.{bad_abbrev, info_fault}
+use Rattle.dwz_def_reading.specs.FirstOf.{of_first}
 use Rattle.dwz_def_reading.specs.Parts.{StandsAt}
 use Rattle.dwz_def_reading.specs.Trees.{Behind, Cut, EachEntry, Faulty, Forest, ForestReader, Here, IfChildren, Inside, Position, SpellsForest}
 use Rattle.dwz_def_reading.specs.Trees.{TwoParts, after_front, children_by, first_below, siblings_at, size}
@@ -113,13 +114,12 @@ header_tests mode bytes =
     ∷ test (unit_type bytes == 2 && nat_lt (unit_size bytes) 24) Truncated
     ∷ []
 
--- the reason of the first test that fails
-abbrev pub first_failed : List HeaderTest → Option Reason
-first_failed [] = None
-first_failed (t ∷ tests) = if t.fails then Some t.reason else first_failed tests
+abbrev pub reason_if_failed : HeaderTest → Option Reason
+reason_if_failed t = if t.fails then Some t.reason else None
 
+-- the reason of the first test that fails
 unfoldable pub header_reason : Mode → List ℕ → Option Reason
-header_reason mode bytes = first_failed (header_tests mode bytes)
+header_reason mode bytes = of_first reason_if_failed (header_tests mode bytes)
 
 -- ---- how a unit is spelled
 

@@ -8,7 +8,7 @@ use Rattle.dwz_def_tops.specs.Seen.{IsPartial}
 use Rattle.dwz_def_tops.specs.Shown.{keys, unit_keys, units_keys}
 use Rattle.dwz_def_tops.specs.Spaces.{space_text, tops_under}
 use Rattle.dwz_def_tops.proofs.SpaceLemmas.{under_count}
-use Rattle.dwz_def_tops.specs.Spots.{EntryName, InType, SpaceAt, Within, below_spots, entry_spots, spot_in, spots_from, top_count, top_spots}
+use Rattle.dwz_def_tops.specs.Spots.{EntryName, InType, SpaceAt, Within, below_spots, entry_spots, number_tops, spot_in, spots_from, top_count, top_spots}
 
 -- ---- the name of a place
 
@@ -53,12 +53,12 @@ found_there (x ∷ xs) p h = go (found_there xs p) h (x.0 == p) refl where
 pub spots_top : (unit : ℕ) (path : List ℕ) (i n : ℕ) (e : Node ℕ) (f g : Entries ℕ) → space_text e ≡ None → top_spots unit path i n (Entry e f g) ≡ (e.at, Within n []) ∷ entry_spots (Within n) [] 0 f
     ++ top_spots unit path (suc i) (suc n) g
 unfolding top_spots
-spots_top unit path i n e f g h = rw (h, top_spots) refl
+spots_top unit path i n e f g h = rw (h, number_tops) refl
 
 pub spots_space : (unit : ℕ) (path : List ℕ) (i n : ℕ) (e : Node ℕ) (f g : Entries ℕ) (text : List ℕ) → space_text e ≡ Some text
     → top_spots unit path i n (Entry e f g) ≡ (e.at, SpaceAt unit (i ∷ path)) ∷ top_spots unit (i ∷ path) 0 n f ++ top_spots unit path (suc i) (n + tops_under f) g
 unfolding top_spots
-spots_space unit path i n e f g text h = rw (h, top_spots) refl
+spots_space unit path i n e f g text h = rw (h, number_tops) refl
 
 entry_firsts : (name : List ℕ → EntryName) (path : List ℕ) (i : ℕ) (f : Entries ℕ) → firsts (entry_spots name path i f) ≡ keys f
 unfolding firsts entry_spots keys

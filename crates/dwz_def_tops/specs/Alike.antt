@@ -5,6 +5,7 @@ use Rattle.std.specs.List.{list_any}
 use Rattle.dwz_model.specs.declared.fault.Fault.{Fault}
 use Rattle.dwz_def_reading.specs.Documents.{Attr, Entries, Expr, Loc, Node, Operand, Part, Plain, Same, Value}
 use Rattle.dwz_def_reading.specs.Exprs.{Expression, any_operands, expr_at}
+pub use Rattle.dwz_def_reading.specs.Modes.{binding_forms}
 use Rattle.dwz_model.specs.Lists.{In}
 use Rattle.dwz_def_reading.specs.Rows.{has}
 use Rattle.dwz_def_reading.specs.Trees.{End, Entry}
@@ -25,10 +26,6 @@ abbrev pub any_attr : (Attr EntryName → Bool) → Node EntryName → Bool
 any_attr test e = list_any test e.attrs
 
 -- ---- bound: what says where it stands, or is named by what stands
-
--- addr, sec_offset, addrx, loclistx, rnglistx, addrx1 to addrx4 (DWARF 5, 7.5.6)
-abbrev pub binding_forms : List ℕ
-binding_forms = 0x01 ∷ 0x17 ∷ 0x1b ∷ 0x22 ∷ 0x23 ∷ 0x29 ∷ 0x2a ∷ 0x2b ∷ 0x2c ∷ []
 
 abbrev pub is_operand : Part → Bool
 is_operand (Same bytes) = false

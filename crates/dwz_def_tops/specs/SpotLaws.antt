@@ -6,7 +6,8 @@ use Rattle.dwz_def_tops.specs.Seen.{IsPartial}
 use Rattle.dwz_def_tops.specs.Shown.{units_keys}
 use Rattle.dwz_def_tops.specs.Spots.{EntryName, FileUnit, Top, spot_in, spots_from, tops_of}
 
--- each place of units, of their roots and of their entries gets one of the names that the units give, at this place
+-- Each place of units, of their roots and of their entries gets one of the names that the units give, at this place. So none of these
+-- gets `no_name` for want of one.
 abbrev pub FoundLaw : Type 0
 FoundLaw =
     (unit top : ℕ) (units : List (DwUnit ℕ)) → ((u : DwUnit ℕ) → In u units → IsPartial u.kind → ⊥) → (place : ℕ)

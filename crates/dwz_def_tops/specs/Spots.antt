@@ -45,6 +45,26 @@ pub record FileUnit (P : Type 0) : Type 0 where
   pub file : ℕ
   pub unit : DwUnit P
 
+-- ---- the numbers of tops
+
+-- What is made (A) of the entries in the root of a compile unit, or in a space of it: of none; of a top, with its number, what is below
+-- it, and what is made of the entries behind it; of a space, with what is made inside it and behind it. What is known of where an entry
+-- stands (S) becomes another inside a space, and at the next entry.
+pub record TopNumbering (P S A : Type 0) : Type 0 where
+  pub none : A
+  pub top : S → (number : ℕ) → Node P → (below : Entries P) → (behind : A) → A
+  pub space : S → Node P → (inner behind : A) → A
+  pub inside : S → (name : List ℕ) → Node P → S
+  pub next : S → S
+
+-- The one numbering of tops: an entry that is no space is a top, and tops have numbers in preorder, from that of the first one on.
+abbrev pub number_tops : {P S A : Type 0} → TopNumbering P S A → S → ℕ → Entries P → A
+number_tops m s n End = m.none
+number_tops {P} {S} {A} m s n (Entry e children next) = elim (space_text e) as (λ _. A) [
+  | None ↦ m.top s n e children (number_tops m (m.next s) (suc n) next)
+  | Some name ↦ m.space s e (number_tops m (m.inside s name e) n children) (number_tops m (m.next s) (n + tops_under children) next)
+]
+
 -- ---- from places to names
 
 -- the places of entries with their names, by the path of what is above them and the index of the first
@@ -53,14 +73,25 @@ entry_spots name path i End = []
 entry_spots name path i (Entry e children next) = (e.at, name (i ∷ path)) ∷ entry_spots name (i ∷ path) 0 children
     ++ entry_spots name path (suc i) next
 
--- the same of what stands in the root of a compile unit or in a space of it, where the first top has that number
+-- where an entry stands: the path of what is above it, and its index there
+pub record Standing : Type 0 where
+  pub path : List ℕ
+  pub index : ℕ
+
+-- the places of tops, of all below them and of spaces, with their names
+abbrev pub spot_numbering : ℕ → TopNumbering ℕ Standing (List (ℕ × EntryName))
+spot_numbering unit = record {
+  none = [];
+  top = λ s n e below behind. (e.at, Within n []) ∷ entry_spots (Within n) [] 0 below ++ behind;
+  space = λ s e inner behind. (e.at, SpaceAt unit (s.index ∷ s.path)) ∷ inner ++ behind;
+  inside = λ s name e. record { path = s.index ∷ s.path; index = 0 };
+  next = λ s. record { path = s.path; index = suc s.index };
+}
+
+-- of entries in the root of a compile unit or in a space of it, by the path of what is above them, the index of the first, and the number
+-- of the first top
 unfoldable pub top_spots : ℕ → List ℕ → ℕ → ℕ → Entries ℕ → List (ℕ × EntryName)
-top_spots unit path i n End = []
-top_spots unit path i n (Entry e children next) = elim (space_text e) as (λ _. List (ℕ × EntryName)) [
-  | None ↦ (e.at, Within n []) ∷ entry_spots (Within n) [] 0 children ++ top_spots unit path (suc i) (suc n) next
-  | Some text ↦ (e.at, SpaceAt unit (i ∷ path)) ∷ top_spots unit (i ∷ path) 0 n children
-      ++ top_spots unit path (suc i) (n + tops_under children) next
-]
+top_spots unit path i n f = number_tops (spot_numbering unit) (record { path = path; index = i }) n f
 
 -- a compile unit has tops and spaces
 abbrev pub below_spots : ℕ → ℕ → Kind ℕ → Entries ℕ → List (ℕ × EntryName)
@@ -80,9 +111,13 @@ spots_from unit top (u ∷ units) =
     (u.at, UnitOf unit) ∷ (u.root.at, RootOf unit) ∷ below_spots unit top u.kind u.below
     ++ spots_from (suc unit) (top + top_count u.kind u.below) units
 
+-- what stands for the name of a place at which no unit and no entry stands
+abbrev pub no_name : EntryName
+no_name = UnitOf 0
+
 -- the name of a place
 unfoldable pub spot_in : List (ℕ × EntryName) → ℕ → EntryName
-spot_in [] place = UnitOf 0
+spot_in [] place = no_name
 spot_in (s ∷ spots) place = elim (s.0 == place) as (λ _. EntryName) [ true ↦ s.1 | false ↦ spot_in spots place ]
 
 abbrev pub named_in : List (ℕ × EntryName) → List (DwUnit ℕ) → List (DwUnit EntryName)
@@ -150,15 +185,20 @@ pub data Row : Type 0 where
   ATop : Top → (next : Row) → Row
   ASpace : Node EntryName → (inner next : Row) → Row
 
+-- rows of a unit, by the numbers of its file and of itself, and its language; known is the names of the spaces that an entry stands in
+abbrev pub row_numbering : ℕ → ℕ → Option ℤ → TopNumbering EntryName (List SpaceName) Row
+row_numbering file unit language = record {
+  none = Nothing;
+  top = λ spaces n e below behind. ATop
+      (record { file = file; unit = unit; language = language; spaces = spaces; number = n; node = e; below = below }) behind;
+  space = λ spaces e inner behind. ASpace e inner behind;
+  inside = λ spaces name e. spaces ++ name_of name e ∷ [];
+  next = λ spaces. spaces;
+}
+
 -- the row of these entries, whose first top has that number
 unfoldable pub row_in : ℕ → ℕ → Option ℤ → List SpaceName → ℕ → Entries EntryName → Row
-row_in file unit language spaces n End = Nothing
-row_in file unit language spaces n (Entry e children next) = elim (space_text e) as (λ _. Row) [
-  | None ↦ ATop (record { file = file; unit = unit; language = language; spaces = spaces; number = n; node = e; below = children })
-      (row_in file unit language spaces (suc n) next)
-  | Some text ↦ ASpace e (row_in file unit language (spaces ++ name_of text e ∷ []) n children)
-      (row_in file unit language spaces (n + tops_under children) next)
-]
+row_in file unit language spaces n f = number_tops (row_numbering file unit language) spaces n f
 
 abbrev pub row_below : ℕ → ℕ → ℕ → DwUnit EntryName → Kind EntryName → Row
 row_below file unit n u Compile = row_in file unit (language u) [] n u.below

@@ -1,6 +1,6 @@
 //! Tops, spaces and names for places; which tops may move, and which are alike; what it is that units say the same.
 //!
-//! There is no running code here. `Spot` names units, roots and entries, before and after, without an offset. `Movable` says which tops no
+//! There is no running code here. `EntryName` names units, roots and entries, before and after, without an offset. `Movable` says which tops no
 //! chain of references binds; `Alike` which two tops no look, of whatever depth, tells apart; `SameAlong` what it is that entries and units
 //! say the same along a function of places, imports expanded (DWARF 5, 3.2.5).
 //!

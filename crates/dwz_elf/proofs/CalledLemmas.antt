@@ -12,7 +12,8 @@ use Rattle.dwz_def_reading.specs.declared.elf.Header.{Header}
 use Rattle.dwz_def_reading.specs.declared.elf.Section.{Section}
 use Rattle.dwz_def_reading.specs.ElfHeaders.{file_header, header_at, headers_end, headers_from, headers_in, is_there, program_headers_end}
 use Rattle.dwz_def_reading.specs.ElfNames.{name_at, name_table, names_header, section_named, sections_in}
-use Rattle.dwz_def_reading.specs.ElfReading.{◌or◌, ElfView, elf_fault, elf_of, fault_if, field_fault, first_in, header_fault, identification_fault, missing_fault, names_fault, unkept_fault}
+use Rattle.dwz_def_reading.specs.ElfReading.{ElfView, elf_fault, elf_of, fault_if, field_fault, first_in, header_fault, identification_fault, missing_fault, names_fault, unkept_fault}
+use Rattle.dwz_def_reading.specs.FirstOf.{◌or◌}
 use Rattle.dwz_def_reading.proofs.ElfFaultLemmas.{test_false}
 use Rattle.dwz_elf.specs.Names.{is_called, is_there_called}
 

@@ -6,7 +6,8 @@ use Rattle.dwz_model.specs.declared.fault.Fault.{Fault}
 use Rattle.dwz_model.specs.declared.fault.Reason.TheVariants.{SectionTable}
 use Rattle.dwz_def_reading.specs.declared.elf.Section.{Section}
 use Rattle.dwz_def_reading.specs.ElfFaults.{file_fault}
-use Rattle.dwz_def_reading.specs.ElfReading.{◌or◌, first_in, header_fault, is_wrong}
+use Rattle.dwz_def_reading.specs.ElfReading.{first_in, header_fault, is_wrong}
+use Rattle.dwz_def_reading.specs.FirstOf.{◌or◌}
 
 opened : {X : Type 0} (fault_of : List X → X → Option Fault) (xs : List X) (i : ℕ) (d : X) → i < length xs
     → first_in fault_of (take i xs) (drop i xs) ≡ (fault_of (take i xs) (get_or xs i d) or first_in fault_of (take (i + 1) xs) (drop (i + 1) xs))

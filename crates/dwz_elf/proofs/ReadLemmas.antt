@@ -6,7 +6,8 @@ use Rattle.dwz_def_reading.specs.declared.elf.FileHeader.{FileHeader}
 use Rattle.dwz_def_reading.specs.declared.elf.Section.{Section}
 use Rattle.dwz_def_reading.specs.ElfHeaders.{file_header}
 use Rattle.dwz_def_reading.specs.ElfNames.{names_header, sections_in}
-use Rattle.dwz_def_reading.specs.ElfReading.{◌or◌, elf_fault, elf_of, field_fault, identification_fault, names_fault}
+use Rattle.dwz_def_reading.specs.ElfReading.{elf_fault, elf_of, field_fault, identification_fault, names_fault}
+use Rattle.dwz_def_reading.specs.FirstOf.{◌or◌}
 use Rattle.dwz_elf.specs.Reads.{front_fault_of, rest_fault_of}
 
 or_or : (a b c d : Option Fault) → (a or (b or (c or d))) ≡ ((a or (b or c)) or d)

@@ -4,7 +4,8 @@ use Rattle.dwz_model.specs.declared.fault.Fault.{Fault}
 use Rattle.dwz_model.specs.declared.fault.ReadErr.{ReadErr}
 use Rattle.dwz_model.specs.declared.fault.ReadErr.TheVariants.{Refused, NoMemory}
 use Rattle.dwz_def_reading.specs.declared.elf.Section.{Section}
-use Rattle.dwz_def_reading.specs.ElfReading.{◌or◌, field_fault, first_in, header_fault, identification_fault, missing_fault, names_fault}
+use Rattle.dwz_def_reading.specs.ElfReading.{field_fault, first_in, header_fault, identification_fault, missing_fault, names_fault}
+use Rattle.dwz_def_reading.specs.FirstOf.{◌or◌}
 use Rattle.dwz_def_reading.specs.ElfReading.{unkept_fault}
 use Rattle.dwz_def_reading.specs.ElfHeaders.{end_of, file_header, headers_end}
 use Rattle.dwz_def_reading.specs.ElfNames.{names_header}

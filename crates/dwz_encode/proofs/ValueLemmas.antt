@@ -3,9 +3,8 @@ use Rattle.std.proofs.Common.{◌≡◌, ℕ, ◌+◌, ◌-◌, ◌<◌, ◌≤�
 use Rattle.std.specs.Prelude.{OnOk}
 use Rattle.dwz_bytes.specs.Input.{Input}
 use Rattle.dwz_bytes.specs.Spelling.{le_bytes, uleb}
-use Rattle.dwz_def_reading.specs.Forms.{form_rows}
 use Rattle.dwz_def_reading.specs.Entries.{RawAttr}
-use Rattle.dwz_def_reading.specs.Values.{Raw, value_at, value_bytes}
+use Rattle.dwz_def_reading.specs.Values.{Raw, value_at, value_bytes, written_rows}
 use Rattle.dwz_model.specs.declared.place.Pair.{Pair}
 use Rattle.dwz_def_reading.specs.declared.exprs.Operand.{Operand}
 use Rattle.dwz_def_reading.specs.Documents.{Part}
@@ -129,7 +128,7 @@ module _ (n : Numbers) (k : EntryTable) (here : WritingContext) (r : Row) (pairs
   so_far_none at has = record { done = []; left = left_start k here r pairs at has; put = put_none n old }
 
   pub so_far_more : (j : ℕ) (d : Pair) (at place : Input) (next : ValueCounts) (out : List ℕ) → PutSoFar n k here r pairs j at next old out → j < length pairs → (raw : Raw)
-      → value_at form_rows (get_or pairs j d) at ≡ Ok (raw, place)
+      → value_at written_rows (get_or pairs j d) at ≡ Ok (raw, place)
       → (new : ValueCounts) (more : List ℕ) (end : ℕ) → end ≡ place.at → new ≡ after here next (value_read end (get_or pairs j d) raw)
       → Put n out more (out_attr k r.file here next (value_read end (get_or pairs j d) raw)) → PutSoFar n k here r pairs (j + 1) place new old more
   so_far_more j d at place next out m lt raw value new more end same step put =

@@ -8,7 +8,8 @@ ghost use Rattle.dwz_def_encoding.specs.Writing.{base_place};
 ghost use Rattle.dwz_encode.specs.Views.{numbers_view};
 
 use dwz_bytes::put_fixed;
-use dwz_model::{Base, NoMemory};
+use dwz_codes::DW_FORM_REF4;
+use dwz_model::{Base, NoMemory, at_or};
 
 /// Where entries stand, by their numbers among all files, and the roots of units; and where the unit begins that is written.
 #[derive(Clone, Copy)]
@@ -18,26 +19,12 @@ pub(crate) struct Numbers<'p> {
     pub(crate) unit: u64,
 }
 
-// `DW_FORM_ref4`.
-const REF4: u64 = 0x13;
-
-/// The number at a place, and 0 behind the last one.
-#[inline(always)]
-pub(crate) fn at_or_zero(numbers: &[u64], i: u32) -> u64
-    ensures { result ≡ slice_index numbers.now i }
-{
-    match numbers.get(i as usize) {
-        Some(number) => *number,
-        None => 0,
-    }
-}
-
 /// The number of a place, as a form counts it.
 #[inline(always)]
 pub(crate) fn number_by_form(numbers: Numbers, form: u64, place: u64) -> u64
     ensures { result ≡ Attributes.counted (numbers_view numbers.entry) form place }
 {
-    if form == REF4 {
+    if form == DW_FORM_REF4 {
         place.saturating_sub(numbers.unit)
     } else {
         place
@@ -49,7 +36,7 @@ pub(crate) fn number_by_form(numbers: Numbers, form: u64, place: u64) -> u64
 pub(crate) fn operand_number(numbers: Numbers, number: u32, base: Base) -> u64
     ensures { result ≡ slice_index numbers.entry.places.now number - base_place numbers.entry.unit base }
 {
-    let place = at_or_zero(numbers.places, number);
+    let place = at_or(numbers.places, number as usize, 0);
     match base {
         Base::Unit => place.saturating_sub(numbers.unit),
         Base::Info => place,

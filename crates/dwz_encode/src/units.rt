@@ -6,15 +6,16 @@ ghost use Rattle.dwz_layout.specs.Entries.{entries_of};
 ghost use Rattle.dwz_encode.specs.Pages.{entries_page, entry_page, header_page, sort_page, type_byte, unit_page, units_page};
 ghost use Rattle.dwz_encode.specs.Views.{numbers_view};
 
-use crate::numbers::{Numbers, at_or_zero, put_four};
+use crate::numbers::{Numbers, put_four};
 use crate::values::put_values;
 use dwz_bytes::{put_fixed, put_uleb};
+use dwz_codes::{DW_UT_COMPILE, DW_UT_PARTIAL, DW_UT_TYPE};
 use dwz_def_reading::Operand;
 use dwz_layout::{
     Entry, EntryTable, FileLayout, OutUnit, Sort, Spots, UnitItems, Walk, WritingContext, behind,
     here_of,
 };
-use dwz_model::NoMemory;
+use dwz_model::{NoMemory, at_or};
 use std::alloc::Global;
 
 // The byte for the type of a unit.
@@ -22,9 +23,9 @@ fn type_of(sort: Sort) -> u8
     ensures { result ≡ type_byte sort }
 {
     match sort {
-        Sort::Compile(_) => 1,
-        Sort::OfType { .. } => 2,
-        Sort::Partial(_) => 3,
+        Sort::Compile(_) => DW_UT_COMPILE,
+        Sort::OfType { .. } => DW_UT_TYPE,
+        Sort::Partial(_) => DW_UT_PARTIAL,
     }
 }
 
@@ -41,7 +42,7 @@ fn put_sort(out: &mut Vec<u8>, sort: Sort, numbers: Numbers) -> Result<(), NoMem
         put_fixed(out, 8, signature)?;
         put_four(
             out,
-            at_or_zero(numbers.places, main).saturating_sub(numbers.unit),
+            at_or(numbers.places, main as usize, 0).saturating_sub(numbers.unit),
         )?;
     }
     Ok(())

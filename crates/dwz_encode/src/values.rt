@@ -16,20 +16,18 @@ ghost use Rattle.dwz_layout.specs.Ways;
 ghost use Rattle.dwz_layout.specs.Ways.{holder_view};
 ghost use Rattle.dwz_encode.specs.Views.{numbers_view};
 
-use crate::numbers::{Numbers, at_or_zero, number_by_form, put_four};
+use crate::numbers::{Numbers, number_by_form, put_four};
 use crate::parts::put_parts;
 use dwz_bytes::put_uleb;
+use dwz_codes::DW_AT_NAME;
 use dwz_def_reading::Operand;
 use dwz_forms::{Raw, write_value};
 use dwz_layout::{
     EntryTable, Origin, Rewrite, Row, SpaceRow, TextAt, UnitRole, ValueCounts, WritingContext,
     content_of, form_to, more, read_operands, way_of,
 };
-use dwz_model::{NoMemory, Pair};
+use dwz_model::{NoMemory, Pair, at_or};
 use dwz_unit::{Values, known_value};
-
-// `DW_AT_name`.
-const NAME: u16 = 0x03;
 
 // Appends the number of an entry, by its number among all files.
 #[inline(always)]
@@ -46,7 +44,7 @@ fn put_entry(
     let form = form_to(known, here, known.owner(target));
     put_four(
         out,
-        number_by_form(numbers, form, at_or_zero(numbers.places, target)),
+        number_by_form(numbers, form, at_or(numbers.places, target as usize, 0)),
     )
 }
 
@@ -206,7 +204,7 @@ fn put_name(
     };
     for pair in pairs {
         let raw = known_value(&mut cursor, pair);
-        if pair.name == NAME {
+        if pair.name == DW_AT_NAME {
             return put_as_name(out, holder, pair, &raw, space.text_in(holder));
         }
     }
@@ -238,7 +236,7 @@ fn put_root(
     let form = form_to(known, here, unit);
     put_four(
         out,
-        number_by_form(numbers, form, at_or_zero(numbers.roots, unit)),
+        number_by_form(numbers, form, at_or(numbers.roots, unit as usize, 0)),
     )
 }
 

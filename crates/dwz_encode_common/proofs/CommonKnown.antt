@@ -17,7 +17,7 @@ use Rattle.dwz_def_images.specs.Units.{common_units}
 use Rattle.dwz_unit.specs.Rows.{EntryRow, units_of as raw_units}
 use Rattle.dwz_graph.specs.declared.file.File.{File}
 use Rattle.dwz_graph.specs.Index.{Index}
-use Rattle.dwz_def_encoding.specs.Placing.{CommonUnit, Fit, has_text}
+use Rattle.dwz_def_encoding.specs.Placing.{CommonUnit, UnitForms, has_text}
 use Rattle.dwz_def_readback.specs.Files.{paths, texts}
 use Rattle.dwz_layout.specs.declared.known.EntryTable.{EntryTable}
 use Rattle.dwz_layout.specs.declared.known.SpaceRow.{SpaceRow}
@@ -38,7 +38,7 @@ use Rattle.dwz_law_layout.specs.Knows.{FileRead, IsRead, IsText, KnowsTexts, Wri
 use Rattle.dwz_law_layout.proofs.FormWays.{class_way, is_read, way_is}
 use Rattle.dwz_law_layout.specs.Facts.{AreFacts, HasFile, RunFacts, file_read, move, run}
 use Rattle.dwz_law_layout.specs.Listed.{AreListed, TextsAt, entry_row, space_entries}
-use Rattle.dwz_law_layout.specs.Unfitted.{HasChained, KnowsTextsOf, NamesChained, fit_common}
+use Rattle.dwz_law_layout.specs.Unfitted.{HasChained, KnowsTextsOf, NamesChained, common_unit_forms}
 use Rattle.dwz_encode_texts.proofs.SpaceNames.{has_stored_name}
 use Rattle.dwz_encode_common.specs.Gathered.{text_by, text_said, with_all}
 use Rattle.dwz_encode_common.specs.Placed.{in_common_file, name_place, shares_in}
@@ -137,7 +137,7 @@ no_way form c e some p way =
     let no : is_text AsText ≡ false = ap is_text (sym way ∙ is) ∙ other_way c p in
     cc
 
-module _ (ft : Fit EntryName) (holder : ft.holder ≡ CommonUnit) (a : Attr EntryName) (name : a.name ≡ 0x03) (own : TextAt)
+module _ (ft : UnitForms EntryName) (holder : ft.holder ≡ CommonUnit) (a : Attr EntryName) (name : a.name ≡ 0x03) (own : TextAt)
     (there : (t : List ℕ) → In t (text_said a) → has_text ft.texts t ≡ true) where
   goes : (c : Class) → class_of a.form ≡ c → is_placed c ≡ true → has_text ft.texts (meant a) ≡ true
       → IsText ft None a (placed_text true false ft.texts (meant a) own)
@@ -228,10 +228,10 @@ module _ (f : RunFacts) (t : TextsAt) (sharing : List Bool) (before k : EntryTab
           there o o_in slot.slot slot.there w (subst (λ (l : List (List ℕ)). In w l) (sym said) w_in)
 
     module _ (u : DwUnit EntryName) where
-      abbrev ft : Fit EntryName
-      ft = fit_common f u
+      abbrev ft : UnitForms EntryName
+      ft = common_unit_forms f u
 
-      entries : KnowsTexts k (file_read f n bytes x) o (fit_common f u) None
+      entries : KnowsTexts k (file_read f n bytes x) o (common_unit_forms f u) None
       entries = record {
         are = λ i r d read writes. (
             let list = attrs f t sharing before k facts listed has n bytes x index h i r d read in
@@ -241,7 +241,7 @@ module _ (f : RunFacts) (t : TextsAt) (sharing : List Bool) (before k : EntryTab
 
       spaces : (s i : ℕ) (r : EntryRow) (d : Node ℕ) (text : List ℕ) → HasChained s o.items
           → slice_get (space_entries 0 f.indexes) s ≡ Some (entry_row n i) → IsRead (file_read f n bytes x) i r d → space_text d ≡ Some text
-          → IsText (fit_common f u) None (name_attr (name_of text d)) (text_held (fit_common f u).holder (space_at k s))
+          → IsText (common_unit_forms f u) None (name_attr (name_of text d)) (text_held (common_unit_forms f u).holder (space_at k s))
       spaces s i r d text chain at read is =
           let a = name_attr (name_of text d) in
           let stored = has_stored_name (scope_of (around_of bytes (raw_units x.units)) read.unit) r.entry d text read.means is in
@@ -251,7 +251,7 @@ module _ (f : RunFacts) (t : TextsAt) (sharing : List Bool) (before k : EntryTab
           subst (λ (w : TextAt). IsText ft None a w) (sym (name_stands s i r d text chain at read is))
           (name_goes ft refl a refl (own s i r d text chain at read is) (name_among s i r d text chain at read is) some)
 
-  pub texts_known : (o : UnitItems) → In o order → (u : DwUnit EntryName) (n : ℕ) → KnowsTextsOf f k (fit_common f u) None n o
+  pub texts_known : (o : UnitItems) → In o order → (u : DwUnit EntryName) (n : ℕ) → KnowsTextsOf f k (common_unit_forms f u) None n o
   texts_known o o_in u n = record {
     entries = λ bytes x index h. entries o o_in n bytes x index h u;
     spaces = λ bytes x index h s i r d text chain at read is. spaces o o_in n bytes x index h u s i r d text chain at read is;

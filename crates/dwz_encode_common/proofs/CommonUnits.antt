@@ -37,7 +37,7 @@ use Rattle.dwz_layout.specs.Known.{file_at, no_firsts}
 use Rattle.dwz_law_layout.specs.Knows.{EachFrom, IsRead, KnowsFiles, files_in, firsts_at}
 use Rattle.dwz_law_layout.specs.Facts.{AreFacts, HasFile, RunFacts, docs, file_read, move, run}
 use Rattle.dwz_law_layout.specs.Listed.{AreListed, TextsAt, firsts_from, none_before}
-use Rattle.dwz_law_layout.specs.Unfitted.{KnowCommon, fit_common}
+use Rattle.dwz_law_layout.specs.Unfitted.{KnowCommon, common_unit_forms}
 use Rattle.dwz_law_layout.proofs.Walks.{each_from, rows_at}
 use Rattle.dwz_encode_common.specs.CommonLaws.{IsCommonOrder}
 use Rattle.dwz_encode_common.specs.Gathered.{with_all}
@@ -144,7 +144,7 @@ module _ (f : RunFacts) (t : TextsAt) (sharing : List Bool) (before k : EntryTab
         (ap (λ (w : List ℕ). slice_get w j) (numbers there) ∙ got_map (number_meant P) (files_in attrs) j a e))
 
   files_known : (o : UnitItems) → In o order → (u : DwUnit EntryName) (n : ℕ) (bytes : List ℕ) (x : File) (index : Index)
-      → HasFile f n bytes x index → KnowsFiles k (file_read f n bytes x) o (fit_common f u)
+      → HasFile f n bytes x index → KnowsFiles k (file_read f n bytes x) o (common_unit_forms f u)
   files_known o o_in u n bytes x index h = record {
     are = λ i r d read writes common. (
         let own = owned.each o o_in n bytes x index h i r d read

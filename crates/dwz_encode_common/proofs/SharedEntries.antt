@@ -15,7 +15,7 @@ use Rattle.dwz_unit.specs.Rows.{EntryRow, rows_of, units_of as raw_units}
 use Rattle.dwz_graph.specs.declared.file.File.{File}
 use Rattle.dwz_graph.specs.Index.{Index}
 use Rattle.dwz_layout_numbers.specs.Images.{starts_from}
-use Rattle.dwz_def_encoding.specs.Placing.{CommonUnit, Fit, NewUnit, OldUnit, UnitRole, as_constant, as_file, fit_as}
+use Rattle.dwz_def_encoding.specs.Placing.{CommonUnit, NewUnit, OldUnit, UnitForms, UnitRole, as_constant, as_file, fit_as}
 use Rattle.dwz_def_readback.specs.Files.{paths, shared_if, texts}
 use Rattle.dwz_layout.specs.declared.known.FileRows.{FileRows}
 use Rattle.dwz_layout.specs.declared.known.ValueCounts.{ValueCounts}
@@ -188,7 +188,7 @@ module _ (f : RunFacts) (t : TextsAt) (sharing : List Bool) (before k : EntryTab
 -- ---- what is written of it
 
 -- the name of a space in another unit
-module _ (ft : Fit EntryName) (other : ft.holder ≡ CommonUnit → ⊥) (shares : Bool) (common : List (List ℕ))
+module _ (ft : UnitForms EntryName) (other : ft.holder ≡ CommonUnit → ⊥) (shares : Bool) (common : List (List ℕ))
     (shared : ft.shared ≡ shared_if shares common) (a : Attr EntryName) (own : TextAt) where
   same_fit : (c : Class) → is_placed c ≡ false → fit_as c (unshared ft) a ≡ fit_as c ft a
   same_fit OfTextInStr p = absurd cc

@@ -5,7 +5,7 @@ use Rattle.dwz_def_reading.specs.Documents.{Attr}
 use Rattle.dwz_def_reading.specs.Classes.{OfTextBySlot, OfTextInLineStr, OfTextInStr}
 use Rattle.dwz_def_reading.specs.Classes.{Class, class_of, names_file}
 use Rattle.dwz_def_tops.specs.Spots.{EntryName}
-use Rattle.dwz_def_encoding.specs.Placing.{CommonUnit, Fit, NewUnit, OldUnit, UnitRole, as_line_text, as_slot, as_strp, as_strp_if, as_text, fit_as, has_text, slot_number, text_place}
+use Rattle.dwz_def_encoding.specs.Placing.{CommonUnit, NewUnit, OldUnit, UnitForms, UnitRole, as_line_text, as_slot, as_strp, as_strp_if, as_text, fit_as, has_text, slot_number, text_place}
 use Rattle.dwz_def_encoding.specs.Writing.{text_or_empty}
 use Rattle.dwz_layout.specs.declared.known.TextAt.{TextAt}
 use Rattle.dwz_layout.specs.declared.known.TextAt.TheVariants.{Shared}
@@ -20,7 +20,7 @@ use Rattle.dwz_encode_common.specs.Shared.{InCommonLaw, PlacedLaw, SharedLaw, in
 
 -- ---- in the common file
 
-module _ (ft : Fit EntryName) (a : Attr EntryName) (holder : ft.holder ≡ CommonUnit) where
+module _ (ft : UnitForms EntryName) (a : Attr EntryName) (holder : ft.holder ≡ CommonUnit) where
   common_form : (c : Class) → is_placed c ≡ true → text_chosen (in_common ft.texts (text_or_empty a.value.plain)) ≡ fit_as c ft a
   common_form OfTextInStr placed = sym (ap (λ (h : UnitRole). as_text h ft a) holder)
   common_form OfTextInLineStr placed = sym (ap (λ (h : UnitRole). as_line_text h ft a) holder)
@@ -35,7 +35,7 @@ in_common_law ft a holder placed = λ way. common_form ft a holder (class_of a.f
 kept : (w : Rewrite) → w ≡ KeepsText → w ≡ AsText → ⊥
 kept w e f = (let z : KeepsText ≡ AsText = sym e ∙ f in cc)
 
-module _ (ft : Fit EntryName) (a : Attr EntryName) (t : TextAt) where
+module _ (ft : UnitForms EntryName) (a : Attr EntryName) (t : TextAt) where
   abbrev text : List ℕ
   text = text_or_empty a.value.plain
 
@@ -63,7 +63,7 @@ module _ (ft : Fit EntryName) (a : Attr EntryName) (t : TextAt) where
   shared_form OldUnit is other name OfTextBySlot e placed way told =
       absurd (kept _ (way_of_class OldUnit (plain_pair a.name a.form) OfTextBySlot name e refl refl) way)
   shared_form NewUnit is other name OfTextBySlot e placed way told =
-      let n = slot_number ft.offsets ft.origin.slots (reach a.raw) in
+      let n = slot_number ft.offsets ft.origin_bases.slots (reach a.raw) in
       strp_form n (told ∙ ap (λ (h : UnitRole). as_slot h (unshared ft) a) is) ∙ sym (ap (λ (h : UnitRole). as_slot h ft a) is)
   shared_form _ is other name _ e placed way told = absurd cc
 

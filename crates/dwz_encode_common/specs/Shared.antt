@@ -3,7 +3,7 @@ use Rattle.std.specs.Prelude.{◌≡◌, Bool, List, ℕ, true, false, if◌then
 use Rattle.dwz_def_reading.specs.Documents.{Attr}
 use Rattle.dwz_def_reading.specs.Classes.{class_of}
 use Rattle.dwz_def_tops.specs.Spots.{EntryName}
-use Rattle.dwz_def_encoding.specs.Placing.{CommonUnit, Fit, has_text, text_place}
+use Rattle.dwz_def_encoding.specs.Placing.{CommonUnit, UnitForms, has_text, text_place}
 use Rattle.dwz_def_encoding.specs.Writing.{text_or_empty}
 use Rattle.dwz_def_readback.specs.Files.{shared_if}
 use Rattle.dwz_layout.specs.declared.known.TextAt.{TextAt}
@@ -29,13 +29,13 @@ placed_text false false texts text own = own
 -- in a unit of the common file each text stands there
 abbrev pub InCommonLaw : Type 0
 InCommonLaw =
-    (ft : Fit EntryName) (a : Attr EntryName) → ft.holder ≡ CommonUnit → is_placed (class_of a.form) ≡ true
+    (ft : UnitForms EntryName) (a : Attr EntryName) → ft.holder ≡ CommonUnit → is_placed (class_of a.form) ≡ true
     → IsText ft None a (in_common ft.texts (text_or_empty a.value.plain))
 
 -- In any other unit a text that stands where the definition of forms says if none is shared stands there still, or in the common file.
 abbrev pub SharedLaw : Type 0
 SharedLaw =
-    (ft : Fit EntryName) (a : Attr EntryName) (t : TextAt)
+    (ft : UnitForms EntryName) (a : Attr EntryName) (t : TextAt)
     → (ft.holder ≡ CommonUnit → ⊥) → is_placed (class_of a.form) ≡ true
     → IsText (unshared ft) None a t → IsText ft None a (shared_or ft.shared (text_or_empty a.value.plain) t)
 

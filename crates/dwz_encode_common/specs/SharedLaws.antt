@@ -7,7 +7,7 @@ use Rattle.dwz_def_images.specs.Units.{common_units}
 use Rattle.dwz_unit.specs.Rows.{EntryRow}
 use Rattle.dwz_graph.specs.declared.file.File.{File}
 use Rattle.dwz_graph.specs.Index.{Index}
-use Rattle.dwz_def_encoding.specs.Placing.{CommonUnit, Fit}
+use Rattle.dwz_def_encoding.specs.Placing.{CommonUnit, UnitForms}
 use Rattle.dwz_def_readback.specs.Files.{name_after, paths, shared_if, texts}
 use Rattle.dwz_layout.specs.declared.known.EntryTable.{EntryTable}
 use Rattle.dwz_layout.specs.declared.order.UnitItems.{UnitItems}
@@ -32,12 +32,12 @@ KnowCommonLaw =
     → HasCommon f sharing before k → KnowCommon f k order (common_units (move f))
 
 -- P holds of each file that was read, and of how the values of a unit of that file are written, which shares texts as the list says
-abbrev pub OfSharing : (RunFacts → EntryTable → EntryTable → ℕ → List ℕ → File → Fit EntryName → Type 0) → Type 0
+abbrev pub OfSharing : (RunFacts → EntryTable → EntryTable → ℕ → List ℕ → File → UnitForms EntryName → Type 0) → Type 0
 OfSharing P =
     (f : RunFacts) (t : TextsAt) (sharing : List Bool) (before k : EntryTable) → AreFacts f → AreListed f t before
     → HasCommon f sharing before k
     → (n : ℕ) (bytes : List ℕ) (x : File) (index : Index) → HasFile f n bytes x index
-    → (ft : Fit EntryName) → (ft.holder ≡ CommonUnit → ⊥) → ft.shared ≡ shared_if (shares_in sharing n) (texts (run f))
+    → (ft : UnitForms EntryName) → (ft.holder ≡ CommonUnit → ⊥) → ft.shared ≡ shared_if (shares_in sharing n) (texts (run f))
     → P f before k n bytes x ft
 
 -- In a unit of its own file the texts of an entry that isn't written in the common file stand where the definition of forms says, where

@@ -9,13 +9,13 @@ ghost use Rattle.dwz_unit.specs.Rows.{EntryRow, rows_of, units_of};
 ghost use Rattle.dwz_encode_common.specs.Numbers as Specs;
 ghost use Rattle.dwz_encode_common.specs.Numbers.{number_read, numbers_in_file, row_numbers};
 
-use crate::paths::{is_file, line_of, number_of, path_at};
+use crate::paths::{is_file, number_of, path_at};
 use crate::pool::Pool;
 use dwz_forms::Raw;
 use dwz_graph::File;
 use dwz_layout::behind;
 use dwz_lines::FileTable;
-use dwz_model::{NoMemory, Pair};
+use dwz_model::{NoMemory, Pair, at_or};
 use dwz_unit::{Values, known_value};
 use std::alloc::Global;
 
@@ -59,7 +59,7 @@ fn put_row(numbers: &mut Vec<u32>, paths: &Pool, file: &File, entry: u32) -> Res
         → OnOk result (numbers.new.items ≡ numbers.old.items ++ row_numbers paths.now file.now row) }
 {
     let unit = file.units.entry(entry).unit;
-    let line = line_of(file.resolved.lines.as_slice(), unit);
+    let line = at_or(file.resolved.lines.as_slice(), unit as usize, None);
     let tables = file.resolved.tables.as_slice();
     let Values { pairs, mut cursor } = file.units.values(entry);
     for pair in pairs {

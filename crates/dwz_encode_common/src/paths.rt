@@ -1,6 +1,6 @@
 //! The paths of the files that what is written of the common file numbers.
 
-ghost use Rattle.std.specs.Prelude.{◌≡◌, ◌<◌, None, Some, [], slice_get, slice_index_or, IfOk, OnOk};
+ghost use Rattle.std.specs.Prelude.{◌≡◌, ◌<◌, Some, [], slice_get, IfOk, OnOk};
 ghost use Rattle.std.specs.Option.{option_map, option_to_list};
 ghost use Rattle.dwz_def_readback.specs.Files.{paths};
 ghost use Rattle.dwz_def_reading.specs.Units.{entries_in};
@@ -9,9 +9,7 @@ ghost use Rattle.dwz_forms.specs.RawValues.{raw_view};
 ghost use Rattle.dwz_layout_numbers.specs.Befores;
 ghost use Rattle.dwz_layout_numbers.specs.Befores.{is_pair_file};
 ghost use Rattle.dwz_def_reading.specs.Meanings;
-ghost use Rattle.dwz_def_reading.specs.Classes;
 ghost use Rattle.dwz_layout.specs.Attributes.{value_read};
-ghost use Rattle.dwz_graph.specs.Classes.{class_view};
 ghost use Rattle.dwz_unit.specs.Rows.{EntryRow, rows_of, units_of};
 ghost use Rattle.dwz_encode_common.specs.CommonLaws.{IsCommonOrder};
 ghost use Rattle.dwz_encode_common.specs.Gathered.{with_all};
@@ -20,27 +18,17 @@ ghost use Rattle.dwz_encode_common.specs.Paths.{order_paths, origin_paths, path_
 ghost use Rattle.dwz_encode_common.specs.Stored.{items_give};
 
 use crate::pool::Pool;
+use dwz_codes::{Class, class_of, names_file};
 use dwz_forms::Raw;
-use dwz_graph::{Class, File, class_of};
+use dwz_graph::File;
 use dwz_layout::{EntryTable, Origin, Row, UnitItems, Walk};
 use dwz_lines::FileTable;
-use dwz_model::{NoMemory, Pair};
+use dwz_model::{NoMemory, Pair, at_or};
 use dwz_unit::{Values, known_value};
 use std::alloc::Global;
 
-const DW_AT_DECL_FILE: u16 = 0x3a;
-
-const DW_AT_CALL_FILE: u16 = 0x58;
-
-// Whether values of an attribute number files.
-fn names_file(name: u16) -> bool
-    ensures { result ≡ Classes.names_file name }
-{
-    name == DW_AT_DECL_FILE || name == DW_AT_CALL_FILE
-}
-
 fn is_constant(class: Class) -> bool
-    ensures { result ≡ Befores.is_constant (class_view class) }
+    ensures { result ≡ Befores.is_constant class }
 {
     match class {
         Class::Constant => true,
@@ -63,17 +51,6 @@ pub(crate) fn number_of(raw: &Raw) -> i128
     match raw {
         Raw::Number(number) => *number,
         Raw::Bytes(_) => 0,
-    }
-}
-
-/// The line table of the unit with a number.
-#[inline(always)]
-pub(crate) fn line_of(lines: &[Option<usize>], unit: u32) -> Option<usize>
-    ensures { result ≡ slice_index_or lines.now unit None }
-{
-    match lines.get(unit as usize) {
-        Some(line) => *line,
-        None => None,
     }
 }
 
@@ -137,7 +114,7 @@ fn put_row(pool: &mut Pool, file: &File, entry: u32) -> Result<(), NoMemory>
         → OnOk result (pool.new ≡ with_all pool.old (row_paths file.now row)) }
 {
     let unit = file.units.entry(entry).unit;
-    let line = line_of(file.resolved.lines.as_slice(), unit);
+    let line = at_or(file.resolved.lines.as_slice(), unit as usize, None);
     let tables = file.resolved.tables.as_slice();
     let Values { pairs, mut cursor } = file.units.values(entry);
     for pair in pairs {

@@ -12,7 +12,7 @@ use crate::placed::shares_in;
 use crate::pool::Pool;
 use crate::shared::place_text;
 use crate::stored::text_of;
-use crate::texts::DW_AT_NAME;
+use dwz_codes::DW_AT_NAME;
 use dwz_graph::{File, first_attr, here_of};
 use dwz_layout::{EntryTable, Row, SpaceRow, TextAt};
 use dwz_model::NoMemory;

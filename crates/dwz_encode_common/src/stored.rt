@@ -5,17 +5,14 @@ ghost use Rattle.std.specs.Option.{option_map, option_to_list};
 ghost use Rattle.dwz_def_reading.specs.Texts;
 ghost use Rattle.dwz_forms.specs.RawValues.{raw_view};
 ghost use Rattle.dwz_layout.specs.Attributes.{value_read};
-ghost use Rattle.dwz_graph.specs.Classes.{class_view};
 ghost use Rattle.dwz_graph.specs.Resolved.{sources_view};
 ghost use Rattle.dwz_def_encoding.specs.Placing;
 ghost use Rattle.dwz_encode_common.specs.Stored.{class_texts, text_or_none, text_read};
 
+use dwz_codes::{Class, DW_AT_SIBLING, class_of};
 use dwz_forms::Raw;
-use dwz_graph::{Class, InputSections, class_of, offset_of, slot, text_in};
+use dwz_graph::{InputSections, offset_of, slot, text_in};
 use dwz_model::Pair;
-
-// It is written nowhere.
-const DW_AT_SIBLING: u16 = 0x01;
 
 // The number in the slot of an index (DWARF 5, 7.26), and 0 where there is none.
 fn slot_number(offsets: &[u8], base: Option<u32>, index: u128) -> u32
@@ -47,7 +44,7 @@ fn text_of_class<'a>(
     class: Class,
     number: u128,
 ) -> Option<&'a [u8]>
-    ensures { option_to_list (option_map (λ t. t.now) result) ≡ class_texts (class_view class) (sources_view sections.now) base number }
+    ensures { option_to_list (option_map (λ t. t.now) result) ≡ class_texts class (sources_view sections.now) base number }
 {
     match class {
         Class::TextInStr => Some(text_at(sections.strs.bytes, number)),

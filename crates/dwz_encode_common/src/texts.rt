@@ -17,14 +17,13 @@ use crate::bases::bases_of_files;
 use crate::places::{Place, place_of};
 use crate::pool::Pool;
 use crate::stored::text_of;
+use dwz_codes::DW_AT_NAME;
 use dwz_forms::Raw;
 use dwz_graph::{Graph, InputSections, first_attr};
 use dwz_layout::{EntryTable, Origin, Row, UnitItems, Walk};
 use dwz_model::{NoMemory, Pair};
 use dwz_unit::{Values, known_value};
 use std::alloc::Global;
-
-pub(crate) const DW_AT_NAME: u16 = 0x03;
 
 // The text of a value is used.
 #[inline(always)]

@@ -13,14 +13,12 @@ ghost use Rattle.dwz_graph.specs.Named.{unit_refs, units_refs};
 ghost use Rattle.dwz_unit.specs.Rows.{EntryRow, rows_of, units_of};
 
 use crate::values::note_value;
+use dwz_codes::DW_AT_SIBLING;
 use dwz_expr::Operand;
 use dwz_graph::here_of;
 use dwz_model::NoMemory;
 use dwz_unit::{Units, Values, known_value};
 use std::alloc::Global;
-
-// `DW_AT_sibling` (DWARF 5, 7.5.4).
-const SIBLING: u16 = 0x01;
 
 // Notes the operands of an entry.
 fn note_entry<'a>(
@@ -42,7 +40,7 @@ fn note_entry<'a>(
     for pair in pairs {
         let raw = known_value(&mut cursor, pair);
         let end = cursor.at() as u64;
-        if pair.name != SIBLING {
+        if pair.name != DW_AT_SIBLING {
             left = note_value(first, left, unit, end, pair, &raw, operands)?;
         }
     }

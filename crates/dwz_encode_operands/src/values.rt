@@ -1,6 +1,6 @@
 //! Values of entries, and the entries that they name.
 
-ghost use Rattle.std.specs.Prelude.{◌≡◌, ℕ, ◌-◌, ◌++◌, List, Ok, drop, length, map, slice_index, IfOk};
+ghost use Rattle.std.specs.Prelude.{◌≡◌, ℕ, ◌-◌, ◌++◌, List, Ok, drop, length, map, IfOk};
 ghost use Rattle.dwz_def_reading.specs.Units.{entries_in};
 ghost use Rattle.dwz_forms.specs.RawValues.{raw_view};
 ghost use Rattle.dwz_def_reading.specs.Documents.{Value};
@@ -12,7 +12,6 @@ ghost use Rattle.dwz_encode_operands.specs.First.{first_over, first_of_two};
 ghost use Rattle.dwz_encode_operands.specs.Narrow.{number_by};
 ghost use Rattle.dwz_encode_operands.specs.Walked.{KeepsPlaces, NotesOperands};
 ghost use Rattle.dwz_def_output.specs.Refusals.{all_of_unit, operands_of_attr};
-ghost use Rattle.dwz_graph.specs.Classes.{class_view};
 ghost use Rattle.dwz_graph.specs.Named.{value_refs};
 ghost use Rattle.dwz_graph.specs.Resolved.{stored};
 ghost use Rattle.dwz_move.specs.Bound;
@@ -21,14 +20,11 @@ ghost use Rattle.dwz_def_encoding.specs.Meant.{led_to};
 ghost use Rattle.dwz_def_encoding.specs.Writing.{base_place};
 
 use crate::over::note;
+use dwz_codes::{Class, class_of};
 use dwz_expr::{Operand, read_into};
 use dwz_forms::Raw;
-use dwz_graph::{Class, class_of};
-use dwz_model::{Base, NoMemory, Pair, ReadErr};
+use dwz_model::{Base, DEBUG_INFO, NoMemory, Pair, ReadErr, at_or};
 use std::alloc::AllocError;
-
-// The section `.debug_info`.
-const INFO: u8 = 1;
 
 #[inline(always)]
 fn bytes_of<'a>(raw: &Raw<'a>) -> &'a [u8]
@@ -42,7 +38,7 @@ fn bytes_of<'a>(raw: &Raw<'a>) -> &'a [u8]
 
 #[inline(always)]
 fn is_entry(class: Class) -> bool
-    ensures { result ≡ Values.is_entry (class_view class) }
+    ensures { result ≡ Values.is_entry class }
 {
     match class {
         Class::UnitEntry => true,
@@ -54,7 +50,7 @@ fn is_entry(class: Class) -> bool
 
 #[inline(always)]
 fn is_expression(class: Class) -> bool
-    ensures { result ≡ Bound.is_expression (class_view class) }
+    ensures { result ≡ Bound.is_expression class }
 {
     match class {
         Class::Expression => true,
@@ -72,7 +68,7 @@ fn read_operands(raw: &Raw, end: u64, operands: &mut Vec<Operand>) -> Result<(),
     let bytes = bytes_of(raw);
     let at = end.saturating_sub(bytes.len() as u64);
     operands.clear();
-    match read_into(operands, bytes, at, INFO) {
+    match read_into(operands, bytes, at, DEBUG_INFO) {
         Ok(_) => Ok(()),
         Err(ReadErr::NoMemory) => Err(AllocError),
         Err(ReadErr::Refused(_)) => Ok(()),
@@ -87,16 +83,6 @@ fn number_of(base: Base, place: u64, unit: u64) -> u64
     match base {
         Base::Unit => place.saturating_sub(unit),
         Base::Info => place,
-    }
-}
-
-#[inline(always)]
-fn target_at(targets: &[u64], k: usize) -> u64
-    ensures { result ≡ slice_index targets.now k }
-{
-    match targets.get(k) {
-        Some(target) => *target,
-        None => 0,
     }
 }
 
@@ -119,7 +105,7 @@ fn noted_all(first: Option<u64>, operands: &[Operand], targets: &[u64], unit: u6
 {
     let mut so_far = first;
     for (k, operand) in operands.iter().enumerate() {
-        let number = number_of(operand.base, target_at(targets, k), unit);
+        let number = number_of(operand.base, at_or(targets, k, 0), unit);
         so_far = note(so_far, operand.at, operand.uleb, operand.width, number);
     }
     so_far

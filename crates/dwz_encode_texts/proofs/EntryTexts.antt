@@ -13,7 +13,7 @@ use Rattle.dwz_def_reading.specs.Meant.{attr_with, attrs_meaning, meaning, with_
 use Rattle.dwz_def_tops.specs.Seen.{IsPartial}
 use Rattle.dwz_def_tops.specs.Spots.{EntryName}
 use Rattle.dwz_graph.proofs.StepLemmas.{skipped, taken}
-use Rattle.dwz_def_encoding.specs.Placing.{Fit, holder_of}
+use Rattle.dwz_def_encoding.specs.Placing.{UnitForms, holder_of}
 use Rattle.dwz_layout.specs.declared.known.EntryTable.{EntryTable}
 use Rattle.dwz_layout.specs.declared.known.TextAt.{TextAt}
 use Rattle.dwz_layout.specs.Known.{text_at}
@@ -45,8 +45,8 @@ module _ (offsets : List ℕ) (base : Option ℕ) where
   own_rest : (a : RawAttr) (attrs : List RawAttr) → is_pair_placed a.pair ≡ false → own_texts offsets base (a ∷ attrs) ≡ own_texts offsets base attrs
   own_rest a attrs e = ap (λ (b : Bool). map (own_text offsets base) (cond b (a ∷ filter (λ x. is_pair_placed x.pair) attrs) (filter (λ x. is_pair_placed x.pair) attrs))) e
 
-  module _ (ft : Fit EntryName) (shared : ft.shared ≡ []) (offsets_are : ft.offsets ≡ offsets) (kind : Kind EntryName) (holder : ft.holder ≡ holder_of false kind)
-      (slots : IsPartial kind → ft.origin.slots ≡ base) (k : EntryTable) (n : ℕ) (after : ℕ → EntryName) (s : MeaningContext ℕ) where
+  module _ (ft : UnitForms EntryName) (shared : ft.shared ≡ []) (offsets_are : ft.offsets ≡ offsets) (kind : Kind EntryName) (holder : ft.holder ≡ holder_of false kind)
+      (slots : IsPartial kind → ft.origin_bases.slots ≡ base) (k : EntryTable) (n : ℕ) (after : ℕ → EntryName) (s : MeaningContext ℕ) where
     -- they stand from a number on
     abbrev pub Stand : ℕ → List RawAttr → Type 0
     Stand m attrs = (j : ℕ) (t : TextAt) → slice_get (own_texts offsets base attrs) j ≡ Some t → text_at k n (m + j) ≡ t

@@ -8,7 +8,7 @@ use Rattle.dwz_def_reading.specs.Classes.{Class, class_of, names_file}
 use Rattle.dwz_model.specs.declared.place.Pair.{Pair}
 use Rattle.dwz_def_tops.specs.Seen.{IsPartial}
 use Rattle.dwz_def_tops.specs.Spots.{EntryName}
-use Rattle.dwz_def_encoding.specs.Placing.{Chosen, Fit, NewUnit, OldUnit, UnitRole, as_slot, as_strp, as_strp_if, as_text, fit_as, has_text, holder_of, slot_number}
+use Rattle.dwz_def_encoding.specs.Placing.{Chosen, NewUnit, OldUnit, UnitForms, UnitRole, as_slot, as_strp, as_strp_if, as_text, fit_as, has_text, holder_of, slot_number}
 use Rattle.dwz_def_encoding.specs.Writing.{text_or_empty}
 use Rattle.dwz_layout.specs.declared.known.TextAt.TheVariants.{Own}
 use Rattle.dwz_layout.specs.declared.ways.Rewrite.{Rewrite}
@@ -38,7 +38,7 @@ by_name false AsExpression = refl
 text_class : (h : UnitRole) (p : Pair) (c : Class) → (p.name ≡ 0x01 → ⊥) → class_of p.form ≡ c → is_read c ≡ true → rewrite_of h p ≡ AsText → is_text (class_way h c) ≡ true
 text_class h p c other e some way = sym (by_name (names_file p.name) (class_way h c)) ∙ ap is_text (sym (way_is h p c other e some) ∙ way)
 
-module _ (ft : Fit EntryName) (shared : ft.shared ≡ []) (offsets : List ℕ) (offsets_are : ft.offsets ≡ offsets) (base : Option ℕ) where
+module _ (ft : UnitForms EntryName) (shared : ft.shared ≡ []) (offsets : List ℕ) (offsets_are : ft.offsets ≡ offsets) (base : Option ℕ) where
   abbrev strp_at : ℕ → Chosen
   strp_at n = record { form = 0x0e; raw = pos n }
 
@@ -57,18 +57,18 @@ module _ (ft : Fit EntryName) (shared : ft.shared ≡ []) (offsets : List ℕ) (
       (text_class OldUnit (plain_pair a.name a.form) c other e some (ap (λ (h : UnitRole). rewrite_of h (plain_pair a.name a.form)) (sym holder) ∙ way)))
 
   -- in a partial unit
-  in_new : (a : Attr EntryName) (c : Class) → ft.holder ≡ NewUnit → ft.origin.slots ≡ base → class_of a.form ≡ c → is_read c ≡ true → (a.name ≡ 0x01 → ⊥)
+  in_new : (a : Attr EntryName) (c : Class) → ft.holder ≡ NewUnit → ft.origin_bases.slots ≡ base → class_of a.form ≡ c → is_read c ≡ true → (a.name ≡ 0x01 → ⊥)
       → IsText ft None a (Own (str_offset c offsets base (reach a.raw)))
   in_new a OfTextInStr holder slots e some other = λ way. chosen a OfTextInStr (strp_at (reach a.raw)) e (ap (λ (h : UnitRole). as_text h ft a) holder ∙ strp a (reach a.raw))
   in_new a OfTextBySlot holder slots e some other = λ way. chosen a OfTextBySlot (strp_at (slot_number offsets base (reach a.raw))) e
       (ap (λ (h : UnitRole). as_slot h ft a) holder
-      ∙ strp a (slot_number ft.offsets ft.origin.slots (reach a.raw))
+      ∙ strp a (slot_number ft.offsets ft.origin_bases.slots (reach a.raw))
       ∙ (λ i. strp_at (slot_number (offsets_are i) (slots i) (reach a.raw))))
   in_new a c holder slots e some other = λ way. absurd (false≢true
       (text_class NewUnit (plain_pair a.name a.form) c other e some (ap (λ (h : UnitRole). rewrite_of h (plain_pair a.name a.form)) (sym holder) ∙ way)))
 
   -- in either
-  pub text_stands : (kind : Kind EntryName) → ft.holder ≡ holder_of false kind → (IsPartial kind → ft.origin.slots ≡ base) → (a : Attr EntryName) → is_read (class_of a.form) ≡ true → (a.name ≡ 0x01
+  pub text_stands : (kind : Kind EntryName) → ft.holder ≡ holder_of false kind → (IsPartial kind → ft.origin_bases.slots ≡ base) → (a : Attr EntryName) → is_read (class_of a.form) ≡ true → (a.name ≡ 0x01
       → ⊥)
       → IsText ft None a (Own (str_offset (class_of a.form) offsets base (reach a.raw)))
   text_stands Partial holder slots a some other = in_new a (class_of a.form) holder (slots tt) refl some other

@@ -19,7 +19,7 @@ use Rattle.dwz_unit.specs.Rows.{EntryRow, rows_of, units_of as raw_units}
 use Rattle.dwz_graph.specs.declared.file.File.{File}
 use Rattle.dwz_graph.specs.Index.{Index}
 use Rattle.dwz_def_encoding.specs.Bases.{Bases}
-use Rattle.dwz_def_encoding.specs.Placing.{Fit}
+use Rattle.dwz_def_encoding.specs.Placing.{UnitForms}
 use Rattle.dwz_def_readback.specs.Files.{name_after}
 use Rattle.dwz_layout_numbers.specs.Images.{starts_from}
 use Rattle.dwz_layout.specs.declared.known.FileRows.{FileRows}
@@ -36,7 +36,7 @@ use Rattle.dwz_law_layout.specs.Listed.{AreListed, TextsAt, entry_row, firsts_fr
 use Rattle.dwz_encode_texts.specs.Texts.{file_texts, row_texts, slots_base, slots_base_at, str_offset}
 use Rattle.dwz_encode_texts.specs.Files.{texts_in_file}
 use Rattle.dwz_encode_texts.specs.Names.{HaveNames, named_text, row_name}
-use Rattle.dwz_encode_texts.specs.TextLaws.{ComesFromScope, StandAsRead, file_fit}
+use Rattle.dwz_encode_texts.specs.TextLaws.{ComesFromScope, StandAsRead, unshared_forms}
 use Rattle.dwz_encode_texts.proofs.EntryTexts.{attrs_are}
 use Rattle.dwz_encode_texts.proofs.FileTexts.{has_before, has_rows, space_row}
 use Rattle.dwz_encode_texts.proofs.FormTexts.{text_stands}
@@ -54,8 +54,8 @@ stand_law f t files names = record {
 
 module _ (f : RunFacts) (t : TextsAt) (k : EntryTable) (facts : AreFacts f) (listed : AreListed f t k) (stand : StandAsRead f t)
     (n : ℕ) (bytes : List ℕ) (x : File) (index : Index) (has : HasFile f n bytes x index) (keys : List EntryName) (u : DwUnit EntryName) where
-  abbrev ft : Fit EntryName
-  ft = file_fit f n keys u
+  abbrev ft : UnitForms EntryName
+  ft = unshared_forms f n keys u
 
   abbrev raw : List RawUnit
   raw = raw_units x.units
@@ -73,7 +73,7 @@ module _ (f : RunFacts) (t : TextsAt) (k : EntryTable) (facts : AreFacts f) (lis
     base_is : slots_base around read.unit ≡ base
     base_is = ap (option_and_then (slots_base around)) (sym read.is_unit)
 
-    slots : IsPartial u.kind → ft.origin.slots ≡ base
+    slots : IsPartial u.kind → ft.origin_bases.slots ≡ base
     slots p = ap (λ (b : Bases). b.slots) (comes p) ∙ base_is
 
     pub texts_law : EachFrom (λ j a. IsText ft None a (text_at k n j)) (firsts_at k (file_read f n bytes x) i).text (texts_in (node_map (name_after (run f) n) d).attrs)

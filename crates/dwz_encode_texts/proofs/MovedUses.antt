@@ -24,7 +24,7 @@ use Rattle.dwz_graph.proofs.StepLemmas.{skipped, taken}
 use Rattle.dwz_strs.specs.Pruned.{IsPruned, Pruning, moved_in}
 use Rattle.dwz_unit.specs.Rows.{EntryRow}
 use Rattle.dwz_encode_sections.specs.Slots.{moved_or_same}
-use Rattle.dwz_def_encoding.specs.Placing.{Chosen, CommonUnit, Fit, NewUnit, OldUnit, UnitRole, fit_attr, with_form}
+use Rattle.dwz_def_encoding.specs.Placing.{Chosen, CommonUnit, NewUnit, OldUnit, UnitForms, UnitRole, fit_attr, with_form}
 use Rattle.dwz_def_encoding.specs.Pruned.{renumbered_attr}
 use Rattle.dwz_layout.specs.declared.known.EntryTable.{EntryTable}
 use Rattle.dwz_layout.specs.declared.known.TextAt.{TextAt}
@@ -124,7 +124,7 @@ behind_is h a n other some = ap (text_behind n) (way_is h a.pair (class_of a.pai
 
 -- ---- value by value
 
-module _ (uses : List ℕ) (ft : Fit EntryName) (k : EntryTable) (file : ℕ) (after : ℕ → EntryName) (s : MeaningContext ℕ) where
+module _ (uses : List ℕ) (ft : UnitForms EntryName) (k : EntryTable) (file : ℕ) (after : ℕ → EntryName) (s : MeaningContext ℕ) where
   abbrev h : UnitRole
   h = ft.holder
 
@@ -189,7 +189,7 @@ module _ (uses : List ℕ) (ft : Fit EntryName) (k : EntryTable) (file : ℕ) (a
 
 -- ---- an entry
 
-module _ (strs uses : List ℕ) (p : Pruning) (is : IsPruned strs uses p) (k moved : EntryTable) (file : ℕ) (have : HaveMoved p file k moved) (ft : Fit EntryName) where
+module _ (strs uses : List ℕ) (p : Pruning) (is : IsPruned strs uses p) (k moved : EntryTable) (file : ℕ) (have : HaveMoved p file k moved) (ft : UnitForms EntryName) where
   all_moved : (m : ℕ) (attrs : List (Attr EntryName)) → EachFrom (λ j a. IsText ft None a (text_at k file j)) m attrs → EachFrom (λ j a. IsUse uses ft a (text_at k file j)) m attrs
       → EachFrom (λ j a. IsPooled (text_at k file j) → ⊥) m attrs → EachFrom (λ j a. IsText ft (Some (new_number strs uses)) a (text_at moved file j)) m attrs
   all_moved m [] stand among_uses own = tt

@@ -1,15 +1,13 @@
 -- The texts of an entry follow from the names and forms of its values alone: what is written as it was read has no DW_FORM_strp.
-use Rattle.std.proofs.Common.{◌≡◌, ℕ, Bool, true, false, List, [], ◌∷◌, ◌++◌, map, Option, None, Ok, refl, sym, ap, ◌∙◌, cond, eqb, eqb-true}
+use Rattle.std.proofs.Common.{◌≡◌, ℕ, Bool, true, false, List, [], ◌∷◌, ◌++◌, map, Option, None, refl, sym, ap, ◌∙◌, cond, eqb, eqb-true}
 use Rattle.std.specs.List.{flat_map}
 use Rattle.std.specs.Option.{option_map_or}
 use Rattle.std.proofs.lemmas.List.Concat.{flat_map-append}
 use Rattle.dwz_def_reading.specs.Input.{Input}
-use Rattle.dwz_def_reading.specs.Reading.{◌>>=◌}
 use Rattle.dwz_def_reading.specs.Spelling.{reach}
-use Rattle.dwz_def_reading.specs.Forms.{form_rows}
-use Rattle.dwz_def_reading.specs.Entries.{RawAttr, attrs_at, in_entry, with_value}
-use Rattle.dwz_def_reading.specs.Values.{Bytes, Number, Raw, value_at}
-use Rattle.dwz_def_reading.proofs.PartLemmas.{bind_ok, same_value}
+use Rattle.dwz_def_reading.specs.Entries.{RawAttr}
+use Rattle.dwz_def_reading.specs.Values.{Bytes, Number, Raw}
+use Rattle.dwz_def_reading.proofs.AttrPairs.{read_pairs}
 use Rattle.dwz_def_reading.specs.Classes.{names_file}
 use Rattle.dwz_model.specs.declared.place.Pair.{Pair}
 use Rattle.dwz_unit.specs.Rows.{EntryRow}
@@ -113,19 +111,6 @@ attrs_are k file here next (a ∷ attrs) =
     flat_map-append out_uses (out_attr k file here next a) (out_attrs k file here (after here next a) attrs)
     ∙ (λ i. one_uses k file here.unit next a here.holder w refl i ++ attrs_are k file here (after here next a) attrs i)
     ∙ ap (λ (t : ℕ). way_uses k file next.text w ++ pairs_uses k file here.holder t (pairs attrs)) (text_after next a w)
-
--- values have the names and forms that they are read with
-read_pairs : (entry : ℕ) (some : List Pair) (at end : Input) (attrs : List RawAttr) → attrs_at form_rows entry some at ≡ Ok (attrs, end) → some ≡ pairs attrs
-unfolding attrs_at
-read_pairs entry [] at end attrs e =
-    let is : attrs ≡ [] = sym (same_value [] attrs at end (Ok ([], at)) refl e) in
-    ap pairs (sym is)
-read_pairs entry (pair ∷ some) at end attrs e =
-    let a = bind_ok (in_entry entry (value_at form_rows pair at)) (λ x. attrs_at form_rows entry some x.1 >>= with_value at.at x.1.at pair x.0) (attrs, end) e in
-    let b = bind_ok (attrs_at form_rows entry some a.0.1) (with_value at.at a.0.1.at pair a.0.0) (attrs, end) a.2 in
-    let first : RawAttr = record { at = at.at; end = a.0.1.at; pair = pair; raw = a.0.0 } in
-    let same = same_value (first ∷ b.0.0) attrs b.0.1 end (with_value at.at a.0.1.at pair a.0.0 b.0) refl b.2 in
-    ap (λ (w : List Pair). pair ∷ w) (read_pairs entry some a.0.1 b.0.1 b.0.0 b.1) ∙ ap pairs same
 
 pub row_uses : (k : EntryTable) (here : WritingContext) (r : Row) (some : List Pair) (at : Input) → HasValues k r some at
     → origin_uses k here (OfRow r) ≡ pairs_uses k r.file here.holder (firsts_of k r).text some

@@ -9,7 +9,7 @@ use Rattle.dwz_def_tops.specs.Spots.{EntryName, name_of}
 use Rattle.dwz_strs.specs.Pruned.{IsPruned, Pruning}
 use Rattle.dwz_unit.specs.Rows.{EntryRow, rows_of}
 use Rattle.dwz_encode_sections.specs.Slots.{moved_or_same}
-use Rattle.dwz_def_encoding.specs.Placing.{Fit}
+use Rattle.dwz_def_encoding.specs.Placing.{UnitForms}
 use Rattle.dwz_layout.specs.declared.known.EntryTable.{EntryTable}
 use Rattle.dwz_layout.specs.declared.known.SpaceRow.{SpaceRow}
 use Rattle.dwz_layout.specs.declared.known.TextAt.{TextAt}
@@ -34,7 +34,7 @@ abbrev pub HaveMoved : Pruning → ℕ → (k moved : EntryTable) → Type 0
 HaveMoved p file k moved = (j : ℕ) → text_at moved file j ≡ moved_text p (text_at k file j)
 
 -- where it is written anew, and stands in the file itself, it is a use
-abbrev pub IsUse : List ℕ → Fit EntryName → Attr EntryName → TextAt → Type 0
+abbrev pub IsUse : List ℕ → UnitForms EntryName → Attr EntryName → TextAt → Type 0
 IsUse uses ft a t = rewrite_of ft.holder (plain_pair a.name a.form) ≡ AsText → (offset : ℕ) → t ≡ Own offset → Contains uses offset
 
 -- a text of a unit of the common file, whose texts get no new numbers
@@ -46,14 +46,14 @@ IsPooled (Pooled offset) = Unit {0}
 -- in any other unit a text that stands where the definition of forms says, and is a use, stands where its new number says once it has moved
 abbrev pub TextMovedLaw : Type 0
 TextMovedLaw =
-    (strs uses : List ℕ) (p : Pruning) → IsPruned strs uses p → (ft : Fit EntryName) (a : Attr EntryName) (t : TextAt)
+    (strs uses : List ℕ) (p : Pruning) → IsPruned strs uses p → (ft : UnitForms EntryName) (a : Attr EntryName) (t : TextAt)
     → IsText ft None a t → IsUse uses ft a t → (IsPooled t → ⊥) → IsText ft (Some (new_number strs uses)) a (moved_text p t)
 
 -- so do the texts of an entry, of which all that is written uses these
 abbrev pub EntryMovedLaw : Type 0
 EntryMovedLaw =
     (strs uses : List ℕ) (p : Pruning) → IsPruned strs uses p → (k moved : EntryTable) (f : FileRead) → HaveMoved p f.number k moved
-    → rows_in k f.number ≡ rows_of f.raw → (here : WritingContext) (ft : Fit EntryName) → ft.holder ≡ here.holder
+    → rows_in k f.number ≡ rows_of f.raw → (here : WritingContext) (ft : UnitForms EntryName) → ft.holder ≡ here.holder
     → (i : ℕ) (r : EntryRow) (d : Node ℕ) → IsRead f i r d
     → ((n : ℕ) → In n (origin_uses k here (OfRow (row f.number i))) → Contains uses n)
     → EachFrom (λ j a. IsText ft None a (text_at k f.number j)) (firsts_at k f i).text (texts_in (node_map f.after d).attrs)
@@ -65,7 +65,7 @@ EntryMovedLaw =
 abbrev pub NameMovedLaw : Type 0
 NameMovedLaw =
     (strs uses : List ℕ) (p : Pruning) → IsPruned strs uses p → (k : EntryTable) (f : FileRead) → rows_in k f.number ≡ rows_of f.raw
-    → (ft : Fit EntryName) (space : SpaceRow) (i : ℕ) (r : EntryRow) (d : Node ℕ) (text : List ℕ) → space.row ≡ row f.number i
+    → (ft : UnitForms EntryName) (space : SpaceRow) (i : ℕ) (r : EntryRow) (d : Node ℕ) (text : List ℕ) → space.row ≡ row f.number i
     → IsRead f i r d
     → space_text d ≡ Some text → ((n : ℕ) → In n (flat_map out_uses (space_attrs k ft.holder space)) → Contains uses n)
     → IsText ft None (name_attr (name_of text d)) (text_held ft.holder space) → (IsPooled (text_held ft.holder space) → ⊥)

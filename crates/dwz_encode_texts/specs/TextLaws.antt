@@ -10,7 +10,7 @@ use Rattle.dwz_unit.specs.Rows.{EntryRow, units_of as raw_units}
 use Rattle.dwz_graph.specs.declared.file.File.{File}
 use Rattle.dwz_graph.specs.Index.{Index}
 use Rattle.dwz_def_encoding.specs.Bases.{bases_of}
-use Rattle.dwz_def_encoding.specs.Placing.{Fit, unit_fit, with_keys}
+use Rattle.dwz_def_encoding.specs.Placing.{UnitForms, unit_forms, with_keys}
 use Rattle.dwz_def_readback.specs.Files.{file_forms, name_after, origin_in}
 use Rattle.dwz_layout.specs.declared.known.EntryTable.{EntryTable}
 use Rattle.dwz_layout.specs.declared.known.TextAt.{TextAt}
@@ -37,22 +37,12 @@ abbrev pub ComesFromScope : RunFacts → DwUnit EntryName → ScopeOf ℕ → Ty
 ComesFromScope f u s = IsPartial u.kind → origin_in (move f) (units f) u.at ≡ bases_of s
 
 -- the same choice of forms in a file that shares no text
-abbrev pub unshared : Fit EntryName → Fit EntryName
-unshared ft = record {
-  same = ft.same;
-  own = ft.own;
-  file = ft.file;
-  holder = ft.holder;
-  texts = ft.texts;
-  shared = [];
-  paths = ft.paths;
-  offsets = ft.offsets;
-  origin = ft.origin;
-}
+abbrev pub unshared : UnitForms EntryName → UnitForms EntryName
+unshared ft = record ft { file = record ft.file { forms = record ft.file.forms { shared = [] } } }
 
--- how the values of a unit of the file with that number are written, where the file has these keys, and shares no text
-abbrev pub file_fit : RunFacts → ℕ → List EntryName → DwUnit EntryName → Fit EntryName
-file_fit f n keys u = unshared (unit_fit (with_keys (file_forms (run f) n) keys) u)
+-- what forms are chosen by in a unit of the file with that number, where the file has these keys, and shares no text
+abbrev pub unshared_forms : RunFacts → ℕ → List EntryName → DwUnit EntryName → UnitForms EntryName
+unshared_forms f n keys u = unshared (unit_forms (with_keys (file_forms (run f) n) keys) u)
 
 -- The texts of an entry of a file, written in a unit of it that has its values from the entry's own unit, stand where the definition of
 -- forms says.
@@ -62,7 +52,7 @@ TextsLaw =
     → (n : ℕ) (bytes : List ℕ) (x : File) (index : Index) → HasFile f n bytes x index
     → (keys : List EntryName) (u : DwUnit EntryName) (i : ℕ) (r : EntryRow) (d : Node ℕ) (read : IsRead (file_read f n bytes x) i r d)
     → ComesFromScope f u (scope_of (around_of bytes (raw_units x.units)) read.unit)
-    → EachFrom (λ j a. IsText (file_fit f n keys u) None a (text_at k n j)) (firsts_at k (file_read f n bytes x) i).text
+    → EachFrom (λ j a. IsText (unshared_forms f n keys u) None a (text_at k n j)) (firsts_at k (file_read f n bytes x) i).text
     (texts_in (node_map (name_after (run f) n) d).attrs)
 
 -- So does the name of a space, in a unit that has its values from the space's own unit.
@@ -73,4 +63,4 @@ NamesLaw =
     → (keys : List EntryName) (u : DwUnit EntryName) (space i : ℕ) (r : EntryRow) (d : Node ℕ) (text : List ℕ)
     → slice_get (space_entries 0 f.indexes) space ≡ Some (entry_row n i) → (read : IsRead (file_read f n bytes x) i r d)
     → space_text d ≡ Some text → ComesFromScope f u (scope_of (around_of bytes (raw_units x.units)) read.unit)
-    → IsText (file_fit f n keys u) None (name_attr (name_of text d)) (space_at k space).text
+    → IsText (unshared_forms f n keys u) None (name_attr (name_of text d)) (space_at k space).text

@@ -10,13 +10,12 @@ ghost use Rattle.dwz_graph.specs.Indexed.{AreIndexes};
 ghost use Rattle.dwz_encode_texts.specs.Names.{HaveNames, named_text, names_of_spaces};
 
 use crate::texts::{own_text, slot_bases};
+use dwz_codes::DW_AT_NAME;
 use dwz_graph::{File, Graph, Index, SpaceEntry, first_attr};
 use dwz_layout::TextAt;
 use dwz_model::NoMemory;
 use dwz_unit::Units;
 use std::alloc::Global;
-
-const DW_AT_NAME: u16 = 0x03;
 
 // Where the name of an entry stands.
 fn name_of(units: &Units, offsets: &[u8], base: Option<u32>, entry: u32) -> TextAt

@@ -9,7 +9,6 @@ ghost use Rattle.dwz_def_reading.specs.Meanings.{Around, number_of};
 ghost use Rattle.dwz_def_reading.specs.Classes.{OfTextInStr};
 ghost use Rattle.dwz_def_reading.specs.Classes.{class_of};
 ghost use Rattle.dwz_unit.specs.Rows.{EntryRow, rows_of, units_of};
-ghost use Rattle.dwz_graph.specs.Classes.{class_view};
 ghost use Rattle.dwz_graph.specs.Resolved.{around};
 ghost use Rattle.dwz_def_encoding.specs.Placing;
 ghost use Rattle.dwz_layout.specs.declared.known.TextAt.TheVariants.{Own};
@@ -17,8 +16,9 @@ ghost use Rattle.dwz_layout_numbers.specs.Befores.{is_pair_placed};
 ghost use Rattle.dwz_encode_texts.specs.Texts;
 ghost use Rattle.dwz_encode_texts.specs.Texts.{file_texts, own_texts, slots_base};
 
+use dwz_codes::{Class, DW_AT_SIBLING, class_of};
 use dwz_forms::Raw;
-use dwz_graph::{Class, InputSections, class_of, here_of, offset_of, slot};
+use dwz_graph::{InputSections, here_of, offset_of, slot};
 use dwz_layout::TextAt;
 use dwz_model::{NoMemory, Pair};
 use dwz_unit::{Units, Values, known_value};
@@ -40,8 +40,8 @@ fn slot_number(offsets: &[u8], base: Option<u32>, index: u128) -> u32
 // The offset in `.debug_str` of the text of a value of that class, and 0 of one in another section. A number of `DW_FORM_strp` has four
 // bytes.
 fn str_offset(class: Class, offsets: &[u8], base: Option<u32>, number: u128) -> u32
-    requires { class_view class ≡ OfTextInStr → number < 2 ^ 32 }
-    ensures { result ≡ Texts.str_offset (class_view class) offsets.now base number }
+    requires { class ≡ OfTextInStr → number < 2 ^ 32 }
+    ensures { result ≡ Texts.str_offset class offsets.now base number }
 {
     match class {
         Class::TextInStr => number as u32,
@@ -58,9 +58,6 @@ pub(crate) fn own_text(offsets: &[u8], base: Option<u32>, pair: &Pair, raw: &Raw
 {
     TextAt::Own(str_offset(class_of(pair.form), offsets, base, offset_of(raw)))
 }
-
-// It is written nowhere, so its values have no places after.
-const DW_AT_SIBLING: u16 = 0x01;
 
 // Whether a value of that name and form is a text that is stored by an offset or by a slot.
 #[inline(always)]

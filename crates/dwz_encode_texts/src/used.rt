@@ -9,6 +9,7 @@ ghost use Rattle.dwz_layout.specs.Ways.{holder_view};
 ghost use Rattle.dwz_encode_texts.specs.Used.{items_uses, order_uses, origin_uses, out_uses};
 ghost use Rattle.dwz_encode_texts.specs.Steps.{text_behind, text_uses, way_uses};
 
+use dwz_codes::DW_AT_NAME;
 use dwz_layout::{
     EntryTable, Origin, Rewrite, Row, SpaceRow, TextAt, UnitItems, UnitRole, Walk, WritingContext,
     behind, here_of, more, way_of,
@@ -16,9 +17,6 @@ use dwz_layout::{
 use dwz_model::{NoMemory, Pair};
 use dwz_unit::Values;
 use std::alloc::Global;
-
-// `DW_AT_name`.
-const NAME: u16 = 0x03;
 
 // Appends the offset of a text that stands in the file of the unit itself.
 #[inline(always)]
@@ -94,7 +92,7 @@ fn put_name(
         return Ok(());
     };
     for pair in pairs {
-        if pair.name == NAME {
+        if pair.name == DW_AT_NAME {
             return match way_of(holder, pair) {
                 Rewrite::AsText => put_text(uses, space.text_in(holder)),
                 _ => Ok(()),

@@ -1,3 +1,4 @@
+pub mod FormLemmas
 pub mod ReadingLemmas
 pub mod NumberLemmas
 pub mod RawLemmas

@@ -1,3 +1,4 @@
+pub mod FormSets
 pub mod RawValues
 pub mod Numbers
 pub mod Sizes

@@ -8,12 +8,14 @@ ghost use Rattle.dwz_codes.specs.Forms.{form_rows};
 ghost use Rattle.dwz_def_reading.specs.Parts.{Leaves};
 ghost use Rattle.dwz_def_reading.specs.Texts.{text_in, zero_ended_at};
 ghost use Rattle.dwz_def_reading.specs.Values;
-ghost use Rattle.dwz_def_reading.specs.Values.{HasSpelling};
+ghost use Rattle.dwz_def_reading.specs.Values.{HasSpelling, written_rows};
+ghost use Rattle.dwz_forms.specs.FormSets.{rows_of};
 ghost use Rattle.dwz_forms.specs.RawValues.{raw_view};
 
+use crate::form_set::{FormSet, shape_among};
 use crate::raw::Raw;
 use dwz_bytes::{ByteErr, Cursor};
-use dwz_codes::{DW_FORM_IMPLICIT_CONST, Shape, form_shape};
+use dwz_codes::{DW_FORM_IMPLICIT_CONST, Shape};
 use dwz_model::{DEBUG_INFO, Fault, Pair, Reason};
 use memchr::memchr;
 
@@ -131,18 +133,42 @@ fn value_by_shape<'a>(cursor: &mut Cursor<'a>, shape: Shape, pair: &Pair) -> Res
     }
 }
 
-/// The value of the pair's form at the cursor, which stands in `.debug_info` and whose bytes end where the unit does.
+/// The value of the pair's form at the cursor, which stands in `.debug_info` and whose bytes end where the unit does, if the form is
+/// one of the set.
 ///
-/// A form that isn't read (`UnsupportedForm`), a value that the bytes end in (`Truncated`) and a LEB128 number that is too
-/// wide (`BadNumber`) are faults at the value's place, and leave the cursor there.
+/// A form that isn't (`UnsupportedForm`), a value that the bytes end in (`Truncated`) and a LEB128 number that is too wide
+/// (`BadNumber`) are faults at the value's place, and leave the cursor there.
+#[inline(always)]
+pub fn read_value_among<'a>(
+    cursor: &mut Cursor<'a>,
+    pair: &Pair,
+    forms: FormSet,
+) -> Result<Raw<'a>, Fault>
+    ensures value { Gives raw_view cursor.old cursor.new result (Values.value_at (rows_of forms) pair.now cursor.old) }
+    ensures writable { IfOk result (λ raw. HasSpelling pair.now.form (raw_view raw)) }
+{
+    let bytes = cursor.bytes();
+    let mut ahead = Cursor::new(bytes, cursor.at());
+    let raw = value_by_shape(&mut ahead, shape_among(forms, pair.form), pair)?;
+    *cursor = ahead;
+    Ok(raw)
+}
+
+/// The value of the pair's form at the cursor, as by `read_value_among`, of the forms of a file by itself.
 #[inline(always)]
 pub fn read_value<'a>(cursor: &mut Cursor<'a>, pair: &Pair) -> Result<Raw<'a>, Fault>
     ensures value { Gives raw_view cursor.old cursor.new result (Values.value_at form_rows pair.now cursor.old) }
     ensures writable { IfOk result (λ raw. HasSpelling pair.now.form (raw_view raw)) }
 {
-    let bytes = cursor.bytes();
-    let mut ahead = Cursor::new(bytes, cursor.at());
-    let raw = value_by_shape(&mut ahead, form_shape(pair.form), pair)?;
-    *cursor = ahead;
-    Ok(raw)
+    read_value_among(cursor, pair, FormSet::Own)
+}
+
+/// The value of the pair's form at the cursor, as by `read_value`; and a place or a text in a supplementary file
+/// (`DW_FORM_ref_sup4`, `DW_FORM_strp_sup`; DWARF 5, 7.3.6) is read as the number that it is.
+#[inline(always)]
+pub fn read_value_sup<'a>(cursor: &mut Cursor<'a>, pair: &Pair) -> Result<Raw<'a>, Fault>
+    ensures value { Gives raw_view cursor.old cursor.new result (Values.value_at written_rows pair.now cursor.old) }
+    ensures writable { IfOk result (λ raw. HasSpelling pair.now.form (raw_view raw)) }
+{
+    read_value_among(cursor, pair, FormSet::Beside)
 }

@@ -8,9 +8,9 @@ ghost use Rattle.dwz_forms.specs.Numbers.{FitsNumber};
 ghost use Rattle.dwz_forms.specs.RawValues.{raw_view};
 ghost use Rattle.dwz_forms.specs.Sizes.{number_len, run_len};
 
+use crate::form_set::written_shape;
 use crate::numbers::{put_fixed, sleb_len, to_signed, to_unsigned, uleb_len};
 use crate::raw::Raw;
-use crate::shapes::written_shape;
 use dwz_bytes::{put_sleb, put_uleb};
 use dwz_codes::Shape;
 use dwz_model::NoMemory;
@@ -54,7 +54,7 @@ pub fn size_of_value(form: u16, raw: &Raw) -> u64
     requires { HasSpelling form (raw_view raw.now) }
     ensures { result ≡ length (value_bytes form (raw_view raw.now)) }
 {
-    let shape = written_shape(form);
+    let shape = written_shape(form as u64);
     match *raw {
         Raw::Number(number) => number_size(shape, number),
         Raw::Bytes(content) => run_size(shape, content),
@@ -154,7 +154,7 @@ pub fn write_value(form: u16, raw: &Raw, out: &mut Vec<u8>) -> Result<(), NoMemo
     ensures ok { OnOk result (out.new.items ≡ out.old.items ++ value_bytes form (raw_view raw.now)) }
     ensures err { OnErr result (out.new.items ≡ out.old.items) }
 {
-    let shape = written_shape(form);
+    let shape = written_shape(form as u64);
     match *raw {
         Raw::Number(number) => put_number(out, shape, number),
         Raw::Bytes(content) => put_run(out, shape, content),

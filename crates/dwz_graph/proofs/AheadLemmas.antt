@@ -25,6 +25,7 @@ read_behind l m number bytes f enough r = record {
   info = r.info;
   sections = r.sections;
   aranges = r.aranges;
+  given = r.given;
 }
 
 -- ---- places

@@ -14,7 +14,7 @@ use Rattle.dwz_def_reading.specs.Meanings.{Around, MeanEntries, MeanUnits, scope
 use Rattle.dwz_def_reading.proofs.FileLemmas.{file_agrees}
 use Rattle.dwz_def_tops.specs.Spaces.{space_text, tops_under}
 use Rattle.dwz_def_tops.proofs.SpaceLemmas.{text_map}
-use Rattle.dwz_def_tops.specs.Spots.{EntryName, FileUnit, SpaceName, Top, in_file, name_by, name_of, row_below, row_in, row_tops, top_count, tops_from}
+use Rattle.dwz_def_tops.specs.Spots.{EntryName, FileUnit, SpaceName, Top, in_file, name_by, name_of, number_tops, row_below, row_in, row_tops, top_count, tops_from}
 use Rattle.dwz_def_tops.proofs.NameLists.{count_map}
 use Rattle.dwz_unit.specs.Rows.{EntryRow, rows_below, rows_from, rows_in, rows_of}
 use Rattle.dwz_unit.proofs.RowLemmas.{shown-length}
@@ -70,13 +70,13 @@ module _ (file unit : ℕ) (tongue : Option ℤ) where
       → row_tops (row_in file unit tongue spaces n (Entry e c m)) ≡ record { file = file; unit = unit; language = tongue; spaces = spaces; number = n; node = e; below = c }
       ∷ row_tops (row_in file unit tongue spaces (suc n) m)
   unfolding row_in row_tops
-  tops_first spaces n e c m h = rw (h, row_in, row_tops) refl
+  tops_first spaces n e c m h = rw (h, number_tops, row_tops) refl
 
   tops_inside : (spaces : List SpaceName) (n : ℕ) (e : Node EntryName) (c m : Entries EntryName) (text : List ℕ) → space_text e ≡ Some text
       → row_tops (row_in file unit tongue spaces n (Entry e c m)) ≡ row_tops (row_in file unit tongue (spaces ++ name_of text e ∷ []) n c)
       ++ row_tops (row_in file unit tongue spaces (n + tops_under c) m)
   unfolding row_in row_tops
-  tops_inside spaces n e c m text h = rw (h, row_in, row_tops) refl
+  tops_inside spaces n e c m text h = rw (h, number_tops, row_tops) refl
 
 module _ (raw : List RawUnit) (around : Around ℕ) (origin : Starts) (all : List SpaceEntry) (u : RawUnit) (local : ℕ) (is_unit : slice_get raw local ≡ Some u) (file unit : ℕ)
     (counted : unit ≡ origin.unit + local) (tongue : Option ℤ) (name : ℕ → EntryName) where

@@ -36,7 +36,10 @@ use Rattle.dwz_def_reading.proofs.MeaningLemmas.{value_agrees}
 use Rattle.dwz_def_reading.proofs.StandLemmas.{within_stands}
 use Rattle.dwz_graph.specs.Named.{Found, and_then, attr_named, collect, entry_named, found_in, joined, kind_named, map_ok, nothing_found, preorder, unit_named, units_named, value_refs}
 use Rattle.dwz_graph.proofs.NamedLemmas.{collect_append}
+use Rattle.dwz_unit.specs.Modes.{mode_of}
 use Rattle.dwz_unit.specs.Rows.{Source, or_none, units_of}
+use Rattle.dwz_unit.specs.declared.mode.FileKind.{FileKind}
+use Rattle.dwz_graph.specs.Given.{AreGiven}
 
 -- ---- values that have a byte
 
@@ -307,6 +310,8 @@ read_few abbrevs room around info (Err f) e = few_none (length info)
 read_few abbrevs room around info (Ok raw) e = units_few abbrevs room around raw 0 0 info (units_found abbrevs (given room) 0 (input info 0) raw e)
 
 -- what the units of a section name
-pub refs_few : (source : Source) (around : Around ℕ) (f : Found) → units_named around (units_of source) ≡ Ok f → length f.refs ≤ length source.info
+pub refs_few : (source : Source) → AreGiven source → (around : Around ℕ) (f : Found) → units_named around (units_of source) ≡ Ok f → length f.refs ≤ length source.info
 unfolding units_of
-refs_few source around f is = read_few source.abbrevs source.room around source.info (units_at source.abbrevs (given source.room) 0 (input source.info 0)) refl f is
+refs_few source alone around =
+    subst (λ (k : FileKind). Few (units_named around (or_none (units_at source.abbrevs (mode_of k source.room) 0 (input source.info 0)))) (length source.info)) (sym alone)
+    (read_few source.abbrevs source.room around source.info (units_at source.abbrevs (given source.room) 0 (input source.info 0)) refl)

@@ -9,6 +9,7 @@ use Rattle.dwz_def_reading.specs.Files.{Limits, around_of, file_meaning, files_m
 use Rattle.dwz_def_reading.specs.Meanings.{Around}
 use Rattle.dwz_def_reading.specs.Meant.{units_meaning}
 use Rattle.dwz_graph.specs.declared.file.File.{File}
+use Rattle.dwz_graph.specs.Given.{AreGiven}
 use Rattle.dwz_graph.specs.Files.{AreKept, AreRead, docs_of, or_none}
 use Rattle.dwz_graph.proofs.GraphLemmas.{step}
 use Rattle.dwz_unit.specs.Rows.{units_of}
@@ -28,7 +29,7 @@ use Rattle.dwz_graph.specs.Indexed.{AreIndexed, AreIndexes, IsIndexOf, first_sta
 
 abbrev pub AreDocs : Limits → List (List ℕ) → List File → List (Doc ℕ) → Type 0
 AreDocs l [] [] [] = Unit {0}
-AreDocs l (bytes ∷ contents) (f ∷ files) (doc ∷ docs) = (file_meaning l bytes ≡ Ok (units_of f.units, doc)) × AreDocs (limits_after l bytes (units_of f.units)) contents files docs
+AreDocs l (bytes ∷ contents) (f ∷ files) (doc ∷ docs) = (file_meaning l bytes ≡ Ok (units_of f.units, doc)) × AreGiven f.units × AreDocs (limits_after l bytes (units_of f.units)) contents files docs
 AreDocs l _ _ _ = ⊥
 
 record HasDocs (l : Limits) (contents : List (List ℕ)) (files : List File) : Type 0 where
@@ -41,14 +42,14 @@ docs_there l n [] (f ∷ files) end h = absurd h
 docs_there l n (b ∷ contents) [] end h = absurd h
 docs_there l n (b ∷ contents) (f ∷ files) end h =
     let r = docs_there (limits_after l b (units_of f.units)) (suc n) contents files end h.1 in
-    record { docs = h.0.doc ∷ r.docs; are = (h.0.means, r.are) }
+    record { docs = h.0.doc ∷ r.docs; are = (h.0.means, h.0.given, r.are) }
 
 all_docs : (l : Limits) (n : ℕ) (contents : List (List ℕ)) (files : List File) (docs : List (Doc ℕ)) → AreDocs l contents files docs → files_meaning l n contents ≡ Ok docs
 unfolding files_meaning
 all_docs l n [] [] [] h = refl
 all_docs l n (b ∷ contents) (f ∷ files) (doc ∷ docs) h =
     step l n b (units_of f.units) doc contents h.0
-    ∙ ap (λ (r : Result (List (Doc ℕ)) Refusal). r >>= with_doc doc) (all_docs (limits_after l b (units_of f.units)) (suc n) contents files docs h.1)
+    ∙ ap (λ (r : Result (List (Doc ℕ)) Refusal). r >>= with_doc doc) (all_docs (limits_after l b (units_of f.units)) (suc n) contents files docs h.2)
 all_docs l n [] [] (doc ∷ docs) h = absurd h
 all_docs l n [] (f ∷ files) docs h = absurd h
 all_docs l n (b ∷ contents) [] docs h = absurd h
@@ -107,12 +108,13 @@ record NextFile (l : Limits) (rest : List (List ℕ)) (f : File) (others : List 
   docs : List (Doc ℕ)
   left_are : left ≡ doc ∷ docs
   means : file_meaning l bytes ≡ Ok (units_of f.units, doc)
+  given : AreGiven f.units
   are : AreDocs (limits_after l bytes (units_of f.units)) contents others docs
 
 next_file : (l : Limits) (rest : List (List ℕ)) (f : File) (others : List File) (left : List (Doc ℕ)) → AreDocs l rest (f ∷ others) left → NextFile l rest f others left
 next_file l [] f others left h = absurd h
 next_file l (b ∷ contents) f others [] h = absurd h
-next_file l (b ∷ contents) f others (doc ∷ docs) h = record { bytes = b; contents = contents; doc = doc; docs = docs; left_are = refl; means = h.0; are = h.1 }
+next_file l (b ∷ contents) f others (doc ∷ docs) h = record { bytes = b; contents = contents; doc = doc; docs = docs; left_are = refl; means = h.0; given = h.1; are = h.2 }
 
 room_of : (s : Starts) (l : Limits) (bytes : List ℕ) (raw : List RawUnit) (doc : Doc ℕ) → Fits s l → file_meaning l bytes ≡ Ok (raw, doc) → HasRoom s (entries_in raw)
 room_of s l bytes raw doc fits means =
@@ -134,7 +136,7 @@ has_room contents files i s xs f g lt is = let n = here contents files i s xs f 
 
 pub goes_on : (contents : List (List ℕ)) (files : List File) (i : ℕ) (s next : Starts) (xs new : List Index) (f : File) (x : Index) → Going contents files i s xs → i < length files
     → f ≡ get_or files i f
-    → ((around : Around ℕ) (said : List (DwUnit ℕ)) → units_meaning around (units_of f.units) ≡ Ok said → IsIndex (names_from s.unit s.top said) x)
+    → (AreGiven f.units → (around : Around ℕ) (said : List (DwUnit ℕ)) → units_meaning around (units_of f.units) ≡ Ok said → IsIndex (names_from s.unit s.top said) x)
     → ((around : Around ℕ) (said : List (DwUnit ℕ)) → units_meaning around (units_of f.units) ≡ Ok said → HasTops s said x)
     → IsFew x (entries_in (units_of f.units)) → next ≡ next_starts x (length (units_of f.units)) → new ≡ xs ++ x ∷ [] → Going contents files (i + 1) next new
 goes_on contents files i s next xs new f x g lt is names tops few after put =
@@ -143,7 +145,7 @@ goes_on contents files i s next xs new f x g lt is names tops few after put =
     let l = g.limits in
     let means = means_units l n.bytes raw n.doc n.means in
     let has = tops (around_of n.bytes raw) n.doc.units means in
-    let indexed : IsIndexOf s n.doc x = record { names = names (around_of n.bytes raw) n.doc.units means; tops = has } in
+    let indexed : IsIndexOf s n.doc x = record { names = names n.given (around_of n.bytes raw) n.doc.units means; tops = has } in
     let units : length raw ≡ length n.doc.units = many_units l n.bytes raw n.doc n.means in
     let count : length x.tops ≡ tops_among n.doc.units = ap (λ (w : List TopEntry). length w) has.tops_are ∙ many s 0 n.doc.units in
     let from = has.starts_are in

@@ -33,6 +33,7 @@ pub mod GraphLemmas
 mod RoomLemmas
 pub mod TreeLemmas
 pub mod StepLemmas
+pub mod MapKeys
 pub mod NameLemmas
 pub mod TopThere
 pub mod PartLemmas

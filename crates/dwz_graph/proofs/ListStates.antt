@@ -1,6 +1,7 @@
 -- A list that is kept, as one that is named.
 use Rattle.std.proofs.Common.{◌≡◌, ℕ, ◌+◌, ◌-◌, ◌<◌, ◌≤◌, ◌^◌, cond, List, [], ◌∷◌, ◌++◌, length, map, take, drop, Option, Some, None, Ok, nat_eq, refl, sym, ap, subst, ◌∙◌, inl, inr, arith}
-use Rattle.std.specs.HashMap.{get}
+use Rattle.std.specs.BTreeMap.{get}
+use Rattle.std.specs.Ordering.{nat_cmp}
 use Rattle.std.proofs.lemmas.Bool.{cases_Bool, cond-false, cond-true, eqb-true}
 use Rattle.std.proofs.lemmas.List.{drop-append-le, length-append, length-drop, take-append-le, take_all}
 use Rattle.std.proofs.Math.Seq.{drop-append_seam}
@@ -257,13 +258,13 @@ module _ (raw : List RawUnit) (s : MeaningContext ℕ) (n : ℕ) (named : List N
         keeps = record {
           shows = shows_again raw st.file named l m st.lists one.1 at.unit at.from refl refl k.shows;
           tables = k.tables;
-          seen = seen_again s n named m (get nat_eq st.lists.seen) k.seen;
+          seen = seen_again s n named m (get nat_cmp st.lists.seen) k.seen;
         };
       }
 
   pub state_more : (place : ℕ) (list : LocList) (old new : State) → list_read s place ≡ Ok list → new.file ≡ old.file → new.refs.items ≡ old.refs.items → new.files ≡ old.files
       → IsAdded raw old.file (named_list s None place list) old.lists new.lists
-      → ((q : ℕ) → get nat_eq new.lists.seen q ≡ cond (nat_eq place q) (Some n) (get nat_eq old.lists.seen q)) → IsState raw s n named old → HasList raw s n None place named old new
+      → ((q : ℕ) → get nat_cmp new.lists.seen q ≡ cond (nat_eq place q) (Some n) (get nat_cmp old.lists.seen q)) → IsState raw s n named old → HasList raw s n None place named old new
   state_more place list old new read file refs files added updates k =
       let m = named_list s None place list in
       record {
@@ -273,7 +274,7 @@ module _ (raw : List RawUnit) (s : MeaningContext ℕ) (n : ℕ) (named : List N
         keeps = record {
           shows = subst (λ (f : ℕ). Shows raw f (named ++ m ∷ []) new.lists) (sym file) (shows_more raw old.file named m old.lists new.lists added k.shows);
           tables = subst (λ (f : Files). KnowTables s.around.sources f) (sym files) k.tables;
-          seen = seen_more s n place named m (get nat_eq old.lists.seen) (get nat_eq new.lists.seen) (record { unit = refl; from = refl; read = read }) updates k.seen;
+          seen = seen_more s n place named m (get nat_cmp old.lists.seen) (get nat_cmp new.lists.seen) (record { unit = refl; from = refl; read = read }) updates k.seen;
         };
       }
 
@@ -291,6 +292,6 @@ module _ (raw : List RawUnit) (s : MeaningContext ℕ) (n : ℕ) (named : List N
           shows = subst (λ (f : ℕ). Shows raw f (named ++ m ∷ []) new.lists) (sym file)
               (shows_slot raw mid.file named l m p mid.lists new.lists refl refl refl refl refl rows operands slots h.keeps.shows);
           tables = subst (λ (f : Files). KnowTables s.around.sources f) (sym files) h.keeps.tables;
-          seen = subst (λ (x : _). WereSeen s n (named ++ m ∷ []) (get nat_eq x)) (sym seen) (seen_slot s n named l m (get nat_eq mid.lists.seen) refl refl refl h.keeps.seen);
+          seen = subst (λ (x : _). WereSeen s n (named ++ m ∷ []) (get nat_cmp x)) (sym seen) (seen_slot s n named l m (get nat_cmp mid.lists.seen) refl refl refl h.keeps.seen);
         };
       }

@@ -7,13 +7,14 @@ use Rattle.std.proofs.lemmas.Option.{get_or_from_slice_get, slice_get-map}
 use Rattle.std.proofs.lemmas.List.{append-nil, get_or-drop, get_or-take, length-append, length-drop, length-map, length-take, map-append, take_all}
 use Rattle.dwz_model.specs.declared.fault.Fault.{Fault}
 use Rattle.dwz_def_reading.specs.Input.{input}
-use Rattle.dwz_def_reading.specs.Entries.{Mode, RawEntry, SpellsFront, UnitContext, given, root_position}
+use Rattle.dwz_def_reading.specs.Entries.{Mode, RawEntry, SpellsFront, UnitContext, root_position}
 use Rattle.dwz_def_reading.specs.Meanings.{all_places, has, places_in, places_of}
 use Rattle.dwz_def_reading.specs.Trees.{End, Entry, Forest, IfChildren, Position, SpellsForest, behind, first_below}
 use Rattle.dwz_def_reading.specs.Units.{CompileUnit, PartialUnit, RawKind, RawUnit, SpellsUnit, SpellsUnits, TypeUnit, entries_in, entry_count, header_size, units_at}
 use Rattle.dwz_def_reading.proofs.EntryLemmas.{some_front}
 use Rattle.dwz_def_reading.proofs.UnitListLemmas.{units_found}
 use Rattle.dwz_unit.specs.declared.rows.RawEntry.{RawEntry as EntryOfCode}
+use Rattle.dwz_unit.specs.Modes.{mode_of}
 use Rattle.dwz_unit.specs.Rows.{EntryRow, Source, or_none, rows_below, rows_from, rows_in, rows_of, shown_entries, units_of}
 use Rattle.dwz_graph.proofs.RowLemmas.{entry_row, rows-length}
 use Rattle.dwz_graph.proofs.SearchLemmas.{Rise, has_none, has_there}
@@ -165,11 +166,11 @@ places_are raw = from_places raw 0 0
 
 -- ---- the places of units that are read
 
-read_ascend : (abbrevs : List ℕ) (room : ℕ) (info : List ℕ) (r : Result (List RawUnit) Fault) → units_at abbrevs (given room) 0 (input info 0) ≡ r → Ascend 0 (all_places (or_none r)) (length info)
+read_ascend : (abbrevs : List ℕ) (mode : Mode) (info : List ℕ) (r : Result (List RawUnit) Fault) → units_at abbrevs mode 0 (input info 0) ≡ r → Ascend 0 (all_places (or_none r)) (length info)
 unfolding all_places
-read_ascend abbrevs room info (Err f) e = omega arith
-read_ascend abbrevs room info (Ok raw) e =
-    let up = units_ascend abbrevs (given room) raw 0 0 info (units_found abbrevs (given room) 0 (input info 0) raw e) in
+read_ascend abbrevs mode info (Err f) e = omega arith
+read_ascend abbrevs mode info (Ok raw) e =
+    let up = units_ascend abbrevs mode raw 0 0 info (units_found abbrevs mode 0 (input info 0) raw e) in
     let same : 0 + length info ≡ length info = omega arith in
     subst (λ (n : ℕ). Ascend 0 (all_places raw) n) same up
 
@@ -178,7 +179,7 @@ unfolding units_of
 places_rise s i j l m =
     let raw = units_of s in
     let up : Ascend 0 (places raw) (length s.info) = subst (λ (ps : List ℕ). Ascend 0 ps (length s.info)) (sym (places_are raw))
-    (read_ascend s.abbrevs s.room s.info (units_at s.abbrevs (given s.room) 0 (input s.info 0)) refl) in
+    (read_ascend s.abbrevs (mode_of s.kind s.room) s.info (units_at s.abbrevs (mode_of s.kind s.room) 0 (input s.info 0)) refl) in
     ascend_at (places raw) 0 (length s.info) i j up l m
 
 -- ---- what is found by a number

@@ -1,6 +1,7 @@
 -- What is known of the state, as it changes.
-use Rattle.std.proofs.Common.{◌≡◌, ℕ, ◌+◌, List, [], None, Some, nat_eq, slice_get, subst, sym, ◌∙◌, arith}
-use Rattle.std.specs.HashMap.{get}
+use Rattle.std.proofs.Common.{◌≡◌, ℕ, ◌+◌, List, [], None, Some, slice_get, subst, sym, ◌∙◌, arith}
+use Rattle.std.specs.BTreeMap.{get}
+use Rattle.std.specs.Ordering.{nat_cmp}
 use Rattle.dwz_def_reading.specs.Lists.{In}
 use Rattle.dwz_def_reading.specs.Units.{RawUnit}
 use Rattle.dwz_def_reading.specs.Meanings.{Around, MeaningContext, scope_of}
@@ -35,7 +36,7 @@ pub unit_ends : (raw : List RawUnit) (around : Around ℕ) (u : RawUnit) (n : �
 unit_ends raw around u n named st is k = record { shows = k.shows; tables = k.tables; seen = λ place number e. (let le = (k.seen place number e).0 in omega arith) }
 
 pub none_behind : (raw : List RawUnit) (around : Around ℕ) (st : State) → st.lists.rows.items ≡ [] → st.lists.operands.items ≡ [] → st.lists.slots.items ≡ []
-    → ((place : ℕ) → get nat_eq st.lists.seen place ≡ None) → KnowTables around.sources st.files → IsBehind raw around 0 [] st
+    → ((place : ℕ) → get nat_cmp st.lists.seen place ≡ None) → KnowTables around.sources st.files → IsBehind raw around 0 [] st
 none_behind raw around st rows operands slots seen tables =
     let no_row : (w : ListRow) → In w st.lists.rows.items → ⊥ = λ w is. subst (λ (xs : List ListRow). In w xs) rows is in
     let no_operand : (o : ListOperand) → In o st.lists.operands.items → ⊥ = λ o is. subst (λ (xs : List ListOperand). In o xs) operands is in

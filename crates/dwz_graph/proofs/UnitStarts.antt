@@ -1,4 +1,4 @@
--- Units begin at rising places, and none that is read is partial.
+-- Units begin at rising places, and none of a file by itself is partial.
 use Rattle.std.proofs.Common.{◌≡◌, ℕ, ◌+◌, ◌≤◌, Bool, true, false, List, [], ◌∷◌, ◌++◌, length, map, get_or, Some, Result, Ok, Err, slice_get, refl, sym, ap, subst, ◌∙◌, inl, inr, arith}
 use Rattle.std.specs.Prelude.{◌==◌}
 use Rattle.std.specs.Option.{option_map}
@@ -7,13 +7,16 @@ use Rattle.std.proofs.lemmas.List.{length-append, length-map}
 use Rattle.std.proofs.lemmas.Option.{get_or_from_slice_get, slice_get-map}
 use Rattle.dwz_model.specs.declared.fault.Fault.{Fault}
 use Rattle.dwz_def_reading.specs.Input.{input}
-use Rattle.dwz_def_reading.specs.Entries.{given}
+use Rattle.dwz_def_reading.specs.Entries.{Mode, given}
 use Rattle.dwz_def_reading.specs.Units.{RawKind, RawUnit, SpellsHeader, SpellsUnits, is_read, kind_by, unit_type, units_at}
 use Rattle.dwz_def_reading.proofs.UnitListLemmas.{units_found}
 use Rattle.dwz_def_reading.proofs.HeaderLemmas.{header_some}
 use Rattle.dwz_def_reading.specs.Files.{place_if_whole, unit_places}
 use Rattle.dwz_unit.specs.declared.rows.RawUnit.{RawUnit as UnitOfCode}
+use Rattle.dwz_unit.specs.Modes.{mode_of}
 use Rattle.dwz_unit.specs.Rows.{Source, or_none, shown_units, units_of}
+use Rattle.dwz_unit.specs.declared.mode.FileKind.{FileKind}
+use Rattle.dwz_graph.specs.Given.{AreGiven}
 use Rattle.dwz_graph.specs.ListRows.{AreDistinct}
 use Rattle.dwz_graph.proofs.PlaceLemmas.{Ascend, ascend_at}
 use Rattle.dwz_graph.proofs.RowLemmas.{unit_there}
@@ -43,7 +46,8 @@ module _ (abbrevs : List ℕ) (room : ℕ) where
   places_whole (u ∷ raw) before start bytes is =
       (λ i. whole_place u.kind room _ u.table_offset u.at is.first.header is.first.is_header i ++ places_whole raw _ _ is.second_bytes is.second i)
 
-  starts_ascend : (raw : List RawUnit) (before start : ℕ) (bytes : List ℕ) → SpellsUnits abbrevs (given room) before raw start bytes → Ascend start (starts raw) (start + length bytes)
+module _ (abbrevs : List ℕ) (mode : Mode) where
+  starts_ascend : (raw : List RawUnit) (before start : ℕ) (bytes : List ℕ) → SpellsUnits abbrevs mode before raw start bytes → Ascend start (starts raw) (start + length bytes)
   starts_ascend [] before start bytes is = omega arith
   starts_ascend (u ∷ raw) before start bytes is =
       let a = is.first_bytes in
@@ -68,17 +72,19 @@ unfolding unit_places
 read_whole abbrevs room info (Err f) e = refl
 read_whole abbrevs room info (Ok raw) e = places_whole abbrevs room raw 0 0 info (units_found abbrevs (given room) 0 (input info 0) raw e)
 
-read_ascend : (abbrevs : List ℕ) (room : ℕ) (info : List ℕ) (r : Result (List RawUnit) Fault) → units_at abbrevs (given room) 0 (input info 0) ≡ r → Ascend 0 (starts (or_none r)) (0 + length info)
-read_ascend abbrevs room info (Err f) e = omega arith
-read_ascend abbrevs room info (Ok raw) e = starts_ascend abbrevs room raw 0 0 info (units_found abbrevs (given room) 0 (input info 0) raw e)
+read_ascend : (abbrevs : List ℕ) (mode : Mode) (info : List ℕ) (r : Result (List RawUnit) Fault) → units_at abbrevs mode 0 (input info 0) ≡ r → Ascend 0 (starts (or_none r)) (0 + length info)
+read_ascend abbrevs mode info (Err f) e = omega arith
+read_ascend abbrevs mode info (Ok raw) e = starts_ascend abbrevs mode raw 0 0 info (units_found abbrevs mode 0 (input info 0) raw e)
 
-pub all_whole : (s : Source) → unit_places (units_of s) ≡ starts (units_of s)
+pub all_whole : (s : Source) → AreGiven s → unit_places (units_of s) ≡ starts (units_of s)
 unfolding units_of
-all_whole s = read_whole s.abbrevs s.room s.info (units_at s.abbrevs (given s.room) 0 (input s.info 0)) refl
+all_whole s is =
+    subst (λ (k : FileKind). unit_places (or_none (units_at s.abbrevs (mode_of k s.room) 0 (input s.info 0))) ≡ starts (or_none (units_at s.abbrevs (mode_of k s.room) 0 (input s.info 0)))) (sym is)
+    (read_whole s.abbrevs s.room s.info (units_at s.abbrevs (given s.room) 0 (input s.info 0)) refl)
 
 pub starts_rise : (s : Source) → Rise (starts (units_of s))
 unfolding units_of
-starts_rise s i j l m = ascend_at (starts (units_of s)) 0 (0 + length s.info) i j (read_ascend s.abbrevs s.room s.info (units_at s.abbrevs (given s.room) 0 (input s.info 0)) refl) l m
+starts_rise s i j l m = ascend_at (starts (units_of s)) 0 (0 + length s.info) i j (read_ascend s.abbrevs (mode_of s.kind s.room) s.info (units_at s.abbrevs (mode_of s.kind s.room) 0 (input s.info 0)) refl) l m
 
 pub unit_start : (raw : List RawUnit) (n : ℕ) (x : UnitOfCode) → slice_get (shown_units raw) n ≡ Some x → get_or (starts raw) n 0 ≡ x.at
 unit_start raw n x e =

@@ -16,6 +16,7 @@ use Rattle.dwz_def_reading.specs.Shared.{AreRows}
 use Rattle.dwz_graph.specs.ListRows.{AreOfFile, operand_view}
 use Rattle.dwz_graph.specs.declared.file.File.{File}
 use Rattle.dwz_graph.specs.declared.file.Budget.{Budget}
+use Rattle.dwz_graph.specs.Given.{AreGiven}
 use Rattle.dwz_graph.specs.Named.{units_refs}
 use Rattle.dwz_graph.specs.Parts.{AreParted, HaveLines}
 use Rattle.dwz_graph.specs.Resolved.{AreEntries, place_at, sources_view}
@@ -39,6 +40,7 @@ pub record IsRead (l : Limits) (number : ℕ) (bytes : List ℕ) (f : File) : Ty
       (map (operand_view (units_of f.units)) f.resolved.operands.items)
   pub of_file : AreOfFile (units_of f.units) number f.resolved.operands.items
   pub elf : f.elf ≡ elf_of bytes
+  pub given : AreGiven f.units
   pub info : f.units.info ≡ debug_info bytes
   pub sections : sources_view f.sections ≡ sources_of bytes
   pub aranges : f.sections.aranges.now ≡ debug_aranges bytes

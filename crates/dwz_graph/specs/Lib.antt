@@ -1,4 +1,3 @@
-pub mod Classes
 pub mod Named
 pub mod TextEnds
 pub mod Apart
@@ -13,6 +12,7 @@ pub mod Parts
 pub mod TablePlaces
 pub mod Places
 pub mod Ahead
+pub mod Given
 pub mod Files
 pub mod Rows
 pub mod FlatTops

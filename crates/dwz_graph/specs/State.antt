@@ -1,6 +1,7 @@
 -- What is kept of the values that were looked at.
-use Rattle.std.specs.Prelude.{◌≡◌, ℕ, ◌<◌, ◌≤◌, List, Option, Some, Ok, nat_eq}
-use Rattle.std.specs.HashMap.{get}
+use Rattle.std.specs.Prelude.{◌≡◌, ℕ, ◌<◌, ◌≤◌, List, Option, Some, Ok}
+use Rattle.std.specs.BTreeMap.{get}
+use Rattle.std.specs.Ordering.{nat_cmp}
 use Rattle.dwz_def_reading.specs.Units.{RawUnit}
 use Rattle.dwz_def_reading.specs.Meanings.{Around, MeaningContext}
 use Rattle.dwz_def_reading.specs.Meant.{list_read}
@@ -23,10 +24,10 @@ WereSeen s n named seen = (place number : ℕ) → seen place ≡ Some number �
 pub record IsState (raw : List RawUnit) (s : MeaningContext ℕ) (n : ℕ) (named : List NamedList) (st : State) : Type 0 where
   pub shows : Shows raw st.file named st.lists
   pub tables : KnowTables s.around.sources st.files
-  pub seen : WereSeen s n named (get nat_eq st.lists.seen)
+  pub seen : WereSeen s n named (get nat_cmp st.lists.seen)
 
 -- the same, behind the units before the n-th
 pub record IsBehind (raw : List RawUnit) (around : Around ℕ) (n : ℕ) (named : List NamedList) (st : State) : Type 0 where
   pub shows : Shows raw st.file named st.lists
   pub tables : KnowTables around.sources st.files
-  pub seen : (place number : ℕ) → get nat_eq st.lists.seen place ≡ Some number → number < n
+  pub seen : (place number : ℕ) → get nat_cmp st.lists.seen place ≡ Some number → number < n

@@ -14,11 +14,9 @@ ghost use Rattle.dwz_unit.specs.Rows.{shown_units, units_of};
 
 use crate::index::{Index, SpaceEntry, Step, TopEntry};
 use crate::spaces::is_space;
+use dwz_codes::DW_UT_COMPILE;
 use dwz_model::NoMemory;
 use dwz_unit::{RawUnit as RawUnitOfCode, Units};
-
-// `DW_UT_compile` (DWARF 5, 7.5.1).
-const COMPILE_UNIT: u8 = 1;
 
 // Appends the ways up from the entries of a list below `up`, in the top before the number `top`, or in none where that is 0.
 pub(crate) fn put_below(
@@ -144,7 +142,7 @@ impl Index {
             index: 0,
             top: 0,
         })?;
-        if unit.kind != COMPILE_UNIT {
+        if unit.kind != DW_UT_COMPILE {
             put_below(units, root + 1, end, root, 0, &mut self.steps)?;
             return Ok(());
         }

@@ -17,7 +17,7 @@ use crate::sections::InputSections;
 use crate::state::State;
 use dwz_expr::{Operand, read_into};
 use dwz_forms::Raw;
-use dwz_model::{Base, Fault, ReadErr, Reason};
+use dwz_model::{Base, DEBUG_INFO, Fault, ReadErr, Reason};
 use dwz_unit::Units;
 
 /// An operand names no entry.
@@ -104,9 +104,6 @@ fn bytes_of<'a>(raw: &Raw<'a>) -> &'a [u8]
     }
 }
 
-// The section `.debug_info`.
-const INFO: u8 = 1;
-
 /// Adds what the expression names that a value is. Refused at the first operator that isn't read, or whose operand names no entry.
 pub(crate) fn add_expression(
     units: &Units,
@@ -128,7 +125,7 @@ pub(crate) fn add_expression(
     let bytes = bytes_of(raw);
     let at = end.saturating_sub(bytes.len() as u64);
     state.operands.clear();
-    let read = read_into(&mut state.operands, bytes, at, INFO);
+    let read = read_into(&mut state.operands, bytes, at, DEBUG_INFO);
     if is_no_memory(&read) {
         return Err(ReadErr::NoMemory);
     }
@@ -136,7 +133,7 @@ pub(crate) fn add_expression(
         units,
         sections,
         here,
-        INFO,
+        DEBUG_INFO,
         &state.operands,
         &mut state.refs,
     )?;

@@ -10,7 +10,10 @@ ghost use Rattle.dwz_model.specs.declared.fault.ReadErr.TheVariants.{Refused};
 
 use crate::{InputSections, Resolved, TextSection, resolve};
 use dwz_elf::Elf;
-use dwz_model::{Fault, ReadErr, Reason};
+use dwz_model::{
+    DEBUG_ABBREV, DEBUG_ARANGES, DEBUG_INFO, DEBUG_LINE, DEBUG_LINE_STR, DEBUG_LOCLISTS, DEBUG_STR,
+    DEBUG_STR_OFFSETS, Fault, ReadErr, Reason, WHOLE_FILE,
+};
 use dwz_unit::Units;
 use std::alloc::Global;
 
@@ -44,22 +47,6 @@ pub(crate) const LONGEST_FILES: usize = 1 << 29;
 /// No files together may have more entries.
 pub(crate) const MOST_ENTRIES: u32 = 1 << 24;
 
-const INFO: u8 = 1;
-
-const ABBREV: u8 = 2;
-
-const STR: u8 = 3;
-
-const LINE_STR: u8 = 4;
-
-const STR_OFFSETS: u8 = 5;
-
-const LINE: u8 = 6;
-
-const LOCLISTS: u8 = 7;
-
-const ARANGES: u8 = 8;
-
 // Where e_machine stands.
 const MACHINE_AT: u64 = 18;
 
@@ -67,7 +54,7 @@ fn fault(at: u64, reason: Reason) -> ReadErr
     ensures { result ≡ Refused (file_fault reason at) }
 {
     ReadErr::Refused(Fault {
-        section: 0,
+        section: WHOLE_FILE,
         at,
         reason,
     })
@@ -98,12 +85,12 @@ fn sections_of<'a>(elf: &Elf, bytes: &'a [u8]) -> InputSections<'a>
     ensures aranges { elf.now ≡ elf_of bytes.now → result.aranges.now ≡ Files.debug_aranges bytes.now }
 {
     InputSections {
-        strs: TextSection::new(elf.content(bytes, STR)),
-        line_strs: TextSection::new(elf.content(bytes, LINE_STR)),
-        offsets: elf.content(bytes, STR_OFFSETS),
-        line: elf.content(bytes, LINE),
-        lists: elf.content(bytes, LOCLISTS),
-        aranges: elf.content(bytes, ARANGES),
+        strs: TextSection::new(elf.content(bytes, DEBUG_STR)),
+        line_strs: TextSection::new(elf.content(bytes, DEBUG_LINE_STR)),
+        offsets: elf.content(bytes, DEBUG_STR_OFFSETS),
+        line: elf.content(bytes, DEBUG_LINE),
+        lists: elf.content(bytes, DEBUG_LOCLISTS),
+        aranges: elf.content(bytes, DEBUG_ARANGES),
     }
 }
 
@@ -123,8 +110,8 @@ pub(crate) fn read_file<'a>(
     if is_other_machine(left.machine, elf.machine()) {
         return Err(fault(MACHINE_AT, Reason::Machine));
     }
-    let info = elf.content(bytes, INFO);
-    let abbrevs = elf.content(bytes, ABBREV);
+    let info = elf.content(bytes, DEBUG_INFO);
+    let abbrevs = elf.content(bytes, DEBUG_ABBREV);
     let units = Units::read(alloc, info, abbrevs, left.entries)?;
     let sections = sections_of(&elf, bytes);
     let resolved = resolve(alloc, number, &units, &sections)?;

@@ -19,9 +19,10 @@ ghost use Rattle.dwz_graph.specs.Resolved.{sources_view};
 use crate::here::Here;
 use crate::places::TablePlaces;
 use crate::sections::InputSections;
+use dwz_codes::names_file;
 use dwz_forms::Raw;
 use dwz_lines::FileTable;
-use dwz_model::{Fault, ReadErr, Reason};
+use dwz_model::{DEBUG_INFO, Fault, ReadErr, Reason};
 use std::alloc::Global;
 
 /// The line tables that were read.
@@ -34,14 +35,11 @@ pub(crate) struct Files {
     pub places: TablePlaces,
 }
 
-// The section `.debug_info` in faults.
-const INFO: u8 = 1;
-
 fn bad_file(at: u64) -> ReadErr
     ensures { result ≡ Refused (info_fault at BadFile) }
 {
     ReadErr::Refused(Fault {
-        section: INFO,
+        section: DEBUG_INFO,
         at,
         reason: Reason::BadFile,
     })
@@ -156,14 +154,6 @@ impl Files {
             }
         }
     }
-}
-
-// Whether values of an attribute number files: `DW_AT_decl_file` and `DW_AT_call_file`.
-#[inline(always)]
-fn names_file(name: u16) -> bool
-    ensures { result ≡ Classes.names_file name }
-{
-    name == 0x3a || name == 0x58
 }
 
 /// Goes on where a number says something: one of a file is that of a row of the unit's line table.

@@ -11,6 +11,7 @@ ghost use Rattle.dwz_unit.specs.Rows.{EntryRow, attr_view, rows_of, shown_units,
 
 use crate::first::first_attr;
 use crate::sections::offset_of;
+use dwz_codes::{DW_AT_LOCLISTS_BASE, DW_AT_STMT_LIST, DW_AT_STR_OFFSETS_BASE, DW_FORM_SEC_OFFSET};
 use dwz_unit::{RawAttr, RawUnit, Units};
 
 /// What is kept of a unit as long as its entries are looked at.
@@ -32,15 +33,13 @@ pub struct Here {
     pub line: Option<u32>,
 }
 
-const SEC_OFFSET: u64 = 0x17;
-
 // The offset that an attribute gives. It has 4 bytes.
 #[inline(always)]
 fn base_in(attr: &RawAttr) -> Option<u32>
     requires { HasSpelling attr.now.pair.form (raw_view attr.now.raw) }
     ensures { result ≡ Meanings.base_in (Some (attr_view attr.now)) }
 {
-    if attr.pair.form == SEC_OFFSET {
+    if attr.pair.form == DW_FORM_SEC_OFFSET {
         Some(offset_of(&attr.raw) as u32)
     } else {
         None
@@ -59,13 +58,6 @@ fn base_of(units: &Units, root: u32, name: u16) -> Option<u32>
     }
 }
 
-// `DW_AT_str_offsets_base`, `DW_AT_loclists_base` and `DW_AT_stmt_list` (DWARF 5, 3.1.1).
-const STR_OFFSETS_BASE: u16 = 0x72;
-
-const LOCLISTS_BASE: u16 = 0x8c;
-
-const STMT_LIST: u16 = 0x10;
-
 /// What is kept of the unit with a number.
 pub fn here_of(units: &Units, number: u32, unit: &RawUnit) -> Here
     requires { unit.now.first < entries_in (units_of units.now) }
@@ -76,8 +68,8 @@ pub fn here_of(units: &Units, number: u32, unit: &RawUnit) -> Here
         at: unit.at,
         first: unit.first,
         end: units.entry(unit.first).end,
-        offsets: base_of(units, unit.first, STR_OFFSETS_BASE),
-        lists: base_of(units, unit.first, LOCLISTS_BASE),
-        line: base_of(units, unit.first, STMT_LIST),
+        offsets: base_of(units, unit.first, DW_AT_STR_OFFSETS_BASE),
+        lists: base_of(units, unit.first, DW_AT_LOCLISTS_BASE),
+        line: base_of(units, unit.first, DW_AT_STMT_LIST),
     }
 }

@@ -7,6 +7,7 @@ ghost use Rattle.dwz_def_reading.specs.Meanings.{Around};
 ghost use Rattle.dwz_def_reading.specs.Meant.{units_meaning};
 ghost use Rattle.dwz_def_tops.specs.Spots.{EntryName};
 ghost use Rattle.dwz_graph.specs.Building.{HasRoom, IsFew};
+ghost use Rattle.dwz_graph.specs.Given.{AreGiven};
 ghost use Rattle.dwz_graph.specs.Index.{HasTops, IsIndex, next_starts};
 ghost use Rattle.dwz_graph.specs.Names.{names_from, path_in, top_in};
 ghost use Rattle.dwz_unit.specs.Rows.{units_of};
@@ -79,8 +80,8 @@ impl Index {
         requires room { HasRoom starts.now (entries_in (units_of units.now)) }
         ensures len { IfOk result (λ x. length x.steps ≡ entries_in (units_of units.now)) }
         ensures few { IfOk result (λ x. IsFew x (entries_in (units_of units.now))) }
-        ensures names { (around : Around ℕ) (said : List (DwUnit ℕ)) → units_meaning around (units_of units.now) ≡ Ok said
-            → IfOk result (λ x. IsIndex (names_from starts.now.unit starts.now.top said) x) }
+        ensures names { AreGiven units.now → (around : Around ℕ) (said : List (DwUnit ℕ))
+            → units_meaning around (units_of units.now) ≡ Ok said → IfOk result (λ x. IsIndex (names_from starts.now.unit starts.now.top said) x) }
         ensures tops { (around : Around ℕ) (said : List (DwUnit ℕ)) → units_meaning around (units_of units.now) ≡ Ok said
             → IfOk result (λ x. HasTops starts.now said x) }
     {

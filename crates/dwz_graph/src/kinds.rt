@@ -12,10 +12,9 @@ ghost use Rattle.dwz_unit.specs.Rows.{unit_shown, units_of};
 use crate::find::find;
 use crate::here::Here;
 use crate::sections::InputSections;
-use dwz_model::{Fault, ReadErr, Reason};
+use dwz_codes::DW_UT_TYPE;
+use dwz_model::{DEBUG_INFO, Fault, ReadErr, Reason};
 use dwz_unit::{RawUnit as RawUnitOfCode, Units};
-
-const INFO: u8 = 1;
 
 // The type of a unit is one of its entries.
 fn check_type(units: &Units, first: u32, end: u32, at: u32, type_offset: u32) -> Result<(), ReadErr>
@@ -26,14 +25,12 @@ fn check_type(units: &Units, first: u32, end: u32, at: u32, type_offset: u32) ->
     match find(units, first, end, at as u128 + type_offset as u128) {
         Some(_) => Ok(()),
         None => Err(ReadErr::Refused(Fault {
-            section: INFO,
+            section: DEBUG_INFO,
             at: at as u64 + 20,
             reason: Reason::BadReference,
         })),
     }
 }
-
-const TYPE_UNIT: u8 = 2;
 
 /// The type of a type unit is one of its entries.
 pub(crate) fn check_kind(
@@ -47,7 +44,7 @@ pub(crate) fn check_kind(
         → IsDone result (kind_named (scope_in sections.now (units_of units.now) u) u.kind) }
 {
     let _sections = sections;
-    if unit.kind != TYPE_UNIT {
+    if unit.kind != DW_UT_TYPE {
         return Ok(());
     }
     check_type(units, here.first, here.end, here.at, unit.type_offset)

@@ -6,8 +6,7 @@
 //! reference and each operand, line tables, operands of location lists.
 //!
 //! `indexes` makes an `Index` for each file, with units, tops and spaces numbered over all of them: `top_of` and `put_path` say where an
-//! entry stands, `space_text` what a space is called. `class_of` is the class of a form, `first_attr` the first value of a name, `here_of`
-//! what a unit's root says.
+//! entry stands, `space_text` what a space is called. `first_attr` is the first value of a name, `here_of` what a unit's root says.
 //!
 //! Laws: the entry with a number has the name that stands for its place (`name_laws`, `top_laws`); flat rows mean the entries of the
 //! document, in step (`flat_laws`, `step_laws`, `part_laws`).
@@ -17,7 +16,6 @@
 
 mod ahead;
 mod building;
-mod class;
 mod expressions;
 mod file;
 mod files;
@@ -45,7 +43,6 @@ mod state;
 mod strings;
 mod tops;
 
-pub use class::{Class, class_of};
 pub use expressions::entry_of;
 pub use file::File;
 pub use first::first_attr;

@@ -2,8 +2,9 @@
 //!
 //! A list is read once for each unit and place that attributes name, and its operands are kept once.
 
-ghost use Rattle.std.specs.Prelude.{◌≡◌, ◌≤◌, ◌<◌, ◌^◌, List, Some, true, length, nat_eq};
-ghost use Rattle.std.specs.HashMap.{get};
+ghost use Rattle.std.specs.Prelude.{◌≡◌, ◌≤◌, ◌<◌, ◌^◌, List, Some, true, length};
+ghost use Rattle.std.specs.BTreeMap.{get};
+ghost use Rattle.std.specs.Ordering.{nat_cmp};
 ghost use Rattle.dwz_def_reading.specs.Units.{RawUnit, entries_in};
 ghost use Rattle.dwz_def_reading.specs.Faults.{info_fault};
 ghost use Rattle.dwz_def_reading.specs.Shared.{NamedList};
@@ -21,9 +22,9 @@ use crate::state::State;
 use dwz_codes::names_list;
 use dwz_expr::Operand;
 use dwz_lists::walk_into;
-use dwz_model::{Fault, Place, ReadErr, Reason};
+use dwz_model::{DEBUG_INFO, DEBUG_LOCLISTS, Fault, Place, ReadErr, Reason};
 use dwz_unit::Units;
-use std::collections::HashMap;
+use std::collections::BTreeMap;
 
 /// A list that attributes of a unit name.
 #[derive(Clone, Copy)]
@@ -47,11 +48,8 @@ pub(crate) struct Lists {
     /// The places of the slots through which lists are named.
     pub slots: Vec<u32>,
     /// For the place of a list the last unit of which an attribute names it.
-    pub seen: HashMap<u64, u32>,
+    pub seen: BTreeMap<u64, u32>,
 }
-
-// The section `.debug_loclists` in faults.
-const LISTS: u8 = 7;
 
 // An operand of a list that an attribute of a unit names, and its entry.
 fn list_operand(units: &Units, file: u32, unit: u32, operand: &Operand, entry: u32) -> ListOperand
@@ -96,7 +94,7 @@ fn name_operands(
     for operand in operands {
         match entry_of(units, sections, here, operand) {
             Some(entry) => out.push(list_operand(units, file, here.number, operand, entry))?,
-            None => return Err(bad_operand(LISTS, operand.at)),
+            None => return Err(bad_operand(DEBUG_LOCLISTS, operand.at)),
         }
     }
     Ok(())
@@ -146,8 +144,8 @@ fn walk(
 }
 
 // Whether a place was seen last in that unit.
-fn was_seen(seen: &HashMap<u64, u32>, place: u64, unit: u32) -> bool
-    ensures { result ≡ true → get nat_eq seen.now place ≡ Some unit }
+fn was_seen(seen: &BTreeMap<u64, u32>, place: u64, unit: u32) -> bool
+    ensures { result ≡ true → get nat_cmp seen.now place ≡ Some unit }
 {
     if let Some(number) = seen.get(&place) {
         if *number == unit {
@@ -180,13 +178,11 @@ fn walk_once(
     walk(units, sections, here, place, state)
 }
 
-const INFO: u8 = 1;
-
 fn bad_list(at: u64) -> ReadErr
     ensures { result ≡ Refused (info_fault at BadList) }
 {
     ReadErr::Refused(Fault {
-        section: INFO,
+        section: DEBUG_INFO,
         at,
         reason: Reason::BadList,
     })

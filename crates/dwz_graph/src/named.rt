@@ -10,14 +10,12 @@ ghost use Rattle.dwz_def_reading.specs.NamedLists.{lists_as};
 ghost use Rattle.dwz_model.specs.declared.fault.ReadErr.TheVariants.{Refused};
 ghost use Rattle.dwz_model.specs.declared.fault.Reason.TheVariants.{UnsupportedForm};
 ghost use Rattle.dwz_def_reading.specs.Shared.{NamedList};
-ghost use Rattle.dwz_graph.specs.Classes.{class_view};
 ghost use Rattle.dwz_graph.specs.FileRows.{IfLearns};
 ghost use Rattle.dwz_graph.specs.Parts.{IsParted, numbers_as, numbers_file};
 ghost use Rattle.dwz_graph.specs.Named.{attr_named, entry_named, found_in, map_ok, unit_named, units_named};
 ghost use Rattle.dwz_graph.specs.Resolved.{Goes, IsHere, StateAt, StateIn, around, scope_in, stored};
 ghost use Rattle.dwz_unit.specs.Rows.{EntryRow, rows_of, units_of};
 
-use crate::class::{Class, class_of};
 use crate::expressions::add_expression;
 use crate::files::check_constant;
 use crate::here::{Here, here_of};
@@ -28,8 +26,9 @@ use crate::references::{add_entry, bad_reference};
 use crate::sections::{InputSections, offset_of};
 use crate::state::State;
 use crate::strings::{bad_string, check_text, has_slot_text};
+use dwz_codes::{Class, DW_AT_SIBLING, class_of};
 use dwz_forms::Raw;
-use dwz_model::{Fault, Pair, ReadErr, Reason};
+use dwz_model::{DEBUG_INFO, Fault, Pair, ReadErr, Reason};
 use dwz_unit::{Units, Values, known_value};
 
 // No such form is read.
@@ -37,7 +36,7 @@ fn unread_form(at: u64, form: u64) -> ReadErr
     ensures { result ≡ Refused (info_fault at (UnsupportedForm form)) }
 {
     ReadErr::Refused(Fault {
-        section: 1,
+        section: DEBUG_INFO,
         at,
         reason: Reason::UnsupportedForm { form },
     })
@@ -58,12 +57,12 @@ fn add_as(
 ) -> Result<(), ReadErr>
     requires { here.now.end ≤ entries_in (units_of units.now) }
     ensures file { state.new.file ≡ state.old.file }
-    ensures learns { IfLearns (numbers_as (class_view class) pair.now.name) here.now.line state.old.files state.new.files result }
+    ensures learns { IfLearns (numbers_as class pair.now.name) here.now.line state.old.files state.new.files result }
     ensures goes { (u : RawUnit) (before : List NamedList) → IsHere (units_of units.now) u here.now
         → StateIn sections.now (units_of units.now) u here.now before state.old
         → Goes (units_of units.now) (StateIn sections.now (units_of units.now) u here.now) before state.old state.new result
-        (map_ok (found_in (lists_as (class_view class) (scope_in sections.now (units_of units.now) u) (stored at end pair.now raw.now)))
-        (as_class (class_view class) (scope_in sections.now (units_of units.now) u) (stored at end pair.now raw.now))) }
+        (map_ok (found_in (lists_as class (scope_in sections.now (units_of units.now) u) (stored at end pair.now raw.now)))
+        (as_class class (scope_in sections.now (units_of units.now) u) (stored at end pair.now raw.now))) }
 {
     let offset = offset_of(raw);
     match class {
@@ -104,9 +103,6 @@ fn add_as(
     }
 }
 
-// `DW_AT_sibling` (DWARF 5, 7.5.4).
-const SIBLING: u16 = 0x01;
-
 // Adds what an attribute names.
 #[inline(always)]
 fn add_attr(
@@ -127,7 +123,7 @@ fn add_attr(
         → Goes (units_of units.now) (StateIn sections.now (units_of units.now) u here.now) before state.old state.new result
         (attr_named (scope_in sections.now (units_of units.now) u) (stored at end pair.now raw.now)) }
 {
-    if pair.name == SIBLING {
+    if pair.name == DW_AT_SIBLING {
         return Ok(());
     }
     add_as(

@@ -5,7 +5,7 @@ ghost use Rattle.dwz_graph.specs.TablePlaces.{number_in};
 
 use dwz_model::NoMemory;
 use std::alloc::Global;
-use std::collections::HashMap;
+use std::collections::BTreeMap;
 use std::marker::Model;
 
 // A place of `.debug_line`, and the number of its table.
@@ -18,7 +18,7 @@ struct Numbered {
 /// For places of `.debug_line` the numbers of their tables. Clauses see rows of a place and a number.
 #[derive(Drop)]
 pub(crate) struct TablePlaces {
-    all: HashMap<u32, usize>,
+    all: BTreeMap<u32, usize>,
     // The one that was asked for last: values of a unit number files of one table.
     last: Option<Numbered>,
 }
@@ -40,7 +40,7 @@ impl TablePlaces {
         ensures { (place : ℕ) → number_in result place ≡ None }
     {
         TablePlaces {
-            all: HashMap::new(alloc),
+            all: BTreeMap::new(alloc),
             last: None,
         }
     }

@@ -5,21 +5,19 @@ ghost use Rattle.dwz_def_reading.specs.Input.{input};
 ghost use Rattle.dwz_def_reading.specs.Files.{is_place_of};
 ghost use Rattle.dwz_def_reading.specs.Ranges.{bad_ranges, sets_at};
 ghost use Rattle.dwz_model.specs.declared.fault.ReadErr.TheVariants.{Refused};
+ghost use Rattle.dwz_graph.specs.Given.{AreGiven};
 ghost use Rattle.dwz_graph.specs.Resolved.{Tells};
 ghost use Rattle.dwz_unit.specs.Rows.{units_of};
 
 use dwz_aranges::set_there;
-use dwz_model::{Fault, ReadErr, Reason};
+use dwz_model::{DEBUG_ARANGES, Fault, ReadErr, Reason};
 use dwz_unit::Units;
-
-// The section `.debug_aranges` in faults.
-const ARANGES: u8 = 8;
 
 fn bad_set(at: usize) -> ReadErr
     ensures { result ≡ Refused (bad_ranges at) }
 {
     ReadErr::Refused(Fault {
-        section: ARANGES,
+        section: DEBUG_ARANGES,
         at: at as u64,
         reason: Reason::BadAranges,
     })
@@ -27,6 +25,7 @@ fn bad_set(at: usize) -> ReadErr
 
 // Whether a unit begins at a place.
 fn is_unit(units: &Units, place: u32) -> bool
+    requires { AreGiven units.now }
     ensures { result ≡ is_place_of (units_of units.now) place }
 {
     let mut low = 0;
@@ -48,6 +47,7 @@ fn is_unit(units: &Units, place: u32) -> bool
 
 /// Goes on where each set of address ranges is of a unit. Refused at the first that is bad, or is of none.
 pub(crate) fn check_ranges(units: &Units, section: &[u8]) -> Result<(), ReadErr>
+    requires { AreGiven units.now }
     ensures { Tells result (sets_at (is_place_of (units_of units.now)) (input section.now 0)) }
 {
     let mut at = 0;

@@ -11,17 +11,15 @@ ghost use Rattle.dwz_unit.specs.Rows.{units_of};
 
 use crate::find::find_again;
 use crate::hints::Hints;
-use dwz_model::{Fault, ReadErr, Reason};
+use dwz_model::{DEBUG_INFO, Fault, ReadErr, Reason};
 use dwz_unit::Units;
-
-const INFO: u8 = 1;
 
 /// No entry begins where a value says.
 pub(crate) fn bad_reference(at: u64) -> ReadErr
     ensures { result ≡ Refused (info_fault at BadReference) }
 {
     ReadErr::Refused(Fault {
-        section: INFO,
+        section: DEBUG_INFO,
         at,
         reason: Reason::BadReference,
     })

@@ -5,6 +5,7 @@ ghost use Rattle.dwz_def_reading.specs.Faults.{Answers};
 ghost use Rattle.dwz_def_reading.specs.Units.{entries_in};
 ghost use Rattle.dwz_def_reading.specs.NamedLists.{lists_of_units};
 ghost use Rattle.dwz_def_reading.specs.Shared.{AreRows};
+ghost use Rattle.dwz_graph.specs.Given.{AreGiven};
 ghost use Rattle.dwz_graph.specs.ListRows.{AreOfFile, operand_view};
 ghost use Rattle.dwz_graph.specs.Named.{map_ok, units_refs};
 ghost use Rattle.dwz_graph.specs.Parts.{AreParted, HaveLines};
@@ -42,15 +43,16 @@ pub struct Resolved {
     pub operands: Vec<ListOperand>,
 }
 
-/// Reads what the values of all units of a file say, each of its sets of address ranges, and its location lists. Refused with the first
-/// fault of the meanings, else of the address ranges, else with that of shared lists. `file` is the number of the file, which the places of
-/// operands get.
+/// Reads what the values of all units of a file by itself say, each of its sets of address ranges, and its location lists. Refused with the
+/// first fault of the meanings, else of the address ranges, else with that of shared lists. `file` is the number of the file, which the places
+/// of operands get.
 pub fn resolve(
     alloc: Global,
     file: u32,
     units: &Units,
     sections: &InputSections,
 ) -> Result<Resolved, ReadErr>
+    requires { AreGiven units.now }
     ensures within { IfOk result (λ r. AreEntries (units_of units.now) r.refs.items) }
     ensures operands { IfOk result (λ r. AreRows (lists_of_units (around sections.now (units_of units.now)) (units_of units.now))
         (map (operand_view (units_of units.now)) r.operands.items)) }

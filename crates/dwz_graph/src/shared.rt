@@ -17,17 +17,14 @@ ghost use Rattle.dwz_def_reading.specs.Units.{RawUnit};
 
 use crate::lists::{ListRow, Lists};
 use crate::operands::ListOperand;
-use dwz_model::{Base, Fault, ReadErr, Reason};
+use dwz_model::{Base, DEBUG_LOCLISTS, Fault, ReadErr, Reason};
 use std::alloc::{AllocError, Global};
-
-// The section `.debug_loclists` in faults.
-const LISTS: u8 = 7;
 
 fn shared_at(at: u32) -> ReadErr
     ensures { result ≡ Refused (shared_list at) }
 {
     ReadErr::Refused(Fault {
-        section: LISTS,
+        section: DEBUG_LOCLISTS,
         at: at as u64,
         reason: Reason::SharedList,
     })

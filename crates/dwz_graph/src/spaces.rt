@@ -12,21 +12,16 @@ ghost use Rattle.dwz_def_reading.specs.Meant.{node_meaning};
 ghost use Rattle.dwz_def_tops.specs.Spaces as Seen;
 ghost use Rattle.dwz_graph.specs.Spaces;
 ghost use Rattle.dwz_graph.specs.Spaces.{IsOwn, stored_space};
-ghost use Rattle.dwz_graph.specs.Classes.{class_view};
 ghost use Rattle.dwz_unit.specs.Rows.{EntryRow, attr_view, rows_of, units_of};
 
-use crate::{Class, InputSections, class_of, first_attr, offset_of, slot, text_in};
+use crate::{InputSections, first_attr, offset_of, slot, text_in};
+use dwz_codes::{Class, DW_AT_NAME, DW_TAG_NAMESPACE, class_of};
 use dwz_forms::Raw;
 use dwz_unit::{RawAttr, Units};
 
-// `DW_TAG_namespace` and `DW_AT_name`.
-const NAMESPACE: u16 = 0x39;
-
-const NAME: u16 = 0x03;
-
 // Whether the values of a class are texts.
 fn is_text(class: Class) -> bool
-    ensures { result ≡ Spaces.is_text (class_view class) }
+    ensures { result ≡ Spaces.is_text class }
 {
     match class {
         Class::Text => true,
@@ -44,7 +39,7 @@ fn has_text_name(units: &Units, entry: u32) -> bool
     ensures { (row : EntryRow) → slice_get (rows_of (units_of units.now)) entry ≡ Some row
         → result ≡ Spaces.has_text (first_raw 0x03 row.entry.attrs) }
 {
-    match first_attr(units, entry, NAME) {
+    match first_attr(units, entry, DW_AT_NAME) {
         Some(attr) => is_text(class_of(attr.pair.form)),
         None => false,
     }
@@ -56,7 +51,7 @@ pub fn is_space(units: &Units, entry: u32) -> bool
     requires { entry < entries_in (units_of units.now) }
     ensures { (row : EntryRow) → slice_get (rows_of (units_of units.now)) entry ≡ Some row → result ≡ stored_space row.entry }
 {
-    if units.entry(entry).tag != NAMESPACE {
+    if units.entry(entry).tag != DW_TAG_NAMESPACE {
         return false;
     }
     has_text_name(units, entry)
@@ -117,7 +112,7 @@ pub fn space_text<'a>(
         → slice_get (rows_of (units_of units.now)) entry ≡ Some row → node_meaning s row.entry ≡ Ok d → Seen.space_text d ≡ Some text
         → option_map (λ t. t.now) result ≡ Some text }
 {
-    match first_attr(units, entry, NAME) {
+    match first_attr(units, entry, DW_AT_NAME) {
         None => None,
         Some(attr) => text_of(sections, base, &attr),
     }

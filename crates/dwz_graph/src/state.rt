@@ -1,7 +1,8 @@
 //! What is kept of the values that were looked at.
 
-ghost use Rattle.std.specs.Prelude.{◌≡◌, ℕ, [], None, nat_eq};
-ghost use Rattle.std.specs.HashMap.{get};
+ghost use Rattle.std.specs.Prelude.{◌≡◌, ℕ, [], None};
+ghost use Rattle.std.specs.BTreeMap.{get};
+ghost use Rattle.std.specs.Ordering.{nat_cmp};
 ghost use Rattle.dwz_def_reading.specs.Meanings.{Sources};
 ghost use Rattle.dwz_graph.specs.FileRows.{KnowTables};
 
@@ -10,7 +11,7 @@ use crate::hints::Hints;
 use crate::lists::Lists;
 use dwz_expr::Operand;
 use std::alloc::Global;
-use std::collections::HashMap;
+use std::collections::BTreeMap;
 
 /// What is kept of the values that were looked at.
 #[derive(Drop)]
@@ -36,7 +37,7 @@ impl State {
         ensures rows { result.lists.rows.items ≡ [] }
         ensures operands { result.lists.operands.items ≡ [] }
         ensures slots { result.lists.slots.items ≡ [] }
-        ensures seen { (place : ℕ) → get nat_eq result.lists.seen place ≡ None }
+        ensures seen { (place : ℕ) → get nat_cmp result.lists.seen place ≡ None }
         ensures tables { (sources : Sources) → KnowTables sources result.files }
     {
         State {
@@ -46,7 +47,7 @@ impl State {
                 rows: Vec::new(alloc),
                 operands: Vec::new(alloc),
                 slots: Vec::new(alloc),
-                seen: HashMap::new(alloc),
+                seen: BTreeMap::new(alloc),
             },
             files: Files::new(alloc),
             operands: Vec::new(alloc),

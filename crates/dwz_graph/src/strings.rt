@@ -7,16 +7,14 @@ ghost use Rattle.dwz_model.specs.declared.fault.ReadErr.TheVariants.{Refused};
 ghost use Rattle.dwz_graph.specs.Resolved.{Checks, has_slot_text, sources_view};
 
 use crate::sections::{InputSections, slot};
-use dwz_model::{Fault, ReadErr, Reason};
-
-const INFO: u8 = 1;
+use dwz_model::{DEBUG_INFO, Fault, ReadErr, Reason};
 
 /// No text stands where a value says.
 pub(crate) fn bad_string(at: u64) -> ReadErr
     ensures { result ≡ Refused (info_fault at BadString) }
 {
     ReadErr::Refused(Fault {
-        section: INFO,
+        section: DEBUG_INFO,
         at,
         reason: Reason::BadString,
     })

@@ -5,13 +5,12 @@ ghost use Rattle.std.specs.List.Sorted.{IsStrictlyIncreasing};
 ghost use Rattle.dwz_def_reading.specs.Spelling.{reach};
 ghost use Rattle.dwz_def_reading.specs.Texts.{slot_place};
 ghost use Rattle.dwz_forms.specs.RawValues.{raw_view};
-ghost use Rattle.dwz_def_reading.specs.Classes;
 ghost use Rattle.dwz_def_reading.specs.Meanings.{number_of};
 ghost use Rattle.dwz_graph_pruning.specs.Stays;
-ghost use Rattle.dwz_graph.specs.Classes.{class_view};
 
+use dwz_codes::{Class, DW_AT_SIBLING, class_of, names_file};
 use dwz_forms::Raw;
-use dwz_graph::{Class, class_of, offset_of};
+use dwz_graph::offset_of;
 use dwz_model::Pair;
 
 /// What is known of a unit.
@@ -26,24 +25,9 @@ pub(crate) struct Known {
 // How many bytes a slot has.
 const SLOT: u64 = 4;
 
-// `DW_AT_sibling` (DWARF 5, 7.5.4) says nothing of its own.
-const SIBLING: u16 = 0x01;
-
-// `DW_AT_decl_file` and `DW_AT_call_file`.
-const DECL_FILE: u16 = 0x3a;
-
-const CALL_FILE: u16 = 0x58;
-
-#[inline(always)]
-fn names_file(name: u16) -> bool
-    ensures { result ≡ Classes.names_file name }
-{
-    name == DECL_FILE || name == CALL_FILE
-}
-
 #[inline(always)]
 fn asks_as(class: Class, strp: bool, name: u16) -> bool
-    ensures { result ≡ Stays.asks_as (class_view class) strp name }
+    ensures { result ≡ Stays.asks_as class strp name }
 {
     match class {
         Class::TextBySlot => true,
@@ -58,7 +42,7 @@ fn asks_as(class: Class, strp: bool, name: u16) -> bool
 pub(crate) fn asks(strp: bool, pair: &Pair) -> bool
     ensures { result ≡ Stays.asks strp pair.now }
 {
-    pair.name != SIBLING && asks_as(class_of(pair.form), strp, pair.name)
+    pair.name != DW_AT_SIBLING && asks_as(class_of(pair.form), strp, pair.name)
 }
 
 // The place of the slot of an index, where it has four bytes.
@@ -94,7 +78,7 @@ fn is_slot(slots: &[u32], base: Option<u32>, index: u128) -> bool
 #[inline(always)]
 fn stays_as(class: Class, slots: &[u32], base: Option<u32>, index: u128) -> bool
     requires { IsStrictlyIncreasing slots.now }
-    ensures { result ≡ Stays.stays_as (class_view class) slots.now base index }
+    ensures { result ≡ Stays.stays_as class slots.now base index }
 {
     match class {
         Class::TextBySlot => is_slot(slots, base, index),

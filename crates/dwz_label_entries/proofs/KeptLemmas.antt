@@ -5,10 +5,9 @@ use Rattle.std.proofs.lemmas.Bool.{cond-false, cond-true, eq-eqb, ne_eqb}
 use Rattle.std.proofs.lemmas.List.{drop_all}
 use Rattle.dwz_def_reading.specs.Input.{Input}
 use Rattle.dwz_def_reading.specs.Reading.{◌>>=◌}
-use Rattle.dwz_def_reading.specs.Forms.{form_rows}
 use Rattle.dwz_def_reading.specs.Entries.{RawAttr, attrs_at, in_entry, with_value}
 use Rattle.dwz_def_reading.specs.Meanings.{without_siblings}
-use Rattle.dwz_def_reading.specs.Values.{value_at}
+use Rattle.dwz_def_reading.specs.Values.{value_at, written_rows}
 use Rattle.dwz_def_reading.proofs.PartLemmas.{bind_ok, same_value}
 use Rattle.dwz_def_reading.proofs.ListFacts.{drop_pairs}
 use Rattle.dwz_label_entries.specs.Words.{kept}
@@ -34,14 +33,14 @@ kept_step : (a : RawAttr) (pairs : List Pair) (attrs : List RawAttr) (b : Bool) 
 kept_step a pairs attrs true e = e
 kept_step a pairs attrs false e = ap suc e
 
-read_kept : (entry : ℕ) (pairs : List Pair) (at behind : Input) (attrs : List RawAttr) → attrs_at form_rows entry pairs at ≡ Ok (attrs, behind) → kept pairs ≡ length (without_siblings attrs)
+read_kept : (entry : ℕ) (pairs : List Pair) (at behind : Input) (attrs : List RawAttr) → attrs_at written_rows entry pairs at ≡ Ok (attrs, behind) → kept pairs ≡ length (without_siblings attrs)
 unfolding attrs_at kept without_siblings
 read_kept entry [] at behind attrs e =
     let is : attrs ≡ [] = sym (same_value [] attrs at behind (Ok ([], at)) refl e) in
     ap (λ (w : List RawAttr). length (without_siblings w)) (sym is)
 read_kept entry (pair ∷ pairs) at behind attrs e =
-    let a = bind_ok (in_entry entry (value_at form_rows pair at)) (λ x. attrs_at form_rows entry pairs x.1 >>= with_value at.at x.1.at pair x.0) (attrs, behind) e in
-    let b = bind_ok (attrs_at form_rows entry pairs a.0.1) (with_value at.at a.0.1.at pair a.0.0) (attrs, behind) a.2 in
+    let a = bind_ok (in_entry entry (value_at written_rows pair at)) (λ x. attrs_at written_rows entry pairs x.1 >>= with_value at.at x.1.at pair x.0) (attrs, behind) e in
+    let b = bind_ok (attrs_at written_rows entry pairs a.0.1) (with_value at.at a.0.1.at pair a.0.0) (attrs, behind) a.2 in
     let first : RawAttr = record { at = at.at; end = a.0.1.at; pair = pair; raw = a.0.0 } in
     let same = same_value (first ∷ b.0.0) attrs b.0.1 behind (with_value at.at a.0.1.at pair a.0.0 b.0) refl b.2 in
     let rest = read_kept entry pairs a.0.1 b.0.1 b.0.0 b.1 in

@@ -21,9 +21,6 @@ use Rattle.dwz_def_reading.specs.Meant.{expr_said, file_by, list_by, list_from, 
 use Rattle.dwz_def_reading.specs.Meanings.{number_of, offset_of, stmt_list, str_offsets_base}
 use Rattle.dwz_def_reading.specs.Meant.{node_meaning, text_by, text_from, text_or}
 use Rattle.dwz_model.specs.declared.fault.Fault.{Fault}
-use Rattle.dwz_graph.specs.Classes.{class_view}
-use Rattle.dwz_graph.specs.declared.class.Class.{Class as ClassOfCode}
-use Rattle.dwz_graph.specs.declared.class.Class.TheVariants as code
 
 abbrev NoNumber : Result (Value ℕ) Fault → Type 0
 NoNumber r = (v : Value ℕ) → r ≡ Ok v → number_in v.plain ≡ None
@@ -101,28 +98,8 @@ no_number_as OfCommonEntry s a ne = of_common_entry a s.around.common
 no_number_as OfCommonText s a ne = of_common_text a s.around.common
 no_number_as Unread s a ne = of_err _
 
-is_constant : (k : ClassOfCode) → (k ≡ code.Constant → ⊥) → class_view k ≡ OfConstant → ⊥
-is_constant code.Constant ne e = ne refl
-is_constant code.Address ne e = cc
-is_constant code.Block ne e = cc
-is_constant code.Flag ne e = cc
-is_constant code.Text ne e = cc
-is_constant code.TextInStr ne e = cc
-is_constant code.TextInLineStr ne e = cc
-is_constant code.TextBySlot ne e = cc
-is_constant code.UnitEntry ne e = cc
-is_constant code.InfoEntry ne e = cc
-is_constant code.Signature ne e = cc
-is_constant code.Offset ne e = cc
-is_constant code.Expression ne e = cc
-is_constant code.ListIndex ne e = cc
-is_constant code.Index ne e = cc
-is_constant code.CommonEntry ne e = cc
-is_constant code.CommonText ne e = cc
-is_constant code.Unread ne e = cc
-
-pub no_number : (k : ClassOfCode) (s : MeaningContext ℕ) (a : RawAttr) (v : Value ℕ) → (k ≡ code.Constant → ⊥) → as_class (class_view k) s a ≡ Ok v → number_in v.plain ≡ None
-no_number k s a v ne e = no_number_as (class_view k) s a (is_constant k ne) v e
+pub no_number : (k : Class) (s : MeaningContext ℕ) (a : RawAttr) (v : Value ℕ) → (k ≡ OfConstant → ⊥) → as_class k s a ≡ Ok v → number_in v.plain ≡ None
+no_number k s a v ne e = no_number_as k s a ne v e
 
 -- the number of an attribute that numbers no file
 pub a_number : (s : MeaningContext ℕ) (a : RawAttr) (v : Value ℕ) → a.pair.name ≡ 0x13 → as_class OfConstant s a ≡ Ok v → number_in v.plain ≡ Some (number_of a.raw)

@@ -22,9 +22,6 @@ use Rattle.dwz_model.specs.declared.fault.Fault.{Fault}
 use Rattle.dwz_model.specs.declared.fault.Reason.TheVariants.{BadFile, BadReference}
 use Rattle.dwz_def_reading.specs.LineTables.{file_table_at}
 use Rattle.dwz_def_reading.proofs.PartLemmas.{bind_ok}
-use Rattle.dwz_graph.specs.Classes.{class_view}
-use Rattle.dwz_graph.specs.declared.class.Class.{Class as ClassOfCode}
-use Rattle.dwz_graph.specs.declared.class.Class.TheVariants as code
 use Rattle.dwz_graph.specs.Named.{refs_beside, value_refs}
 use Rattle.dwz_graph.specs.Parts.{numbers_file}
 use Rattle.dwz_graph.proofs.PlainBeside.{none_beside}
@@ -139,30 +136,30 @@ file_names s a (Some place) v e =
 
 -- ---- the class of a value
 
-pub as_is : (s : MeaningContext ℕ) (a : RawAttr) (v : Value ℕ) (k kind : ClassOfCode) → class_view k ≡ class_of a.pair.form → k ≡ kind → meaning s a ≡ Ok v → as_class (class_view kind) s a ≡ Ok v
+pub as_is : (s : MeaningContext ℕ) (a : RawAttr) (v : Value ℕ) (k kind : Class) → k ≡ class_of a.pair.form → k ≡ kind → meaning s a ≡ Ok v → as_class kind s a ≡ Ok v
 unfolding meaning
-as_is s a v k kind is same e = ap (λ (w : Class). as_class w s a) (sym (ap class_view same) ∙ is) ∙ e
+as_is s a v k kind is same e = ap (λ (w : Class). as_class w s a) (sym same ∙ is) ∙ e
 
-pub is_class : (a : RawAttr) (k kind : ClassOfCode) → class_view k ≡ class_of a.pair.form → k ≡ kind → class_of a.pair.form ≡ class_view kind
-is_class a k kind is same = sym is ∙ ap class_view same
+pub is_class : (a : RawAttr) (k kind : Class) → k ≡ class_of a.pair.form → k ≡ kind → class_of a.pair.form ≡ kind
+is_class a k kind is same = sym is ∙ same
 
-pub simple_is : (k : ClassOfCode) → (k ≡ code.Constant → ⊥) → (k ≡ code.UnitEntry → ⊥) → (k ≡ code.InfoEntry → ⊥) → (k ≡ code.Offset → ⊥) → (k ≡ code.Expression → ⊥) → (k ≡ code.ListIndex → ⊥)
-    → is_simple (class_view k) ≡ true
-simple_is code.Address a b c d e f = refl
-simple_is code.Block a b c d e f = refl
-simple_is code.Constant a b c d e f = absurd (a refl)
-simple_is code.Flag a b c d e f = refl
-simple_is code.Text a b c d e f = refl
-simple_is code.TextInStr a b c d e f = refl
-simple_is code.TextInLineStr a b c d e f = refl
-simple_is code.TextBySlot a b c d e f = refl
-simple_is code.UnitEntry a b c d e f = absurd (b refl)
-simple_is code.InfoEntry a b c d e f = absurd (c refl)
-simple_is code.Signature a b c d e f = refl
-simple_is code.Offset a b c d e f = absurd (d refl)
-simple_is code.Expression a b c d e f = absurd (e refl)
-simple_is code.ListIndex a b c d e f = absurd (f refl)
-simple_is code.Index a b c d e f = refl
-simple_is code.CommonEntry a b c d e f = refl
-simple_is code.CommonText a b c d e f = refl
-simple_is code.Unread a b c d e f = refl
+pub simple_is : (k : Class) → (k ≡ OfConstant → ⊥) → (k ≡ OfUnitEntry → ⊥) → (k ≡ OfInfoEntry → ⊥) → (k ≡ OfOffset → ⊥) → (k ≡ OfExpression → ⊥) → (k ≡ OfListIndex → ⊥)
+    → is_simple k ≡ true
+simple_is OfAddress a b c d e f = refl
+simple_is OfBlock a b c d e f = refl
+simple_is OfConstant a b c d e f = absurd (a refl)
+simple_is OfFlag a b c d e f = refl
+simple_is OfText a b c d e f = refl
+simple_is OfTextInStr a b c d e f = refl
+simple_is OfTextInLineStr a b c d e f = refl
+simple_is OfTextBySlot a b c d e f = refl
+simple_is OfUnitEntry a b c d e f = absurd (b refl)
+simple_is OfInfoEntry a b c d e f = absurd (c refl)
+simple_is OfSignature a b c d e f = refl
+simple_is OfOffset a b c d e f = absurd (d refl)
+simple_is OfExpression a b c d e f = absurd (e refl)
+simple_is OfListIndex a b c d e f = absurd (f refl)
+simple_is OfIndex a b c d e f = refl
+simple_is OfCommonEntry a b c d e f = refl
+simple_is OfCommonText a b c d e f = refl
+simple_is Unread a b c d e f = refl

@@ -12,13 +12,11 @@ ghost use Rattle.dwz_unit.specs.Rows.{EntryRow};
 
 use crate::source::{Scratch, Source};
 use crate::values::put_attr;
+use dwz_codes::DW_AT_SIBLING;
 use dwz_graph::Here;
 use dwz_label::put_number;
 use dwz_model::{NoMemory, Pair};
 use dwz_unit::{Values, known_value};
-
-// `DW_AT_sibling` (DWARF 5, 7.5.4).
-const SIBLING: u16 = 0x01;
 
 // How many attributes an entry has besides.
 fn count_of(pairs: &[Pair]) -> usize
@@ -26,7 +24,7 @@ fn count_of(pairs: &[Pair]) -> usize
 {
     let mut count: usize = 0;
     for pair in pairs {
-        if pair.name != SIBLING {
+        if pair.name != DW_AT_SIBLING {
             count += 1;
         }
     }

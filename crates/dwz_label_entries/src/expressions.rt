@@ -14,7 +14,7 @@ ghost use Rattle.dwz_def_reading.specs.Meanings;
 use crate::named::Named;
 use dwz_expr::{Operand, read_into};
 use dwz_label::{put_expression, put_number, put_operand, put_same};
-use dwz_model::{NoMemory, ReadErr};
+use dwz_model::{DEBUG_INFO, NoMemory, ReadErr};
 use std::alloc::AllocError;
 
 // The first bytes, as many as there are.
@@ -86,9 +86,6 @@ fn put_whole(out: &mut Vec<u8>, bytes: &[u8], at: u64, operands: &[Operand]) -> 
     Ok(())
 }
 
-// The section `.debug_info`.
-const INFO: u8 = 1;
-
 /// Appends that a value is an expression, whose bytes end at a place; and keeps its operands.
 pub(crate) fn put_expr(
     out: &mut Vec<u8>,
@@ -102,7 +99,7 @@ pub(crate) fn put_expr(
 {
     let at = end.saturating_sub(bytes.len() as u64);
     operands.clear();
-    match read_into(operands, bytes, at, INFO) {
+    match read_into(operands, bytes, at, DEBUG_INFO) {
         Err(ReadErr::NoMemory) => Err(AllocError),
         Err(ReadErr::Refused(_)) => Ok(Named::Next(0)),
         Ok(_) => {

@@ -7,22 +7,19 @@ ghost use Rattle.dwz_def_reading.specs.Entries.{RawAttr as RawAttrOfSpecs};
 ghost use Rattle.dwz_forms.specs.RawValues.{raw_view};
 ghost use Rattle.dwz_def_reading.specs.Meanings.{MeaningContext};
 ghost use Rattle.dwz_def_reading.specs.Meant.{as_class, node_meaning};
-ghost use Rattle.dwz_graph.specs.Classes.{class_view};
 ghost use Rattle.dwz_unit.specs.Rows.{EntryRow, rows_of, units_of};
 
 use crate::numbers::number_of;
+use dwz_codes::{Class, DW_AT_LANGUAGE, class_of};
 use dwz_forms::Raw;
-use dwz_graph::{Class, class_of, first_attr};
+use dwz_graph::first_attr;
 use dwz_unit::Units;
-
-// `DW_AT_language`.
-const LANGUAGE: u16 = 0x13;
 
 // The number that a value of that class is, of an attribute that numbers no file.
 #[tactic(auto, using(crate::proofs::LanguageLemmas::no_number))]
 fn number_as(class: Class, raw: &Raw) -> Option<i128>
     ensures { (s : MeaningContext ℕ) (a : RawAttrOfSpecs) (v : Value ℕ) → a.pair.name ≡ 0x13 → a.raw ≡ raw_view raw.now
-        → as_class (class_view class) s a ≡ Ok v → result ≡ number_in v.plain }
+        → as_class class s a ≡ Ok v → result ≡ number_in v.plain }
 {
     match class {
         Class::Constant => Some(number_of(raw)),
@@ -36,7 +33,7 @@ pub fn language_of(units: &Units, root: u32) -> Option<i128>
     ensures { (s : MeaningContext ℕ) (row : EntryRow) (d : Node ℕ) → slice_get (rows_of (units_of units.now)) root ≡ Some row
         → node_meaning s row.entry ≡ Ok d → result ≡ number_of_attr (first_named 0x13 d.attrs) }
 {
-    match first_attr(units, root, LANGUAGE) {
+    match first_attr(units, root, DW_AT_LANGUAGE) {
         None => None,
         Some(attr) => number_as(class_of(attr.pair.form), &attr.raw),
     }

@@ -7,6 +7,11 @@ ghost use Rattle.dwz_def_reading.specs.Meanings;
 ghost use Rattle.dwz_def_reading.specs.Meanings.{has};
 ghost use Rattle.dwz_def_reading.specs.Classes.{kept_width, unsigned_names};
 
+use dwz_codes::{
+    DW_AT_BYTE_SIZE, DW_AT_CALL_COLUMN, DW_AT_CALL_LINE, DW_AT_DATA_MEMBER_LOCATION,
+    DW_AT_DECL_COLUMN, DW_AT_DECL_LINE, DW_AT_ENCODING, DW_FORM_DATA1, DW_FORM_DATA2,
+    DW_FORM_DATA4, DW_FORM_DATA8, DW_FORM_FLAG_PRESENT,
+};
 use dwz_forms::Raw;
 
 /// The number that a value stores; 0 where it stores bytes.
@@ -37,13 +42,16 @@ pub(crate) fn bytes_of<'a>(raw: &Raw<'a>) -> &'a [u8]
 fn is_unsigned(name: u16) -> bool
     ensures { result ≡ has name unsigned_names }
 {
-    name == 0x0b
-        || name == 0x38
-        || name == 0x39
-        || name == 0x3b
-        || name == 0x3e
-        || name == 0x57
-        || name == 0x59
+    match name {
+        DW_AT_BYTE_SIZE
+        | DW_AT_DATA_MEMBER_LOCATION
+        | DW_AT_DECL_COLUMN
+        | DW_AT_DECL_LINE
+        | DW_AT_ENCODING
+        | DW_AT_CALL_COLUMN
+        | DW_AT_CALL_LINE => true,
+        _ => false,
+    }
 }
 
 #[inline(always)]
@@ -64,21 +72,18 @@ pub(crate) fn width_of(name: u16, form: u64, number: u128) -> u8
     ensures { result ≡ kept_width name form number }
 {
     match form {
-        0x0b => width_above(1, 0x80, name, number),
-        0x05 => width_above(2, 0x8000, name, number),
-        0x06 => width_above(4, 0x80000000, name, number),
-        0x07 => width_above(8, 0x8000000000000000, name, number),
+        DW_FORM_DATA1 => width_above(1, 0x80, name, number),
+        DW_FORM_DATA2 => width_above(2, 0x8000, name, number),
+        DW_FORM_DATA4 => width_above(4, 0x80000000, name, number),
+        DW_FORM_DATA8 => width_above(8, 0x8000000000000000, name, number),
         _ => 0,
     }
 }
-
-// `DW_FORM_flag_present`.
-const FLAG_PRESENT: u64 = 0x19;
 
 /// Whether a flag is set.
 #[inline(always)]
 pub(crate) fn is_set(form: u64, number: u128) -> bool
     ensures { result ≡ (form == 0x19 || not (number == 0)) }
 {
-    form == FLAG_PRESENT || number != 0
+    form == DW_FORM_FLAG_PRESENT || number != 0
 }

@@ -9,7 +9,6 @@ ghost use Rattle.dwz_def_reading.specs.Classes;
 ghost use Rattle.dwz_def_reading.specs.Meanings.{MeaningContext, str_offsets_base};
 ghost use Rattle.dwz_def_reading.specs.Classes.{OfConstant, OfInfoEntry, OfOffset, OfUnitEntry};
 ghost use Rattle.dwz_def_reading.specs.Meant.{as_class, meaning};
-ghost use Rattle.dwz_graph.specs.Classes.{class_view};
 ghost use Rattle.dwz_graph.specs.Resolved.{sources_view, stored};
 
 use crate::expressions::put_expr;
@@ -18,10 +17,10 @@ use crate::named::Named;
 use crate::numbers::{bytes_of, number_of, width_of};
 use crate::simple::put_simple;
 use crate::texts::put_file_by;
-use dwz_codes::{names_file, names_list};
+use dwz_codes::{Class, class_of, names_file, names_list};
 use dwz_expr::Operand;
 use dwz_forms::Raw;
-use dwz_graph::{Class, Here, InputSections, class_of, offset_of};
+use dwz_graph::{Here, InputSections, offset_of};
 use dwz_label::{put_num, put_offset, put_ref};
 use dwz_lines::FileTable;
 use dwz_model::{NoMemory, Pair};
@@ -38,9 +37,9 @@ fn put_alone(
     pair: &Pair,
     raw: &Raw,
 ) -> Result<Named, NoMemory>
-    ensures { (s : MeaningContext ℕ) (at end : ℕ) (v : Value ℕ) (operands : List OperandOfSpecs) → is_simple (class_view class) ≡ true
+    ensures { (s : MeaningContext ℕ) (at end : ℕ) (v : Value ℕ) (operands : List OperandOfSpecs) → is_simple class ≡ true
         → s.around.sources ≡ sources_view sections.now → s.around.common ≡ None → base ≡ str_offsets_base s
-        → as_class (class_view class) s (stored at end pair.now raw.now) ≡ Ok v
+        → as_class class s (stored at end pair.now raw.now) ≡ Ok v
         → IfOk result (λ named. TellsPlain s v operands out.old.items out.new.items named) }
 {
     put_simple(out, class, sections, base, pair, raw)?;

@@ -6,13 +6,13 @@ ghost use Rattle.dwz_label.specs.Labels.{plain_label};
 ghost use Rattle.dwz_def_reading.specs.Documents.{Value};
 ghost use Rattle.dwz_def_reading.specs.Meanings.{MeaningContext, str_offsets_base};
 ghost use Rattle.dwz_def_reading.specs.Meant.{as_class};
-ghost use Rattle.dwz_graph.specs.Classes.{class_view};
 ghost use Rattle.dwz_graph.specs.Resolved.{sources_view, stored};
 
 use crate::numbers::{bytes_of, is_set};
 use crate::texts::{put_text_at, put_text_by_slot};
+use dwz_codes::Class;
 use dwz_forms::Raw;
-use dwz_graph::{Class, InputSections, offset_of};
+use dwz_graph::{InputSections, offset_of};
 use dwz_label::{put_address, put_block, put_flag, put_index, put_signature, put_text};
 use dwz_model::{NoMemory, Pair};
 
@@ -26,9 +26,9 @@ pub(crate) fn put_simple(
     pair: &Pair,
     raw: &Raw,
 ) -> Result<(), NoMemory>
-    ensures { (s : MeaningContext ℕ) (at end : ℕ) (v : Value ℕ) → is_simple (class_view class) ≡ true
+    ensures { (s : MeaningContext ℕ) (at end : ℕ) (v : Value ℕ) → is_simple class ≡ true
         → s.around.sources ≡ sources_view sections.now
-        → s.around.common ≡ None → base ≡ str_offsets_base s → as_class (class_view class) s (stored at end pair.now raw.now) ≡ Ok v
+        → s.around.common ≡ None → base ≡ str_offsets_base s → as_class class s (stored at end pair.now raw.now) ≡ Ok v
         → OnOk result (out.new.items ≡ out.old.items ++ plain_label v.plain) }
 {
     let offset = offset_of(raw);

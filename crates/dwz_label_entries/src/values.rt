@@ -15,6 +15,7 @@ ghost use Rattle.dwz_graph.specs.Resolved.{stored};
 use crate::plain::put_plain;
 use crate::refs::{behind_refs, put_refs};
 use crate::source::{Scratch, Source};
+use dwz_codes::DW_AT_SIBLING;
 use dwz_forms::Raw;
 use dwz_graph::Here;
 use dwz_label::put_number;
@@ -68,9 +69,6 @@ fn put_value(
     Ok(behind_refs(source.refs, next, named))
 }
 
-// `DW_AT_sibling` (DWARF 5, 7.5.4).
-const SIBLING: u16 = 0x01;
-
 /// Appends what an attribute says. `DW_AT_sibling` says nothing.
 pub(crate) fn put_attr(
     source: &Source,
@@ -92,7 +90,7 @@ pub(crate) fn put_attr(
         → IfOk result (λ behind. TellsAttr (raw_of source.now) (scope_at source.now u) values name attrs (drop next source.now.refs.now)
         (drop behind source.now.refs.now) out.old.items out.new.items) }
 {
-    if pair.name == SIBLING {
+    if pair.name == DW_AT_SIBLING {
         return Ok(next);
     }
     put_number(out, pair.name as u128)?;

@@ -17,7 +17,7 @@ use Rattle.dwz_graph.specs.Named.{attrs_refs}
 use Rattle.dwz_def_reading.specs.Lists.{Each}
 use Rattle.dwz_unit.specs.Rows.{EntryRow}
 use Rattle.dwz_def_encoding.specs.Carried.{IsStored}
-use Rattle.dwz_def_encoding.specs.Placing.{Fit, UnitRole}
+use Rattle.dwz_def_encoding.specs.Placing.{UnitForms, UnitRole}
 use Rattle.dwz_layout.specs.declared.known.ValueCounts.{ValueCounts}
 use Rattle.dwz_layout.specs.declared.known.EntryTable.{EntryTable}
 use Rattle.dwz_layout.specs.declared.walk.Origin.TheVariants.{Read as OfRow}
@@ -31,7 +31,7 @@ use Rattle.dwz_encode.specs.Shown.{Keys, attr_held, held_of, line_held, slot_hel
 use Rattle.dwz_law_layout.specs.Knows.{FileRead, IsRead, KnowsEntry, KnowsFile, NewNumbers, files_in, firsts_at, given_attr, given_node, texts_in}
 use Rattle.dwz_law_layout.proofs.ValueFits.{IsKnown, value_fits}
 
-module _ (keys : Keys EntryName) (k : EntryTable) (f : FileRead) (here : WritingContext) (ft : Fit EntryName) (rn : NewNumbers) (h : UnitRole) (here_is : here.holder ≡ h) (fit_is : ft.holder ≡ h)
+module _ (keys : Keys EntryName) (k : EntryTable) (f : FileRead) (here : WritingContext) (ft : UnitForms EntryName) (rn : NewNumbers) (h : UnitRole) (here_is : here.holder ≡ h) (fit_is : ft.holder ≡ h)
   where
     -- DW_AT_sibling is dropped
     dropped : (next : ValueCounts) (a : RawAttr) (attrs : List RawAttr) → a.pair.name ≡ 0x01 → out_attrs k f.number here next (a ∷ attrs) ≡ out_attrs k f.number here next attrs

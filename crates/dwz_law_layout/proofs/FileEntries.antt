@@ -10,7 +10,7 @@ use Rattle.dwz_def_reading.specs.Documents.{Doc, Node}
 use Rattle.dwz_def_reading.specs.Files.{around_of}
 use Rattle.dwz_def_reading.specs.Meanings.{scope_of}
 use Rattle.dwz_def_reading.proofs.MeaningUnits.{node_agrees}
-use Rattle.dwz_def_tops.specs.Spots.{EntryName}
+use Rattle.dwz_def_tops.specs.Spots.{EntryName, no_name}
 use Rattle.dwz_def_plan.specs.Plan.{image}
 use Rattle.dwz_def_images.specs.After.{at_file}
 use Rattle.dwz_def_readback.specs.Files.{name_after}
@@ -42,7 +42,7 @@ use Rattle.dwz_layout.specs.Known.{no_firsts, number_of, reference_at}
 use Rattle.dwz_law_layout.specs.Knows.{EachFrom, IsNamed, IsRead, firsts_at}
 use Rattle.dwz_law_layout.specs.Facts.{AreFacts, RunFacts, docs, file_read, rule, run, units}
 use Rattle.dwz_law_layout.specs.Listed.{AreListed, IsListed, TextsAt, firsts_from, none_before}
-use Rattle.dwz_law_layout.specs.Named.{keys, no_name}
+use Rattle.dwz_law_layout.specs.Named.{keys}
 use Rattle.dwz_law_layout.proofs.Walks.{before_at, each_from, rows_at}
 
 -- The file with that number, with its index: where its entries begin among all, and what the lists have of it.

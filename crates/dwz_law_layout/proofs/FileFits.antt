@@ -3,7 +3,7 @@ use Rattle.std.proofs.Common.{◌≡◌, ℕ, suc, ◌+◌, List, [], ◌∷◌,
 use Rattle.dwz_def_reading.specs.Documents.{DwUnit}
 use Rattle.dwz_def_tops.specs.Spots.{EntryName}
 use Rattle.dwz_def_tops.specs.Shown.{units_keys}
-use Rattle.dwz_def_encoding.specs.Placing.{FileFit, Forms, fit_unit, fit_units, with_keys}
+use Rattle.dwz_def_encoding.specs.Placing.{Forms, KeyedForms, fit_unit, fit_units, with_keys}
 use Rattle.dwz_def_encoding.specs.Pruned.{renumbered_unit, renumbered_units}
 use Rattle.dwz_layout.specs.declared.known.EntryTable.{EntryTable}
 use Rattle.dwz_layout.specs.declared.order.UnitItems.{UnitItems}
@@ -13,7 +13,7 @@ use Rattle.dwz_law_layout.specs.Fitted.{KnowFiles, KnowUnits, Unfitted, fitted_f
 use Rattle.dwz_law_layout.proofs.UnitFits.{unit_fits}
 
 module _ (keys : Keys EntryName) (k : EntryTable) where
-  units_fit : (ff : FileFit EntryName) (rn : NewNumbers) (here : ℕ) (order : List UnitItems) (units : List (DwUnit EntryName)) → KnowUnits keys k ff rn here order units
+  units_fit : (ff : KeyedForms EntryName) (rn : NewNumbers) (here : ℕ) (order : List UnitItems) (units : List (DwUnit EntryName)) → KnowUnits keys k ff rn here order units
       → ShowUnits keys k here order (map (given_unit ff rn) units)
   units_fit ff rn here [] [] known = tt
   units_fit ff rn here [] (u ∷ units) known = absurd known
@@ -22,7 +22,7 @@ module _ (keys : Keys EntryName) (k : EntryTable) where
       let x = known.0 in
       (unit_fits keys k x.files ff rn here o x.names u x.known x.common x.sort x.root x.order, units_fit ff rn (suc here) order units known.1)
 
-  renumbered_all : (ff : FileFit EntryName) (number : ℕ → ℕ) (units : List (DwUnit EntryName)) → map (renumbered_unit number) (map (fit_unit ff) units) ≡ map (given_unit ff (Some number)) units
+  renumbered_all : (ff : KeyedForms EntryName) (number : ℕ → ℕ) (units : List (DwUnit EntryName)) → map (renumbered_unit number) (map (fit_unit ff) units) ≡ map (given_unit ff (Some number)) units
   renumbered_all ff number [] = refl
   renumbered_all ff number (u ∷ units) = ap (λ (w : List (DwUnit EntryName)). given_unit ff (Some number) u ∷ w) (renumbered_all ff number units)
 

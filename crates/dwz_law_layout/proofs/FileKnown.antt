@@ -5,7 +5,7 @@ use Rattle.dwz_def_reading.proofs.ListFacts.{get_first}
 use Rattle.dwz_def_reading.specs.Documents.{DwUnit}
 use Rattle.dwz_def_tops.specs.Spots.{EntryName}
 use Rattle.dwz_def_images.specs.Units.{out_units}
-use Rattle.dwz_def_encoding.specs.Placing.{FileFit}
+use Rattle.dwz_def_encoding.specs.Placing.{KeyedForms}
 use Rattle.dwz_unit.specs.Rows.{units_of as raw_units}
 use Rattle.dwz_graph.specs.declared.file.File.{File}
 use Rattle.dwz_graph.specs.Index.{Index}
@@ -22,8 +22,8 @@ use Rattle.dwz_law_layout.specs.Facts.{AreFacts, HasFile, RunFacts, move, units,
 use Rattle.dwz_law_layout.specs.Listed.{AreListed, TextsAt}
 use Rattle.dwz_law_layout.specs.Named.{keys}
 use Rattle.dwz_law_layout.specs.Settled.{IsSettled}
-use Rattle.dwz_law_layout.specs.Unfitted.{KnowTexts}
-use Rattle.dwz_law_layout.specs.ShownKept.{AreWrittenFrom, fit_of, olds_after}
+use Rattle.dwz_law_layout.specs.Unfitted.{KnowTexts, file_keyed_forms}
+use Rattle.dwz_law_layout.specs.ShownKept.{AreWrittenFrom, olds_after}
 use Rattle.dwz_law_layout.proofs.UnitsKnown.{kept_known}
 use Rattle.dwz_law_layout.specs.ShownParts.{parts_after}
 use Rattle.dwz_law_layout.proofs.PartHomes.{file_changed}
@@ -31,7 +31,7 @@ use Rattle.dwz_law_layout.proofs.PartsKnown.{local_long, parts_known}
 
 -- ---- some units and those behind them
 
-know_append : (names : Keys EntryName) (k : EntryTable) (ff : FileFit EntryName) (rn : NewNumbers) (here : ℕ) (xs ys : List UnitItems) (us vs : List (DwUnit EntryName))
+know_append : (names : Keys EntryName) (k : EntryTable) (ff : KeyedForms EntryName) (rn : NewNumbers) (here : ℕ) (xs ys : List UnitItems) (us vs : List (DwUnit EntryName))
     → KnowUnits names k ff rn here xs us
     → KnowUnits names k ff rn (here + length xs) ys vs → KnowUnits names k ff rn here (xs ++ ys) (us ++ vs)
 know_append names k ff rn here [] ys [] vs first later = (let none : here + 0 ≡ here = omega arith in subst (λ (n : ℕ). KnowUnits names k ff rn n ys vs) none later)
@@ -43,7 +43,7 @@ know_append names k ff rn here (x ∷ xs) ys (u ∷ us) vs first later = (
       (let next : here + suc (length xs) ≡ suc here + length xs = omega arith in subst (λ (n : ℕ). KnowUnits names k ff rn n ys vs) next later),
 )
 
-pub know_count : (names : Keys EntryName) (k : EntryTable) (ff : FileFit EntryName) (rn : NewNumbers) (here : ℕ) (xs : List UnitItems) (us : List (DwUnit EntryName))
+pub know_count : (names : Keys EntryName) (k : EntryTable) (ff : KeyedForms EntryName) (rn : NewNumbers) (here : ℕ) (xs : List UnitItems) (us : List (DwUnit EntryName))
     → KnowUnits names k ff rn here xs us
     → length xs ≡ length us
 know_count names k ff rn here [] [] known = refl
@@ -62,7 +62,7 @@ module _ (f : RunFacts) (t : TextsAt) (k : EntryTable) (facts : AreFacts f) (lis
   pub file_known : (n : ℕ) (bytes : List ℕ) (x : File) (index : Index) → HasFile f n bytes x index → slice_index_or (written f) n false ≡ true
       → (start : ℕ) → slice_get (starts_from 0 f.indexes) n ≡ Some start → (rn : NewNumbers) (here : ℕ) (order : List UnitItems)
       → FilePut s (raw_units x.units) (from_index n start index) (next_index index) order → AreWrittenFrom f here (out_units (move f) (units f) n)
-      → KnowTexts f k rn n order (out_units (move f) (units f) n) → KnowUnits (keys f) k (fit_of f n) rn here order (out_units (move f) (units f) n)
+      → KnowTexts f k rn n order (out_units (move f) (units f) n) → KnowUnits (keys f) k (file_keyed_forms f n) rn here order (out_units (move f) (units f) n)
   unfolding out_units
   file_known n bytes x index h w start at rn here order put there texts =
       let ps = parts_after f n in
@@ -73,4 +73,4 @@ module _ (f : RunFacts) (t : TextsAt) (k : EntryTable) (facts : AreFacts f) (lis
       let later = kept_known f t k s facts listed settled n bytes x index h w start at rn (here + length put.parts) put.olds put.olds_kept
       (λ j u e. (let far : here + (length ps + j) ≡ (here + length put.parts) + j = omega (arith, long) in
       subst (λ (q : ℕ). slice_get (units_written f) q ≡ Some u) far (there (length ps + j) u (get_later ps os j u e)))) split.1 in
-      subst (λ (v : List UnitItems). KnowUnits (keys f) k (fit_of f n) rn here v (ps ++ os)) (sym put.order_is) (know_append (keys f) k (fit_of f n) rn here put.parts put.olds ps os first later)
+      subst (λ (v : List UnitItems). KnowUnits (keys f) k (file_keyed_forms f n) rn here v (ps ++ os)) (sym put.order_is) (know_append (keys f) k (file_keyed_forms f n) rn here put.parts put.olds ps os first later)

@@ -8,11 +8,8 @@ use Rattle.dwz_def_reading.proofs.CaseFacts.{ok_same}
 use Rattle.dwz_def_reading.specs.Documents.{Doc, DwUnit}
 use Rattle.dwz_def_reading.specs.Files.{Limits, file_meaning, limits_after, no_files_before}
 use Rattle.dwz_def_reading.specs.Meanings.{IfSo}
-use Rattle.dwz_def_tops.specs.Shown.{units_keys}
 use Rattle.dwz_def_tops.specs.Spots.{EntryName, file_numbers}
 use Rattle.dwz_def_images.specs.Units.{changes, common_units, file_units, out_units}
-use Rattle.dwz_def_encoding.specs.Placing.{with_keys}
-use Rattle.dwz_def_readback.specs.Files.{common_forms}
 use Rattle.dwz_unit.specs.Rows.{units_of as raw_units}
 use Rattle.dwz_graph.specs.declared.file.File.{File}
 use Rattle.dwz_graph.specs.Files.{AreRead, IsRead}
@@ -32,12 +29,12 @@ use Rattle.dwz_layout.specs.declared.known.TextAt.{TextAt}
 use Rattle.dwz_layout.specs.declared.order.UnitItems.{UnitItems}
 use Rattle.dwz_law_layout.specs.Fitted.{KnowFiles}
 use Rattle.dwz_law_layout.specs.Knows.{NewNumbers}
-use Rattle.dwz_law_layout.specs.Facts.{AreFacts, HasFile, RunFacts, docs, files_written, move, run, units, units_written, written}
+use Rattle.dwz_law_layout.specs.Facts.{AreFacts, HasFile, RunFacts, docs, files_written, move, units, units_written, written}
 use Rattle.dwz_law_layout.specs.Listed.{AreListed, AreRows, TextsAt}
 use Rattle.dwz_law_layout.specs.Named.{keys}
 use Rattle.dwz_law_layout.specs.Settled.{IsSettled}
-use Rattle.dwz_law_layout.specs.Unfitted.{KnowCommon, before_forms, unfitted_file}
-use Rattle.dwz_law_layout.specs.ShownKept.{AreWrittenFrom, fit_of}
+use Rattle.dwz_law_layout.specs.Unfitted.{KnowCommon, before_forms, common_keyed_forms, file_keyed_forms, unfitted_file}
+use Rattle.dwz_law_layout.specs.ShownKept.{AreWrittenFrom}
 use Rattle.dwz_law_layout.specs.Laid.{FilesTexts, NoneKnownLaw, RunKnownLaw, TextsKnown}
 use Rattle.dwz_law_layout.proofs.FileKnown.{file_known, know_count}
 use Rattle.dwz_law_layout.proofs.PartsKnown.{common_known, common_long}
@@ -152,7 +149,7 @@ module _ (f : RunFacts) (t : TextsAt) (k : EntryTable) (facts : AreFacts f) (lis
           let at = ap (slice_get (starts_from 0 f.indexes)) (sym none) ∙ starts 0 start refl in
           let first = file_known f t k facts listed s settled n o.0 x index (subst (λ (q : ℕ). HasFile f q o.0 x index) none o.1) w start at (numbers n) here order put.0
           (λ j u e. there j u (get_first own others j u e)) texts.0 in
-          let long = know_count (keys f) k (fit_of f n) (numbers n) here order own first in (
+          let long = know_count (keys f) k (file_keyed_forms f n) (numbers n) here order own first in (
             first,
             rest (here + length order) orders put.1
                 (λ j u e. (let far : here + (length own + j) ≡ (here + length order) + j = omega (arith, long) in
@@ -195,7 +192,7 @@ run_known f t k s facts listed settled orders put numbers texts =
     let common = common_known f t k s facts listed settled put.common (common_put f t k facts listed s orders put) told.0 in
     let units_common = common_units (move f) in
     let units_others = file_units (move f) (units f) (files_written f) in
-    let long = know_count (keys f) k (with_keys (common_forms (run f)) (units_keys units_common)) None 0 put.common units_common common in
+    let long = know_count (keys f) k (common_keyed_forms f) None 0 put.common units_common common in
     let others = known_from f t k facts listed s settled numbers 0 0 (0 + length put.common) (docs f) f.files f.indexes put.others (indexes_long f t k facts listed)
     (λ j x index e g. (let o = is_among f.contents f.files f.indexes j x index facts.kept facts.indexed e g in
     (o.bytes, subst (λ (q : ℕ). HasFile f q o.bytes x index) (sym (first j)) (record { file = e; index_is = g; read = o.is.kept }))))

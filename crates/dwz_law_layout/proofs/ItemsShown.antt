@@ -15,7 +15,7 @@ use Rattle.dwz_def_plan.specs.Homes.{Common, Local}
 use Rattle.dwz_def_plan.specs.Moves.{Move, image_in}
 use Rattle.dwz_def_plan.proofs.UserLemmas.{stay_fixed}
 use Rattle.dwz_def_images.specs.Units.{changes, kept_unit, out_units}
-use Rattle.dwz_def_encoding.specs.Placing.{Fit}
+use Rattle.dwz_def_encoding.specs.Placing.{UnitForms}
 use Rattle.dwz_graph.specs.declared.file.File.{File}
 use Rattle.dwz_graph.specs.Index.{Index}
 use Rattle.dwz_layout_order.specs.Spaces.{spaces_below}
@@ -34,7 +34,7 @@ use Rattle.dwz_law_layout.specs.Knows.{FileRead, KnowsFile, NewNumbers, ShowsImp
 use Rattle.dwz_law_layout.specs.Facts.{AreFacts, HasFile, RunFacts, docs, file_read, move, rule, units, units_written}
 use Rattle.dwz_law_layout.specs.Listed.{AreListed, TextsAt}
 use Rattle.dwz_law_layout.specs.Named.{keys, old_number, root_name, unit_name}
-use Rattle.dwz_law_layout.specs.Unfitted.{fit_in}
+use Rattle.dwz_law_layout.specs.Unfitted.{file_unit_forms}
 use Rattle.dwz_law_layout.proofs.ImagesStand.{old}
 use Rattle.dwz_law_layout.proofs.LayoutLemmas.{knows_file}
 use Rattle.dwz_law_layout.proofs.UnitsReach.{own_part, part_number}
@@ -119,8 +119,8 @@ module _ (f : RunFacts) (t : TextsAt) (k : EntryTable) (facts : AreFacts f) (lis
     -- ---- where the unit has that number among all that are written
 
     module _ (changed : changes (move f) (units f) n ≡ true) (here : ℕ) (at : slice_get (units_written f) here ≡ Some kept) (is : In kept (out_units (move f) (units f) n)) where
-      abbrev ft : Fit EntryName
-      ft = fit_in f n kept
+      abbrev ft : UnitForms EntryName
+      ft = file_unit_forms f n kept
 
       import_shown : (part : ℕ) → IsUsedBy (move f).parts i part → ShowsImport (keys f) k here ft part (names.import part)
       import_shown part w =

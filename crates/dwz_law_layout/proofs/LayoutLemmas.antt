@@ -23,7 +23,7 @@ use Rattle.dwz_law_layout.specs.Facts.{AreFacts, HasFile, RunFacts, file_read, m
 use Rattle.dwz_law_layout.specs.Listed.{AreListed, TextsAt}
 use Rattle.dwz_law_layout.specs.Named.{keys}
 use Rattle.dwz_law_layout.specs.NamedLaws.{IsItself, entry_name}
-use Rattle.dwz_law_layout.specs.OwnedLaws.{common_fit, file_fit}
+use Rattle.dwz_law_layout.specs.Unfitted.{common_unit_forms, file_unit_forms}
 use Rattle.dwz_law_layout.proofs.EntriesReach.{Reaches, reached}
 use Rattle.dwz_law_layout.proofs.FileEntries.{IsHere, LeadsTo, below, each_reference, entry_named, from, here, key_is, name_there, named, number_is, read_name, references_named}
 use Rattle.dwz_law_layout.proofs.OwnedEntries.{entry_owned}
@@ -84,7 +84,7 @@ module _ (f : RunFacts) (t : TextsAt) (k : EntryTable) (facts : AreFacts f) (lis
     leads_key j p w = key_is f k n x index o (number j) (name_of p) w.there
 
     pub from_common : (here : ℕ) (u : DwUnit EntryName) → slice_get (units_written f) here ≡ Some u → In u (common_units (move f)) → (j p : ℕ) → Leads j p
-        → IsReached (keys f) k here (common_fit f u) (number j)
+        → IsReached (keys f) k here (common_unit_forms f u) (number j)
     from_common here u e is j p w =
         let key = leads_key j p w in
         let reach = leads_reach j p w in
@@ -94,7 +94,7 @@ module _ (f : RunFacts) (t : TextsAt) (k : EntryTable) (facts : AreFacts f) (lis
         }
 
     pub from_file : (here : ℕ) (u : DwUnit EntryName) → slice_get (units_written f) here ≡ Some u → In u (out_units (move f) (units f) n) → (j p : ℕ) → Leads j p
-        → IsReached (keys f) k here (file_fit f n u) (number j)
+        → IsReached (keys f) k here (file_unit_forms f n u) (number j)
     from_file here u e is j p w =
         let key = leads_key j p w in
         let reach = leads_reach j p w in
@@ -105,15 +105,15 @@ module _ (f : RunFacts) (t : TextsAt) (k : EntryTable) (facts : AreFacts f) (lis
         }
 
   pub common_owners : changes (move f) (units f) n ≡ true → (here : ℕ) (u : DwUnit EntryName) → slice_get (units_written f) here ≡ Some u → In u (common_units (move f))
-      → (items : UnitItems) → KnowsOwners (keys f) k (file_read f n bytes x) here items (common_fit f u)
+      → (items : UnitItems) → KnowsOwners (keys f) k (file_read f n bytes x) here items (common_unit_forms f u)
   common_owners changed here u e is items = record {
     are = λ i r d read writes. each_reference f k n x index o bytes i r d read h.read.read.parts h.read.read.within
-        (λ m p. IsReached (keys f) k here (common_fit f u) (reference_at k n m)) (λ j p w. from_common changed i r d read here u e is j p w);
+        (λ m p. IsReached (keys f) k here (common_unit_forms f u) (reference_at k n m)) (λ j p w. from_common changed i r d read here u e is j p w);
   }
 
   pub file_owners : changes (move f) (units f) n ≡ true → (here : ℕ) (u : DwUnit EntryName) → slice_get (units_written f) here ≡ Some u → In u (out_units (move f) (units f) n)
-      → (items : UnitItems) → KnowsOwners (keys f) k (file_read f n bytes x) here items (file_fit f n u)
+      → (items : UnitItems) → KnowsOwners (keys f) k (file_read f n bytes x) here items (file_unit_forms f n u)
   file_owners changed here u e is items = record {
     are = λ i r d read writes. each_reference f k n x index o bytes i r d read h.read.read.parts h.read.read.within
-        (λ m p. IsReached (keys f) k here (file_fit f n u) (reference_at k n m)) (λ j p w. from_file changed i r d read here u e is j p w);
+        (λ m p. IsReached (keys f) k here (file_unit_forms f n u) (reference_at k n m)) (λ j p w. from_file changed i r d read here u e is j p w);
   }

@@ -25,7 +25,7 @@ use Rattle.dwz_def_reading.specs.Lists.{Each}
 use Rattle.dwz_def_tops.specs.Spaces.{space_text, text_of_plain, text_value}
 use Rattle.dwz_unit.specs.Rows.{EntryRow}
 use Rattle.dwz_def_encoding.specs.Carried.{IsStored}
-use Rattle.dwz_def_encoding.specs.Placing.{CommonUnit, Fit, NewUnit, OldUnit, UnitRole, as_line_text, as_slot}
+use Rattle.dwz_def_encoding.specs.Placing.{CommonUnit, NewUnit, OldUnit, UnitForms, UnitRole, as_line_text, as_slot}
 use Rattle.dwz_def_encoding.proofs.StoredClasses.{stores_bytes}
 use Rattle.dwz_layout.specs.declared.known.EntryTable.{EntryTable}
 use Rattle.dwz_layout.specs.declared.known.Row.{Row}
@@ -46,7 +46,7 @@ use Rattle.dwz_law_layout.proofs.FormFits.{as_value, text_in_form}
 
 -- ---- a value that is a text
 
-module _ (keys : Keys EntryName) (ft : Fit EntryName) (rn : NewNumbers) (h : UnitRole) (fit_is : ft.holder ≡ h) (t : TextAt) (text : List ℕ) (s : MeaningContext ℕ) (a : RawAttr) (stored : IsStored a)
+module _ (keys : Keys EntryName) (ft : UnitForms EntryName) (rn : NewNumbers) (h : UnitRole) (fit_is : ft.holder ≡ h) (t : TextAt) (text : List ℕ) (s : MeaningContext ℕ) (a : RawAttr) (stored : IsStored a)
     (v :
     Value ℕ)
     (named : a.pair.name ≡ 0x03) (is : text_of_plain v.plain ≡ Some text) where
@@ -225,7 +225,7 @@ has_name d text e = go (eqb d.tag 0x39) e where
   go true z = at (first_named 0x03 d.attrs) refl z
   go false z = absurd (let w : None ≡ Some text = z in cc)
 
-pub space_fits : (keys : Keys EntryName) (k : EntryTable) (f : FileRead) (ft : Fit EntryName) (rn : NewNumbers) (h : UnitRole) → ft.holder ≡ h
+pub space_fits : (keys : Keys EntryName) (k : EntryTable) (f : FileRead) (ft : UnitForms EntryName) (rn : NewNumbers) (h : UnitRole) → ft.holder ≡ h
     → (file : KnowsFile k f) (space : SpaceRow) (i : ℕ) (x : EntryRow) (d : Node ℕ) (text : List ℕ) → space.row ≡ row f.number i → IsRead f i x d → space_text d ≡ Some text
     → IsText ft rn (name_attr (name_of text d)) (text_held h space)
     → map (attr_held keys) (space_attrs k h space) ≡ held_of (given_attr ft rn (name_attr (name_of text d))) ∷ []

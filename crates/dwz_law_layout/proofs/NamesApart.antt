@@ -11,7 +11,7 @@ use Rattle.dwz_def_tops.specs.Lists.{Nth}
 use Rattle.dwz_def_tops.specs.Seen.{IsPartial}
 use Rattle.dwz_def_tops.specs.Shown.{units_keys}
 use Rattle.dwz_def_tops.proofs.Members.{each_append, each_in, each_of, in_map_from}
-use Rattle.dwz_def_tops.specs.Spots.{EntryName, FileUnit, rows_of_root}
+use Rattle.dwz_def_tops.specs.Spots.{EntryName, FileUnit, no_name, rows_of_root}
 use Rattle.dwz_def_plan.specs.Homes.{Common, Home, Local}
 use Rattle.dwz_def_plan.specs.Moves.{image_in}
 use Rattle.dwz_def_images.specs.After.{IsNamedBelow}
@@ -37,7 +37,7 @@ use Rattle.dwz_law_layout.specs.Refers.{RowsApart}
 use Rattle.dwz_law_layout.proofs.HeldNames.{each_to_map}
 use Rattle.dwz_law_layout.specs.Facts.{AreFacts, RunFacts, docs, files_written, move, run, units}
 use Rattle.dwz_law_layout.specs.Listed.{AreAllOwners, AreListed, TextsAt}
-use Rattle.dwz_law_layout.specs.Named.{keys, no_name}
+use Rattle.dwz_law_layout.specs.Named.{keys}
 use Rattle.dwz_law_layout.proofs.ImagesStand.{old}
 use Rattle.dwz_law_layout.specs.Laid.{written_out}
 use Rattle.dwz_law_layout.proofs.EntryNames.{IsOfEntry, is_of_entry}

@@ -15,7 +15,7 @@ use Rattle.dwz_def_plan.specs.Moves.{first_unit, image_in}
 use Rattle.dwz_def_plan.specs.Plan.{PartialUnit}
 use Rattle.dwz_def_images.specs.Units.{partial_unit}
 use Rattle.dwz_def_images.proofs.HeldLemmas.{row_found}
-use Rattle.dwz_def_encoding.specs.Placing.{FileFit, Fit, unit_fit}
+use Rattle.dwz_def_encoding.specs.Placing.{KeyedForms, UnitForms, unit_forms}
 use Rattle.dwz_graph.specs.declared.file.File.{File}
 use Rattle.dwz_graph.specs.Index.{Index}
 use Rattle.dwz_layout_order.specs.Lists.{all_spaces, all_tops, rows_from, spaces_at}
@@ -54,18 +54,18 @@ name_same : (said name : SpaceName) → said ≡ name → record { name = 0x03; 
 name_same said name e = ap (λ (w : SpaceName). name_attr w ∷ []) e
 
 module _ (f : RunFacts) (t : TextsAt) (k : EntryTable) (facts : AreFacts f) (listed : AreListed f t k) (s : Settled) (settled : IsSettled f s)
-    (n : ℕ) (bytes : List ℕ) (x : File) (index : Index) (h : HasFile f n bytes x index) (ff : FileFit EntryName) (numbers : NewNumbers) where
+    (n : ℕ) (bytes : List ℕ) (x : File) (index : Index) (h : HasFile f n bytes x index) (ff : KeyedForms EntryName) (numbers : NewNumbers) where
   abbrev F : FileRead
   F = file_read f n bytes x
 
   -- the unit that its tops are of is one of the file
   module _ (p : ℕ) (part : PartialUnit) (nth : Nth 0 (move f).parts p part) (first : (v : FileUnit EntryName) → Nth 0 (units f) (first_unit part.tops) v → v.file ≡ n) (o : UnitItems) (here : ℕ)
-      (at : slice_get (units_written f) here ≡ Some (partial_unit (move f) p)) (texts : KnowsTextsOf f k (unit_fit ff (partial_unit (move f) p)) numbers n o) where
+      (at : slice_get (units_written f) here ≡ Some (partial_unit (move f) p)) (texts : KnowsTextsOf f k (unit_forms ff (partial_unit (move f) p)) numbers n o) where
     abbrev u : DwUnit EntryName
     u = partial_unit (move f) p
 
-    abbrev ft : Fit EntryName
-    ft = unit_fit ff u
+    abbrev ft : UnitForms EntryName
+    ft = unit_forms ff u
 
     abbrev mine : Names EntryName
     mine = names (move f) (units f) p

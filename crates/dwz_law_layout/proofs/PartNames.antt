@@ -6,7 +6,7 @@ use Rattle.dwz_def_reading.specs.Trees.{End}
 use Rattle.dwz_def_reading.specs.Documents.{Entries, Node, entries_map, node_map}
 use Rattle.dwz_def_tops.proofs.Members.{each_of}
 use Rattle.dwz_def_tops.specs.Deciding.{top_in}
-use Rattle.dwz_def_tops.specs.Spots.{EntryName, FileUnit, Top, tops_of}
+use Rattle.dwz_def_tops.specs.Spots.{EntryName, FileUnit, Top, no_name, tops_of}
 use Rattle.dwz_def_tops.proofs.TopNumbers.{finds, tops_numbers}
 use Rattle.dwz_layout_items.specs.Chains.{NamesPartial}
 use Rattle.dwz_layout_items.specs.Order.{Names}
@@ -16,7 +16,6 @@ use Rattle.dwz_def_images.specs.Units.{partial_root}
 use Rattle.dwz_layout_order.specs.Named.{NamesAll, NamesSpace, NamesTop}
 use Rattle.dwz_layout_order.specs.Spaces.{said_of, spaces_of}
 use Rattle.dwz_layout_order.proofs.SpaceNumbers.{numbered_by}
-use Rattle.dwz_law_layout.specs.Named.{no_name}
 
 -- of a number that stands for nothing
 abbrev pub nothing : Node EntryName

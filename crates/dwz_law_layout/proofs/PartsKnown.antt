@@ -4,7 +4,6 @@ use Rattle.dwz_def_reading.proofs.ListFacts.{get_first}
 use Rattle.dwz_def_reading.specs.Documents.{DwUnit}
 use Rattle.dwz_def_reading.specs.Meanings.{IfSo}
 use Rattle.dwz_def_tops.specs.Lists.{Nth}
-use Rattle.dwz_def_tops.specs.Shown.{units_keys}
 use Rattle.dwz_def_tops.proofs.Members.{nth_one}
 use Rattle.dwz_def_tops.specs.Spots.{EntryName, FileUnit}
 use Rattle.dwz_def_plan.specs.Homes.{Common, Home, Local, same_home}
@@ -15,10 +14,9 @@ use Rattle.dwz_plan.specs.declared.plan.Partial.{Partial as PlannedPart}
 use Rattle.dwz_plan.specs.Planned.{Planned, file_of_home}
 use Rattle.dwz_plan.specs.Shows.{shown_part}
 use Rattle.dwz_plan.proofs.BridgeLemmas.{file_numbers_are}
-use Rattle.dwz_def_images.specs.Units.{changes, common_units, out_units, partial_unit, partial_units}
+use Rattle.dwz_def_images.specs.Units.{changes, common_units, partial_unit, partial_units}
 use Rattle.dwz_layout_numbers.specs.Owners.{files_written}
-use Rattle.dwz_def_encoding.specs.Placing.{FileFit, with_keys}
-use Rattle.dwz_def_readback.specs.Files.{common_forms, file_forms}
+use Rattle.dwz_def_encoding.specs.Placing.{KeyedForms}
 use Rattle.dwz_layout_order.specs.Orders.{First}
 use Rattle.dwz_layout_order.specs.declared.orders.Settled.{Settled}
 use Rattle.dwz_layout_order.specs.Ordered.{PartPut, PartsPut}
@@ -26,11 +24,11 @@ use Rattle.dwz_layout.specs.declared.known.EntryTable.{EntryTable}
 use Rattle.dwz_layout.specs.declared.order.UnitItems.{UnitItems}
 use Rattle.dwz_law_layout.specs.Fitted.{KnowUnits, KnowsShown}
 use Rattle.dwz_law_layout.specs.Knows.{NewNumbers}
-use Rattle.dwz_law_layout.specs.Facts.{AreFacts, RunFacts, docs, move, rule, run, units, units_written, written}
+use Rattle.dwz_law_layout.specs.Facts.{AreFacts, RunFacts, docs, move, rule, units, units_written, written}
 use Rattle.dwz_law_layout.specs.Listed.{AreListed, TextsAt}
 use Rattle.dwz_law_layout.specs.Named.{keys}
 use Rattle.dwz_law_layout.specs.Settled.{IsSettled}
-use Rattle.dwz_law_layout.specs.Unfitted.{KnowCommon, KnowTexts, KnowsCommonUnit, KnowsUnitTexts}
+use Rattle.dwz_law_layout.specs.Unfitted.{KnowCommon, KnowTexts, KnowsCommonUnit, KnowsUnitTexts, common_keyed_forms, file_keyed_forms}
 use Rattle.dwz_law_layout.specs.ShownParts.{CommonKnownLaw, PartsKnownLaw}
 use Rattle.dwz_law_layout.proofs.LayoutLemmas.{common_owners, file_owners}
 use Rattle.dwz_law_layout.proofs.PartHomes.{comes_from, common_number, common_there, file_changed, file_read_there, first_file, home_moves, home_number, is_first, not_first, part_there}
@@ -76,7 +74,7 @@ module _ (f : RunFacts) (s : Settled) (h : Home) (number : ℕ)
 
   -- ---- each is known, from what is said of it, and of where it stands
 
-  module _ (k : EntryTable) (ff : FileFit EntryName) (numbers : NewNumbers) (Told : UnitItems → DwUnit EntryName → Type 0) (AllTold : List UnitItems → List (DwUnit EntryName) → Type 0)
+  module _ (k : EntryTable) (ff : KeyedForms EntryName) (numbers : NewNumbers) (Told : UnitItems → DwUnit EntryName → Type 0) (AllTold : List UnitItems → List (DwUnit EntryName) → Type 0)
       (told_first : (o : UnitItems) (order : List UnitItems) (u : DwUnit EntryName) (us : List (DwUnit EntryName)) → AllTold (o ∷ order) (u ∷ us) → Told o u × AllTold order us)
       (Stands : ℕ → DwUnit EntryName → Type 0)
       (one : (p : ℕ) (part : PartialUnit) → Nth 0 (move f).parts p part → part.home ≡ h → (o : UnitItems) (here : ℕ) → Stands here (partial_unit (move f) p) → Told o (partial_unit (move f) p)
@@ -133,23 +131,17 @@ module _ (f : RunFacts) (t : TextsAt) (k : EntryTable) (s : Settled) (facts : Ar
     pub local_long : (order : List UnitItems) → PartsPut s n 0 s.plan.now.partials order → length order ≡ length (partial_units (move f) (Local n) 0 (move f).parts)
     local_long order put = parts_long f s (Local n) n local_number 0 (move f).parts (λ q part i. i) order (parts_put n order put)
 
-    abbrev file_fit : FileFit EntryName
-    file_fit = with_keys (file_forms (run f) n) (units_keys (out_units (move f) (units f) n))
-
     local_known : changes (move f) (units f) n ≡ true → (numbers : NewNumbers) (p : ℕ) (part : PartialUnit) → Nth 0 (move f).parts p part → part.home ≡ Local n → (o : UnitItems) (here : ℕ)
         → slice_get (units_written f) here ≡ Some (partial_unit (move f) p) → KnowsUnitTexts f k numbers n o (partial_unit (move f) p)
-        → PartPut s p (shown_part (length (docs f)) part) o → KnowsShown (keys f) k file_fit numbers here o (partial_unit (move f) p)
+        → PartPut s p (shown_part (length (docs f)) part) o → KnowsShown (keys f) k (file_keyed_forms f n) numbers here o (partial_unit (move f) p)
     local_known changed numbers p part nth home o here at texts put =
         let r = file_read_there f facts n changed in
-        part_known f t k facts listed s settled n r.bytes r.x r.index r.has file_fit numbers p part nth (first_file f facts n p part nth home) o here at texts put.items put.sort
+        part_known f t k facts listed s settled n r.bytes r.x r.index r.has (file_keyed_forms f n) numbers p part nth (first_file f facts n p part nth home) o here at texts put.items put.sort
         (file_owners f t k facts listed n r.bytes r.x r.index r.has changed here (partial_unit (move f) p) at (part_there f facts n p part nth home) o)
         (record { are = λ i q d read writes common. absurd cc })
         (not_first f facts n p part nth home t k listed here at)
 
   -- ---- the common file
-
-  abbrev all_fit : FileFit EntryName
-  all_fit = with_keys (common_forms (run f)) (units_keys (common_units (move f)))
 
   pub common_long : (order : List UnitItems) → PartsPut s (length (docs f)) 0 s.plan.now.partials order → length order ≡ length (common_units (move f))
   unfolding common_units
@@ -157,7 +149,7 @@ module _ (f : RunFacts) (t : TextsAt) (k : EntryTable) (s : Settled) (facts : Ar
 
   one_common : (p : ℕ) (part : PartialUnit) → Nth 0 (move f).parts p part → part.home ≡ Common → (o : UnitItems) (here : ℕ)
       → slice_get (common_units (move f)) here ≡ Some (partial_unit (move f) p) → KnowsCommonUnit f k o (partial_unit (move f) p)
-      → PartPut s p (shown_part (length (docs f)) part) o → KnowsShown (keys f) k all_fit None here o (partial_unit (move f) p)
+      → PartPut s p (shown_part (length (docs f)) part) o → KnowsShown (keys f) k (common_keyed_forms f) None here o (partial_unit (move f) p)
   one_common p part nth home o here at told put =
       let c = comes_from f facts p part nth in
       let n = c.unit.file in
@@ -166,7 +158,7 @@ module _ (f : RunFacts) (t : TextsAt) (k : EntryTable) (s : Settled) (facts : Ar
       λ v there. ap (λ (w : FileUnit EntryName). w.file) (nth_one 0 (units f) (first_unit part.tops) v c.unit there c.nth) in
       let written_at : slice_get (units_written f) here ≡ Some (partial_unit (move f) p) =
       get_first (common_units (move f)) (files_written (move f) (units f) 0 (written f)) here (partial_unit (move f) p) at in
-      part_known f t k facts listed s settled n r.bytes r.x r.index r.has all_fit None p part nth first o here written_at (told.texts n) put.items put.sort
+      part_known f t k facts listed s settled n r.bytes r.x r.index r.has (common_keyed_forms f) None p part nth first o here written_at (told.texts n) put.items put.sort
       (common_owners f t k facts listed n r.bytes r.x r.index r.has c.changed here (partial_unit (move f) p) written_at (common_there f p part nth home) o)
       (told.files n r.bytes r.x r.index r.has)
       (is_first f facts t k listed here (partial_unit (move f) p) at)
@@ -174,7 +166,7 @@ module _ (f : RunFacts) (t : TextsAt) (k : EntryTable) (s : Settled) (facts : Ar
 pub parts_known : PartsKnownLaw
 parts_known f t k s facts listed settled n is numbers here order put there texts =
     let c = file_changed f n is in
-    all_known f s (Local n) n (local_number f t k s facts listed settled n c.1) k (file_fit f t k s facts listed settled n c.1) numbers (KnowsUnitTexts f k numbers n) (KnowTexts f k numbers n)
+    all_known f s (Local n) n (local_number f t k s facts listed settled n c.1) k (file_keyed_forms f n) numbers (KnowsUnitTexts f k numbers n) (KnowTexts f k numbers n)
     (λ o some u us both. both) (λ m u. slice_get (units_written f) m ≡ Some u) (local_known f t k s facts listed settled n c.1 c.0 numbers)
     0 (move f).parts (λ q part i. i) here order (parts_put f t k s facts listed settled n order put) there texts
 
@@ -182,7 +174,7 @@ pub common_known : CommonKnownLaw
 unfolding common_units
 common_known f t k s facts listed settled order put told =
     let first : (j : ℕ) → 0 + j ≡ j = λ j. omega arith in
-    all_known f s Common (length (docs f)) (common_number f facts) k (all_fit f t k s facts listed settled) None (KnowsCommonUnit f k) (KnowCommon f k)
+    all_known f s Common (length (docs f)) (common_number f facts) k (common_keyed_forms f) None (KnowsCommonUnit f k) (KnowCommon f k)
     (λ o some u us both. both) (λ m u. slice_get (common_units (move f)) m ≡ Some u) (one_common f t k s facts listed settled)
     0 (move f).parts (λ q part i. i) 0 order (parts_put f t k s facts listed settled (length (docs f)) order put)
     (λ j u got. ap (slice_get (common_units (move f))) (first j) ∙ got) told

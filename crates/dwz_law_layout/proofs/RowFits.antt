@@ -18,7 +18,7 @@ use Rattle.dwz_layout_items.specs.Lines.{Line, line, lines}
 use Rattle.dwz_def_tops.proofs.Members.{each_split}
 use Rattle.dwz_unit.specs.Rows.{EntryRow, rows_below, rows_of}
 use Rattle.dwz_unit.proofs.RowLemmas.{shown-length}
-use Rattle.dwz_def_encoding.specs.Placing.{Fit, UnitRole}
+use Rattle.dwz_def_encoding.specs.Placing.{UnitForms, UnitRole}
 use Rattle.dwz_layout.specs.declared.known.EntryTable.{EntryTable}
 use Rattle.dwz_layout.specs.declared.known.Row.{Row}
 use Rattle.dwz_layout.specs.declared.walk.Origin.TheVariants.{Read as OfRow}
@@ -38,7 +38,7 @@ row_slots-append file depth base i (x ∷ xs) ys =
     ap (λ (w : List Slot). slot (depth + (x.depth - base)) (OfRow (row file i)) ∷ w) (row_slots-append file depth base (suc i) xs ys
     ∙ ap (λ (n : ℕ). row_slots file depth base (suc i) xs ++ row_slots file depth base n ys) e)
 
-module _ (keys : Keys EntryName) (k : EntryTable) (f : FileRead) (here : WritingContext) (ft : Fit EntryName) (rn : NewNumbers) (h : UnitRole) (here_is : here.holder ≡ h) (fit_is : ft.holder ≡ h)
+module _ (keys : Keys EntryName) (k : EntryTable) (f : FileRead) (here : WritingContext) (ft : UnitForms EntryName) (rn : NewNumbers) (h : UnitRole) (here_is : here.holder ≡ h) (fit_is : ft.holder ≡ h)
     (file : KnowsFile k f) where
   abbrev held : List Slot → List (HeldLine EntryName)
   held slots = map (slot_held keys k here) slots

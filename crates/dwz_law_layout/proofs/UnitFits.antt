@@ -17,7 +17,7 @@ use Rattle.dwz_def_reading.specs.Lists.{Each}
 use Rattle.dwz_def_tops.proofs.Members.{each_split}
 use Rattle.dwz_def_tops.specs.Spaces.{space_text}
 use Rattle.dwz_unit.specs.Rows.{EntryRow}
-use Rattle.dwz_def_encoding.specs.Placing.{FileFit, Fit, UnitRole, as_read, fit, fit_as, fit_attr, fit_node, holder_of, has_key, reach_by, ref_form, unit_fit}
+use Rattle.dwz_def_encoding.specs.Placing.{KeyedForms, UnitForms, UnitRole, as_read, fit, fit_as, fit_attr, fit_node, holder_of, has_key, reach_by, ref_form, unit_forms}
 use Rattle.dwz_def_encoding.specs.Pruned.{entries_renumbered, renumbered_attr, renumbered_node}
 use Rattle.dwz_layout.specs.declared.known.EntryTable.{EntryTable}
 use Rattle.dwz_layout.specs.declared.known.Row.{Row}
@@ -47,21 +47,21 @@ each_map (x ∷ xs) P Q go all = (go x all.0, each_map xs P Q go all.1)
 -- ---- lines with forms
 
 -- numbers behind forms
-renumbered_attrs : (ft : Fit EntryName) (number : ℕ → ℕ) (attrs : List (Attr EntryName)) → map (renumbered_attr number) (map (fit_attr ft) attrs) ≡ map (given_attr ft (Some number)) attrs
+renumbered_attrs : (ft : UnitForms EntryName) (number : ℕ → ℕ) (attrs : List (Attr EntryName)) → map (renumbered_attr number) (map (fit_attr ft) attrs) ≡ map (given_attr ft (Some number)) attrs
 renumbered_attrs ft number [] = refl
 renumbered_attrs ft number (a ∷ attrs) = ap (λ (w : List (Attr EntryName)). given_attr ft (Some number) a ∷ w) (renumbered_attrs ft number attrs)
 
-node_given : (ft : Fit EntryName) (number : ℕ → ℕ) (e : Node EntryName) → renumbered_node number (fit_node ft e) ≡ given_node ft (Some number) e
+node_given : (ft : UnitForms EntryName) (number : ℕ → ℕ) (e : Node EntryName) → renumbered_node number (fit_node ft e) ≡ given_node ft (Some number) e
 node_given ft number e = (λ i. let n : Node EntryName = record { at = e.at; tag = e.tag; attrs = renumbered_attrs ft number e.attrs i } in n)
 
-lines_fit : (ft : Fit EntryName) (depth : ℕ) (g : Entries EntryName) → lines depth (fit ft g) ≡ map (given_line ft None) (lines depth g)
+lines_fit : (ft : UnitForms EntryName) (depth : ℕ) (g : Entries EntryName) → lines depth (fit ft g) ≡ map (given_line ft None) (lines depth g)
 unfolding lines fit
 lines_fit ft depth End = refl
 lines_fit ft depth (Entry e children next) =
     ap (λ (w : List (Line EntryName)). line depth (fit_node ft e) ∷ w) ((λ i. lines_fit ft (suc depth) children i ++ lines_fit ft depth next i)
     ∙ sym (map-append (given_line ft None) (lines (suc depth) children) (lines depth next)))
 
-lines_renumbered : (ft : Fit EntryName) (number : ℕ → ℕ) (depth : ℕ) (g : Entries EntryName) → lines depth (entries_renumbered number (fit ft g)) ≡ map (given_line ft (Some number)) (lines depth g)
+lines_renumbered : (ft : UnitForms EntryName) (number : ℕ → ℕ) (depth : ℕ) (g : Entries EntryName) → lines depth (entries_renumbered number (fit ft g)) ≡ map (given_line ft (Some number)) (lines depth g)
 unfolding lines fit entries_renumbered
 lines_renumbered ft number depth End = refl
 lines_renumbered ft number depth (Entry e children next) =
@@ -69,11 +69,11 @@ lines_renumbered ft number depth (Entry e children next) =
     ∙ ap (λ (w : List (Line EntryName)). line depth (given_node ft (Some number) e) ∷ w) (sym (map-append (given_line ft (Some number)) (lines (suc depth) children) (lines depth next)))
 
 -- the lines of a unit, with what is written of its values
-unit_given : (ff : FileFit EntryName) (rn : NewNumbers) (u : DwUnit EntryName) → unit_lines (given_unit ff rn u) ≡ map (given_line (unit_fit ff u) rn) (unit_lines u)
-unit_given ff None u = ap (λ (w : List (Line EntryName)). line 1 (fit_node (unit_fit ff u) u.root) ∷ w) (lines_fit (unit_fit ff u) 2 u.below)
-unit_given ff (Some number) u = (λ i. line 1 (node_given (unit_fit ff u) number u.root i) ∷ lines_renumbered (unit_fit ff u) number 2 u.below i)
+unit_given : (ff : KeyedForms EntryName) (rn : NewNumbers) (u : DwUnit EntryName) → unit_lines (given_unit ff rn u) ≡ map (given_line (unit_forms ff u) rn) (unit_lines u)
+unit_given ff None u = ap (λ (w : List (Line EntryName)). line 1 (fit_node (unit_forms ff u) u.root) ∷ w) (lines_fit (unit_forms ff u) 2 u.below)
+unit_given ff (Some number) u = (λ i. line 1 (node_given (unit_forms ff u) number u.root i) ∷ lines_renumbered (unit_forms ff u) number 2 u.below i)
 
-map_twice : (ft : Fit EntryName) (rn : NewNumbers) (ls : List (Line EntryName)) → map line_held (map (given_line ft rn) ls) ≡ map (λ l. line_held (given_line ft rn l)) ls
+map_twice : (ft : UnitForms EntryName) (rn : NewNumbers) (ls : List (Line EntryName)) → map line_held (map (given_line ft rn) ls) ≡ map (λ l. line_held (given_line ft rn l)) ls
 map_twice ft rn [] = refl
 map_twice ft rn (l ∷ ls) = ap (λ (w : List (HeldLine EntryName)). line_held (given_line ft rn l) ∷ w) (map_twice ft rn ls)
 
@@ -91,14 +91,14 @@ line_held_is : (place : ℕ) (plain : Plain) → record { pair = plain_pair 0x10
 unfolding class_rows class_in
 line_held_is place plain = refl
 
-line_same : (ft : Fit EntryName) (rn : NewNumbers) (keys : Keys EntryName) (place : ℕ) (plain : Plain)
+line_same : (ft : UnitForms EntryName) (rn : NewNumbers) (keys : Keys EntryName) (place : ℕ) (plain : Plain)
     → map (attr_held keys) (line_attrs (Some place)) ≡ map held_of (map (given_attr ft rn) (line_attr (pos place) plain ∷ []))
 line_same ft rn keys place plain =
     let b = line_attr (pos place) plain in
     ap (λ (x : HeldAttr EntryName). x ∷ []) (line_held_is place plain ∙ other_given ft rn b (as_read b) (ap (λ (c : Class). fit_as c ft b) (sym line_class)) refl)
 
 -- entries that the unit has, of a file
-module _ (keys : Keys EntryName) (k : EntryTable) (f : FileRead) (here : ℕ) (ft : Fit EntryName) (rn : NewNumbers) (o : UnitItems) (known : KnowsIn keys k here o ft rn f) where
+module _ (keys : Keys EntryName) (k : EntryTable) (f : FileRead) (here : ℕ) (ft : UnitForms EntryName) (rn : NewNumbers) (o : UnitItems) (known : KnowsIn keys k here o ft rn f) where
   abbrev All : List Slot
   All = items_slots k o.sort o.items
 
@@ -125,7 +125,7 @@ module _ (keys : Keys EntryName) (k : EntryTable) (f : FileRead) (here : ℕ) (f
   pub slots_known : KnowsSlots keys k f here ft rn All
   slots_known = some_known All (λ n there. there)
 
-module _ (keys : Keys EntryName) (k : EntryTable) (here : WritingContext) (ft : Fit EntryName) (rn : NewNumbers) (fit_is : ft.holder ≡ here.holder) (names : Names EntryName) (sort : Sort) where
+module _ (keys : Keys EntryName) (k : EntryTable) (here : WritingContext) (ft : UnitForms EntryName) (rn : NewNumbers) (fit_is : ft.holder ≡ here.holder) (names : Names EntryName) (sort : Sort) where
   abbrev held : List Slot → List (HeldLine EntryName)
   held slots = map (slot_held keys k here) slots
 
@@ -199,7 +199,7 @@ module _ (keys : Keys EntryName) (k : EntryTable) (here : WritingContext) (ft : 
       let unit = unit_of_part k part in
       let target = keys.root unit in
       let b : Attr EntryName = record { name = 0x18; form = 0x10; raw = pos 0; value = ref target } in
-      let reach = reach_by (has_key ft.same target ft.own) (has_key ft.same target ft.file) in
+      let reach = reach_by (has_key ft.same target ft.own) (has_key ft.same target ft.keys) in
       let form : form_to k here.unit unit ≡ ref_form reach = (λ i. ref_form (reach_by (sym shows.own i) (sym shows.file i))) in
       let one : attr_held keys (import_attr k here.unit unit) ≡ held_of (given_attr ft rn b) =
       (λ i. let x : HeldAttr EntryName = record { pair = plain_pair 0x18 (form i); held = Key target } in x)
@@ -230,12 +230,12 @@ module _ (keys : Keys EntryName) (k : EntryTable) (here : WritingContext) (ft : 
 
 -- ---- the unit
 
-sort_given : (keys : Keys EntryName) (ff : FileFit EntryName) (rn : NewNumbers) (sort : Sort) (u : DwUnit EntryName) → SortShows keys sort u.kind
+sort_given : (keys : Keys EntryName) (ff : KeyedForms EntryName) (rn : NewNumbers) (sort : Sort) (u : DwUnit EntryName) → SortShows keys sort u.kind
     → (let w = given_unit ff rn u in SortShows keys sort w.kind)
 sort_given keys ff None sort u shows = shows
 sort_given keys ff (Some number) sort u shows = shows
 
-root_given : (keys : Keys EntryName) (ff : FileFit EntryName) (rn : NewNumbers) (here : ℕ) (u : DwUnit EntryName) → keys.root here ≡ u.root.at
+root_given : (keys : Keys EntryName) (ff : KeyedForms EntryName) (rn : NewNumbers) (here : ℕ) (u : DwUnit EntryName) → keys.root here ≡ u.root.at
     → (let w = given_unit ff rn u in keys.root here ≡ w.root.at)
 root_given keys ff None here u e = e
 root_given keys ff (Some number) here u e = e
@@ -252,11 +252,11 @@ same_holder keys false (Partial place) CompileKind shows = absurd shows
 same_holder keys false (Partial place) (TypeKind signature main) shows = absurd shows
 same_holder keys false (Partial place) PartialKind shows = refl
 
-pub unit_fits : (keys : Keys EntryName) (k : EntryTable) (files : List FileRead) (ff : FileFit EntryName) (rn : NewNumbers) (here : ℕ) (o : UnitItems) (names : Names EntryName) (u : DwUnit EntryName)
-    → KnowsUnit keys k files here o (unit_fit ff u) rn names → is_common k here ≡ ff.is_common
+pub unit_fits : (keys : Keys EntryName) (k : EntryTable) (files : List FileRead) (ff : KeyedForms EntryName) (rn : NewNumbers) (here : ℕ) (o : UnitItems) (names : Names EntryName) (u : DwUnit EntryName)
+    → KnowsUnit keys k files here o (unit_forms ff u) rn names → is_common k here ≡ ff.is_common
     → SortShows keys o.sort u.kind → keys.root here ≡ u.root.at → ShowsOrder names o.items u → ShowsUnit keys k here o (given_unit ff rn u)
 unit_fits keys k files ff rn here o names u known common sort root order =
-    let ft = unit_fit ff u in
+    let ft = unit_forms ff u in
     let h : ft.holder ≡ holder_by (is_common k here) o.sort = same_holder keys ff.is_common o.sort u.kind sort ∙ ap (λ (b : Bool). holder_by b o.sort) (sym common) in
     let all = each_map files (λ f. KnowsIn keys k here o ft rn f) (λ f. KnowsFile k f × KnowsSlots keys k f here ft rn (items_slots k o.sort o.items))
     (λ f kn. (kn.file, slots_known keys k f here ft rn o kn)) known.of_files in

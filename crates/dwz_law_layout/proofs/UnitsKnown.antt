@@ -29,11 +29,11 @@ use Rattle.dwz_law_layout.specs.Knows.{NewNumbers}
 use Rattle.dwz_law_layout.specs.Facts.{AreFacts, HasFile, RunFacts, file_read, move, units, units_written, written}
 use Rattle.dwz_law_layout.specs.Listed.{AreListed, TextsAt}
 use Rattle.dwz_law_layout.specs.Named.{keys, root_name}
-use Rattle.dwz_law_layout.specs.Unfitted.{KnowTexts, KnowsUnitTexts}
+use Rattle.dwz_law_layout.specs.Unfitted.{KnowTexts, KnowsUnitTexts, file_keyed_forms}
 use Rattle.dwz_law_layout.proofs.ImagesStand.{old}
 use Rattle.dwz_law_layout.proofs.LayoutLemmas.{file_owners, knows_file, knows_references}
 use Rattle.dwz_law_layout.specs.Roots.{UnitShown}
-use Rattle.dwz_law_layout.specs.ShownKept.{AreWrittenFrom, KeptKnownLaw, fit_of}
+use Rattle.dwz_law_layout.specs.ShownKept.{AreWrittenFrom, KeptKnownLaw}
 use Rattle.dwz_law_layout.proofs.FileKept.{are_shown, entered, file_changes, in_order, stand_for}
 use Rattle.dwz_law_layout.proofs.ItemsShown.{items_shown, items_stay}
 use Rattle.dwz_law_layout.proofs.UnitNames.{kept_names, names_all, names_kept}
@@ -74,7 +74,7 @@ module _ (f : RunFacts) (t : TextsAt) (k : EntryTable) (facts : AreFacts f) (lis
         → ShowsKept (entered f facts n bytes x index h start) (move f) (units f) i u o
         → OldNames (move f) (units f) i u.unit.kind o.items → UnitShown f n bytes x u.unit o.sort
         → KnowsUnitTexts f k numbers n o (kept_unit (move f) (units f) i u) → slice_get (units_written f) here ≡ Some (kept_unit (move f) (units f) i u)
-        → KnowsShown (keys f) k (fit_of f n) numbers here o (kept_unit (move f) (units f) i u)
+        → KnowsShown (keys f) k (file_keyed_forms f n) numbers here o (kept_unit (move f) (units f) i u)
     unfolding out_units
     unit_known i u o here nth own kept items shown texts at =
         let v = kept_unit (move f) (units f) i u in
@@ -124,14 +124,14 @@ module _ (f : RunFacts) (t : TextsAt) (k : EntryTable) (facts : AreFacts f) (lis
     abbrev Rest : ℕ → List (FileUnit EntryName) → Type 0
     Rest i us =
         (here : ℕ) (order : List UnitItems) → Order (suc i) us order → Items (suc i) us order → Roots (suc i) us order → AreWrittenFrom f here (kept_units (move f) (units f) n (suc i) us)
-        → KnowTexts f k numbers n order (kept_units (move f) (units f) n (suc i) us) → KnowUnits (keys f) k (fit_of f n) numbers here order (kept_units (move f) (units f) n (suc i) us)
+        → KnowTexts f k numbers n order (kept_units (move f) (units f) n (suc i) us) → KnowUnits (keys f) k (file_keyed_forms f n) numbers here order (kept_units (move f) (units f) n (suc i) us)
 
     units_known : (i here : ℕ) (us : List (FileUnit EntryName)) (order : List UnitItems) → Order i us order → Items i us order → Roots i us order
         → ((j : ℕ) (u : FileUnit EntryName) → slice_get us j ≡ Some u → Nth 0 (units f) (i + j) u)
         → AreWrittenFrom f here (kept_units (move f) (units f) n i us) → KnowTexts f k numbers n order (kept_units (move f) (units f) n i us)
-        → KnowUnits (keys f) k (fit_of f n) numbers here order (kept_units (move f) (units f) n i us)
+        → KnowUnits (keys f) k (file_keyed_forms f n) numbers here order (kept_units (move f) (units f) n i us)
     unfolding kept_units
-    units_known i here [] order kept items shown there stand texts = subst (λ (w : List UnitItems). KnowUnits (keys f) k (fit_of f n) numbers here w []) (sym kept) tt
+    units_known i here [] order kept items shown there stand texts = subst (λ (w : List UnitItems). KnowUnits (keys f) k (file_keyed_forms f n) numbers here w []) (sym kept) tt
     units_known i here (u ∷ us) order kept items shown there stand texts =
         by (u.file == n) refl order kept items shown stand texts (λ from some kept items shown stand texts. units_known (suc i) from us some kept items shown
         (λ j w e. (let far : i + suc j ≡ suc i + j = omega arith in subst (λ (q : ℕ). Nth 0 (units f) q w) far (there (suc j) w e))) stand texts)
@@ -140,7 +140,7 @@ module _ (f : RunFacts) (t : TextsAt) (k : EntryTable) (facts : AreFacts f) (lis
             → IfSo b (First (ShowsKept (entered f facts n bytes x index h start) (move f) (units f) i u) (Order (suc i) us) order) (Order (suc i) us order)
             → IfSo b (First (λ o. OldNames (move f) (units f) i u.unit.kind o.items) (Items (suc i) us) order) (Items (suc i) us order)
             → IfSo b (First (λ o. UnitShown f n bytes x u.unit o.sort) (Roots (suc i) us) order) (Roots (suc i) us order)
-            → AreWrittenFrom f here (these b i u us) → KnowTexts f k numbers n order (these b i u us) → Rest i us → KnowUnits (keys f) k (fit_of f n) numbers here order (these b i u us)
+            → AreWrittenFrom f here (these b i u us) → KnowTexts f k numbers n order (these b i u us) → Rest i us → KnowUnits (keys f) k (file_keyed_forms f n) numbers here order (these b i u us)
         by true is [] kept items shown stand texts more = absurd kept
         by true is (o ∷ order) kept items shown stand texts more =
             let none : i + 0 ≡ i = omega arith in

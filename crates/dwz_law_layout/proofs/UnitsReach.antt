@@ -29,7 +29,8 @@ use Rattle.dwz_layout.specs.Known.{unit_of_part}
 use Rattle.dwz_law_layout.specs.Facts.{AreFacts, RunFacts, docs, move, rule, units, units_written, written}
 use Rattle.dwz_law_layout.specs.Listed.{AreListed, TextsAt}
 use Rattle.dwz_law_layout.specs.Named.{keys, root_name}
-use Rattle.dwz_law_layout.specs.OwnedLaws.{ReachesPart, common_fit, file_fit}
+use Rattle.dwz_law_layout.specs.OwnedLaws.{ReachesPart}
+use Rattle.dwz_law_layout.specs.Unfitted.{common_unit_forms, file_unit_forms}
 use Rattle.dwz_law_layout.proofs.ImagesStand.{IsNear, in_units}
 use Rattle.dwz_law_layout.proofs.ReadFiles.{all_placed}
 
@@ -148,7 +149,7 @@ module _ (f : RunFacts) (t : TextsAt) (k : EntryTable) (facts : AreFacts f) (lis
   part_stands p part nth = record { unit = partial_unit (move f) p; is = part_number p part nth; has = inr (inl refl) }
 
   pub common_part : (here : ℕ) (u : DwUnit EntryName) → slice_get (units_written f) here ≡ Some u → In u (common_units (move f)) → (p : ℕ) (part : PartialUnit) → Nth 0 (move f).parts p part
-      → ReachesPart (keys f) k here (common_fit f u) p
+      → ReachesPart (keys f) k here (common_unit_forms f u) p
   common_part here u e is p part nth =
       let root = part_root p part nth in
       let stands = part_stands p part nth in
@@ -168,7 +169,7 @@ module _ (f : RunFacts) (t : TextsAt) (k : EntryTable) (facts : AreFacts f) (lis
       inr (in_units v (out_units m (units f) n) (PartialRoot p) (in_left v (partial_units m (Local n) 0 m.parts) (kept_units m (units f) n 0 (units f)) there) (inr (inl refl)))
 
   pub own_part : (n : ℕ) → changes (move f) (units f) n ≡ true → (here : ℕ) (u : DwUnit EntryName) → slice_get (units_written f) here ≡ Some u → In u (out_units (move f) (units f) n)
-      → (p : ℕ) (part : PartialUnit) → Nth 0 (move f).parts p part → (part.home ≡ Common) ⊎ (part.home ≡ Local n) → ReachesPart (keys f) k here (file_fit f n u) p
+      → (p : ℕ) (part : PartialUnit) → Nth 0 (move f).parts p part → (part.home ≡ Common) ⊎ (part.home ≡ Local n) → ReachesPart (keys f) k here (file_unit_forms f n u) p
   own_part n changed here u e is p part nth home =
       let root = part_root p part nth in
       let stands = part_stands p part nth in

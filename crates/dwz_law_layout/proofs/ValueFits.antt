@@ -22,7 +22,7 @@ use Rattle.dwz_model.specs.declared.place.Pair.{Pair}
 use Rattle.dwz_def_tops.specs.Spots.{EntryName}
 use Rattle.dwz_graph.specs.Named.{value_refs}
 use Rattle.dwz_def_encoding.specs.Carried.{IsStored}
-use Rattle.dwz_def_encoding.specs.Placing.{Chosen, CommonUnit, Fit, UnitRole, InCommon, InFile, InUnit, NewUnit, OldUnit, Reach, as_constant, as_reference, as_file, as_read, as_line_text, as_slot}
+use Rattle.dwz_def_encoding.specs.Placing.{Chosen, CommonUnit, UnitForms, UnitRole, InCommon, InFile, InUnit, NewUnit, OldUnit, Reach, as_constant, as_reference, as_file, as_read, as_line_text, as_slot}
 use Rattle.dwz_def_encoding.specs.Placing.{file_number}
 use Rattle.dwz_def_encoding.specs.Placing.{fit_as, fit_attr, has_key, reach_by, reach_of, ref_form, with_form}
 use Rattle.dwz_def_encoding.specs.Writing.{block_in, pair_of, text_or_empty}
@@ -69,7 +69,7 @@ stays None x other = refl
 stays (Some number) x other = ap (λ (t : Bool). cond t (with_form x (record { form = 0x0e; raw = pos (number (reach x.raw)) })) x) other
 
 -- only the form and the number change
-given_form : (ft : Fit EntryName) (rn : NewNumbers) (b : Attr EntryName) → given_attr ft rn b ≡ with_form b (chosen_of (given_attr ft rn b))
+given_form : (ft : UnitForms EntryName) (rn : NewNumbers) (b : Attr EntryName) → given_attr ft rn b ≡ with_form b (chosen_of (given_attr ft rn b))
 given_form ft None b = refl
 given_form ft (Some number) b = go (eqb (fit_attr ft b).form 0x0e) where
   go : (t : Bool) → cond t (with_form (fit_attr ft b) (record { form = 0x0e; raw = pos (number (reach (fit_attr ft b).raw)) })) (fit_attr ft b)
@@ -77,12 +77,12 @@ given_form ft (Some number) b = go (eqb (fit_attr ft b).form 0x0e) where
   go true = refl
   go false = refl
 
-pub text_given : (ft : Fit EntryName) (rn : NewNumbers) (b : Attr EntryName) (t : TextAt) → text_chosen t ≡ chosen_of (given_attr ft rn b)
+pub text_given : (ft : UnitForms EntryName) (rn : NewNumbers) (b : Attr EntryName) (t : TextAt) → text_chosen t ≡ chosen_of (given_attr ft rn b)
     → held_of (with_form b (text_chosen t)) ≡ held_of (given_attr ft rn b)
 text_given ft rn b t e = ap (λ (ch : Chosen). held_of (with_form b ch)) e ∙ ap (λ (x : Attr EntryName). held_of x) (sym (given_form ft rn b))
 
 -- a value with another form than that of a text
-pub other_given : (ft : Fit EntryName) (rn : NewNumbers) (b : Attr EntryName) (ch : Chosen) → ch ≡ fit_as (class_of b.form) ft b → eqb ch.form 0x0e ≡ false
+pub other_given : (ft : UnitForms EntryName) (rn : NewNumbers) (b : Attr EntryName) (ch : Chosen) → ch ≡ fit_as (class_of b.form) ft b → eqb ch.form 0x0e ≡ false
     → held_of (with_form b ch) ≡ held_of (given_attr ft rn b)
 other_given ft rn b ch e other =
     ap (λ (c : Chosen). held_of (with_form b c)) e ∙ ap (λ (x : Attr EntryName). held_of x) (sym (stays rn (fit_attr ft b) (sym (ap (λ (c : Chosen). eqb c.form 0x0e) e) ∙ other)))
@@ -93,7 +93,7 @@ reference_form InFile = refl
 reference_form InCommon = refl
 
 -- a value that is written as it was read
-pub read_held : (keys : Keys EntryName) (ft : Fit EntryName) (rn : NewNumbers) (a : RawAttr) (stored : IsStored a) (b : Attr EntryName) (c : Class) → b.name ≡ a.pair.name → b.form ≡ a.pair.form
+pub read_held : (keys : Keys EntryName) (ft : UnitForms EntryName) (rn : NewNumbers) (a : RawAttr) (stored : IsStored a) (b : Attr EntryName) (c : Class) → b.name ≡ a.pair.name → b.form ≡ a.pair.form
     → b.raw ≡ number_of a.raw → class_of a.pair.form ≡ c → is_str c ≡ false → fit_as c ft b ≡ as_read b → held_as c b ≡ ValueHeld a.raw
     → attr_held keys (read_attr a) ≡ held_of (given_attr ft rn b)
 read_held keys ft rn a stored b c name form raw e other chosen kept =
@@ -107,7 +107,7 @@ read_held keys ft rn a stored b c name form raw e other chosen kept =
 -- ---- one value
 
 -- what is known of references, texts and numbers of files from some on
-pub record IsKnown (keys : Keys EntryName) (k : EntryTable) (f : FileRead) (here : ℕ) (ft : Fit EntryName) (rn : NewNumbers) (next : ValueCounts) (refs : List ℕ) (ts fs : List (Attr EntryName)) :
+pub record IsKnown (keys : Keys EntryName) (k : EntryTable) (f : FileRead) (here : ℕ) (ft : UnitForms EntryName) (rn : NewNumbers) (next : ValueCounts) (refs : List ℕ) (ts fs : List (Attr EntryName)) :
     Type 0 where
   pub references : EachFrom (λ n p. IsNamed keys k f n (f.after p)) next.reference refs
   pub owners : EachFrom (λ n p. IsReached keys k here ft (reference_at k f.number n)) next.reference refs
@@ -122,7 +122,7 @@ from_first : {X : Type 0} (P : ℕ → X → Type 0) (n : ℕ) (xs ys : List X) 
 from_first P n [] ys h = tt
 from_first P n (x ∷ xs) ys h = (h.0, from_first P (n + 1) xs ys h.1)
 
-module _ (keys : Keys EntryName) (k : EntryTable) (f : FileRead) (here : WritingContext) (ft : Fit EntryName) (rn : NewNumbers) (h : UnitRole) (here_is : here.holder ≡ h) (fit_is : ft.holder ≡ h)
+module _ (keys : Keys EntryName) (k : EntryTable) (f : FileRead) (here : WritingContext) (ft : UnitForms EntryName) (rn : NewNumbers) (h : UnitRole) (here_is : here.holder ≡ h) (fit_is : ft.holder ≡ h)
   where
     -- the references from a number on have these names
     refs_named : (n : ℕ) (ps : List ℕ) → EachFrom (λ m p. IsNamed keys k f m (f.after p)) n ps → map keys.row (references_from k f.number n (length ps)) ≡ map f.after ps
@@ -237,9 +237,9 @@ module _ (keys : Keys EntryName) (k : EntryTable) (f : FileRead) (here : Writing
           let named : keys.row number ≡ f.after p = left.references.0 in
           let reached = left.owners.0 in
           let refs_are : b.value.refs ≡ f.after p ∷ [] = ap (λ (u : Value ℕ). map f.after u.refs) value in
-          let way_to = reach_by (has_key ft.same (f.after p) ft.own) (has_key ft.same (f.after p) ft.file) in
+          let way_to = reach_by (has_key ft.same (f.after p) ft.own) (has_key ft.same (f.after p) ft.keys) in
           let form : form_to k here.unit (owner_of k number) ≡ ref_form way_to =
-          (λ i. ref_form (reach_by (sym reached.own i) (sym reached.file i))) ∙ ap (λ (x : EntryName). ref_form (reach_by (has_key ft.same x ft.own) (has_key ft.same x ft.file))) named in
+          (λ i. ref_form (reach_by (sym reached.own i) (sym reached.file i))) ∙ ap (λ (x : EntryName). ref_form (reach_by (has_key ft.same x ft.own) (has_key ft.same x ft.keys))) named in
           let fitted_form : record { form = ref_form way_to; raw = b.raw } ≡ fit_as (class_of a.pair.form) ft b =
           ap (λ (rs : List EntryName). let ch : Chosen = record { form = ref_form (reach_of ft rs); raw = b.raw } in ch) (sym refs_are) ∙ sym chosen ∙ ap (λ (d : Class). fit_as d ft b) (sym e) in
           record {

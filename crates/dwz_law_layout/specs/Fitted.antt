@@ -11,7 +11,7 @@ use Rattle.dwz_def_reading.specs.Documents.{DwUnit, Entries, Node, entries_map, 
 use Rattle.dwz_def_tops.specs.Spots.{EntryName}
 use Rattle.dwz_layout_items.specs.Order.{Names, ShowsUnit as ShowsOrder}
 use Rattle.dwz_unit.specs.Rows.{EntryRow, rows_of}
-use Rattle.dwz_def_encoding.specs.Placing.{FileFit, FileOut, Fit, Forms, fit_unit, fit_units, unit_fit, with_keys}
+use Rattle.dwz_def_encoding.specs.Placing.{FileOut, Forms, KeyedForms, UnitForms, fit_unit, fit_units, unit_forms, with_keys}
 use Rattle.dwz_def_encoding.specs.Pruned.{renumbered_unit, renumbered_units}
 use Rattle.dwz_layout.specs.declared.known.EntryTable.{EntryTable}
 use Rattle.dwz_layout.specs.declared.order.UnitItems.{UnitItems}
@@ -25,23 +25,23 @@ use Rattle.dwz_law_layout.specs.Knows.{FileRead, IsRead, KnowsEntry, KnowsFile, 
 -- written.
 abbrev pub EntryLaw : Type 0
 EntryLaw =
-    (keys : Keys EntryName) (k : EntryTable) (f : FileRead) (here : WritingContext) (ft : Fit EntryName) (rn : NewNumbers) (i : ℕ) (r :
+    (keys : Keys EntryName) (k : EntryTable) (f : FileRead) (here : WritingContext) (ft : UnitForms EntryName) (rn : NewNumbers) (i : ℕ) (r :
     EntryRow) (d : Node ℕ)
     → ft.holder ≡ here.holder → KnowsFile k f → IsRead f i r d
     → KnowsEntry keys k f here.unit ft rn i d
     → map (attr_held keys) (attrs_of k here (OfRow (row f.number i))) ≡ map held_of (given_node ft rn (node_map f.after d)).attrs
 
 -- a unit with the forms of its values, and then with the new numbers of its texts, where just those stay that are used
-abbrev pub given_unit : FileFit EntryName → NewNumbers → DwUnit EntryName → DwUnit EntryName
+abbrev pub given_unit : KeyedForms EntryName → NewNumbers → DwUnit EntryName → DwUnit EntryName
 given_unit ff None u = fit_unit ff u
 given_unit ff (Some number) u = renumbered_unit number (fit_unit ff u)
 
 -- A unit whose items show it, where what it has is known: the order shows the unit with its forms.
 abbrev pub UnitLaw : Type 0
 UnitLaw =
-    (keys : Keys EntryName) (k : EntryTable) (files : List FileRead) (ff : FileFit EntryName) (rn : NewNumbers) (here : ℕ) (o : UnitItems)
+    (keys : Keys EntryName) (k : EntryTable) (files : List FileRead) (ff : KeyedForms EntryName) (rn : NewNumbers) (here : ℕ) (o : UnitItems)
     (names : Names EntryName) (u : DwUnit EntryName)
-    → KnowsUnit keys k files here o (unit_fit ff u) rn names → is_common k here ≡ ff.is_common → SortShows keys o.sort u.kind
+    → KnowsUnit keys k files here o (unit_forms ff u) rn names → is_common k here ≡ ff.is_common → SortShows keys o.sort u.kind
     → keys.root here ≡ u.root.at → ShowsOrder names o.items u
     → ShowsUnit keys k here o (given_unit ff rn u)
 
@@ -49,18 +49,18 @@ UnitLaw =
 
 -- What is known of the unit with that number, before its values have their forms: of the files whose entries it has, and of its items,
 -- which show it.
-pub record KnowsShown (keys : Keys EntryName) (k : EntryTable) (ff : FileFit EntryName) (rn : NewNumbers) (here : ℕ) (o : UnitItems)
+pub record KnowsShown (keys : Keys EntryName) (k : EntryTable) (ff : KeyedForms EntryName) (rn : NewNumbers) (here : ℕ) (o : UnitItems)
     (u : DwUnit EntryName) : Type 0 where
   pub files : List FileRead
   pub names : Names EntryName
-  pub known : KnowsUnit keys k files here o (unit_fit ff u) rn names
+  pub known : KnowsUnit keys k files here o (unit_forms ff u) rn names
   pub common : is_common k here ≡ ff.is_common
   pub sort : SortShows keys o.sort u.kind
   pub root : keys.root here ≡ u.root.at
   pub order : ShowsOrder names o.items u
 
 -- units one by one, the first of which has that number
-abbrev pub KnowUnits : Keys EntryName → EntryTable → FileFit EntryName → NewNumbers → ℕ → List UnitItems → List (DwUnit EntryName) → Type 0
+abbrev pub KnowUnits : Keys EntryName → EntryTable → KeyedForms EntryName → NewNumbers → ℕ → List UnitItems → List (DwUnit EntryName) → Type 0
 KnowUnits keys k ff rn here [] [] = Unit {0}
 KnowUnits keys k ff rn here (o ∷ order) (u ∷ units) = KnowsShown keys k ff rn here o u × KnowUnits keys k ff rn (suc here) order units
 KnowUnits keys k ff rn here _ _ = ⊥

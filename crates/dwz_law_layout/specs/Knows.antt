@@ -25,7 +25,7 @@ use Rattle.dwz_def_reading.specs.Lists.{Each}
 use Rattle.dwz_def_tops.specs.Spaces.{space_text}
 use Rattle.dwz_unit.specs.Rows.{EntryRow, rows_below, rows_of}
 use Rattle.dwz_def_encoding.specs.Carried.{IsStored}
-use Rattle.dwz_def_encoding.specs.Placing.{Chosen, CommonUnit, Fit, file_number, fit_attr, has_key}
+use Rattle.dwz_def_encoding.specs.Placing.{Chosen, CommonUnit, UnitForms, file_number, fit_attr, has_key}
 use Rattle.dwz_def_encoding.specs.Pruned.{renumbered_attr}
 use Rattle.dwz_layout.specs.declared.known.ValueCounts.{ValueCounts}
 use Rattle.dwz_layout.specs.declared.known.EntryTable.{EntryTable}
@@ -90,10 +90,10 @@ renumbered_if None a = a
 renumbered_if (Some number) a = renumbered_attr number a
 
 -- an attribute with the form of its value, and then so
-abbrev pub given_attr : Fit EntryName → NewNumbers → Attr EntryName → Attr EntryName
+abbrev pub given_attr : UnitForms EntryName → NewNumbers → Attr EntryName → Attr EntryName
 given_attr ft rn a = renumbered_if rn (fit_attr ft a)
 
-abbrev pub given_node : Fit EntryName → NewNumbers → Node EntryName → Node EntryName
+abbrev pub given_node : UnitForms EntryName → NewNumbers → Node EntryName → Node EntryName
 given_node ft rn e = record { at = e.at; tag = e.tag; attrs = map (given_attr ft rn) e.attrs }
 
 abbrev pub chosen_of : Attr EntryName → Chosen
@@ -106,16 +106,16 @@ abbrev pub IsNamed : Keys EntryName → EntryTable → FileRead → ℕ → Entr
 IsNamed keys k f n s = keys.row (reference_at k f.number n) ≡ s
 
 -- An entry is written in this unit just where the unit has its name; and in another one of the same file just where the file has it.
-pub record IsReached (keys : Keys EntryName) (k : EntryTable) (here : ℕ) (ft : Fit EntryName) (number : ℕ) : Type 0 where
+pub record IsReached (keys : Keys EntryName) (k : EntryTable) (here : ℕ) (ft : UnitForms EntryName) (number : ℕ) : Type 0 where
   pub own : has_key ft.same (keys.row number) ft.own ≡ (owner_of k number == here)
-  pub file : has_key ft.same (keys.row number) ft.file ≡ same_bool (is_common k (owner_of k number)) (is_common k here)
+  pub file : has_key ft.same (keys.row number) ft.keys ≡ same_bool (is_common k (owner_of k number)) (is_common k here)
 
 -- the form and the number of a text that is written there
 abbrev pub text_chosen : TextAt → Chosen
 text_chosen t = record { form = text_form t; raw = pos (text_offset t) }
 
 -- the text is written where the definitions of forms and of texts that stay say, unless it is written as it was read
-abbrev pub IsText : Fit EntryName → NewNumbers → Attr EntryName → TextAt → Type 0
+abbrev pub IsText : UnitForms EntryName → NewNumbers → Attr EntryName → TextAt → Type 0
 IsText ft rn a t = rewrite_of ft.holder (plain_pair a.name a.form) ≡ AsText → text_chosen t ≡ chosen_of (given_attr ft rn a)
 
 -- a text that is stored by an offset or by a slot
@@ -138,7 +138,7 @@ files_in attrs = filter (λ a. numbers_by (class_of a.form) (names_file a.name))
 
 -- What is named by an entry that is written in the unit with that number: references lead to what stands for their targets after, in this
 -- unit, in its file, or in the common one; texts and paths stand where the definitions of what is written say.
-pub record KnowsEntry (keys : Keys EntryName) (k : EntryTable) (f : FileRead) (here : ℕ) (ft : Fit EntryName) (rn : NewNumbers) (i : ℕ)
+pub record KnowsEntry (keys : Keys EntryName) (k : EntryTable) (f : FileRead) (here : ℕ) (ft : UnitForms EntryName) (rn : NewNumbers) (i : ℕ)
     (d : Node ℕ) : Type 0 where
   pub references : EachFrom (λ n p. IsNamed keys k f n (f.after p)) (firsts_at k f i).reference (node_refs d)
   pub owners : EachFrom (λ n p. IsReached keys k here ft (reference_at k f.number n)) (firsts_at k f i).reference (node_refs d)
@@ -158,18 +158,18 @@ pub record KnowsReferences (keys : Keys EntryName) (k : EntryTable) (f : FileRea
       → EachFrom (λ n p. IsNamed keys k f n (f.after p)) (firsts_at k f i).reference (node_refs d)
 
 -- Of an entry that is written in the unit with that number, references lead into this unit, its file or the common one as owners say.
-pub record KnowsOwners (keys : Keys EntryName) (k : EntryTable) (f : FileRead) (here : ℕ) (o : UnitItems) (ft : Fit EntryName) : Type 0
+pub record KnowsOwners (keys : Keys EntryName) (k : EntryTable) (f : FileRead) (here : ℕ) (o : UnitItems) (ft : UnitForms EntryName) : Type 0
   where
     pub are : (i : ℕ) (r : EntryRow) (d : Node ℕ) → IsRead f i r d → Writes k o f i
         → EachFrom (λ n p. IsReached keys k here ft (reference_at k f.number n)) (firsts_at k f i).reference (node_refs d)
 
 -- Its texts stand where the definitions of forms and of texts that stay say.
-pub record KnowsTexts (k : EntryTable) (f : FileRead) (o : UnitItems) (ft : Fit EntryName) (rn : NewNumbers) : Type 0 where
+pub record KnowsTexts (k : EntryTable) (f : FileRead) (o : UnitItems) (ft : UnitForms EntryName) (rn : NewNumbers) : Type 0 where
   pub are : (i : ℕ) (r : EntryRow) (d : Node ℕ) → IsRead f i r d → Writes k o f i
       → EachFrom (λ n a. IsText ft rn a (text_at k f.number n)) (firsts_at k f i).text (texts_in (node_map f.after d).attrs)
 
 -- In the common file its numbers of files are those of their paths.
-pub record KnowsFiles (k : EntryTable) (f : FileRead) (o : UnitItems) (ft : Fit EntryName) : Type 0 where
+pub record KnowsFiles (k : EntryTable) (f : FileRead) (o : UnitItems) (ft : UnitForms EntryName) : Type 0 where
   pub are : (i : ℕ) (r : EntryRow) (d : Node ℕ) → IsRead f i r d → Writes k o f i → ft.holder ≡ CommonUnit
       → EachFrom (λ n a. file_at k f.number n ≡ file_number ft.paths a.value.plain)
       (firsts_at k f i).file (files_in (node_map f.after d).attrs)
@@ -181,23 +181,23 @@ pub record KnowsNames (keys : Keys EntryName) (k : EntryTable) (f : FileRead) (o
 -- ---- what is written, by its origin
 
 -- All that an entry names is known, and its name: it stands for itself.
-pub record KnowsRow (keys : Keys EntryName) (k : EntryTable) (f : FileRead) (here : ℕ) (ft : Fit EntryName) (rn : NewNumbers) (i : ℕ) :
+pub record KnowsRow (keys : Keys EntryName) (k : EntryTable) (f : FileRead) (here : ℕ) (ft : UnitForms EntryName) (rn : NewNumbers) (i : ℕ) :
     Type 0 where
   pub entry : (r : EntryRow) (d : Node ℕ) → IsRead f i r d → KnowsEntry keys k f here ft rn i d
   pub name : (r : EntryRow) (d : Node ℕ) → IsRead f i r d → keys.row (number_of k (row f.number i)) ≡ f.after d.at
 
 -- so of what was read in the file
-abbrev pub KnowsOrigin : Keys EntryName → EntryTable → FileRead → ℕ → Fit EntryName → NewNumbers → Origin → Type 0
+abbrev pub KnowsOrigin : Keys EntryName → EntryTable → FileRead → ℕ → UnitForms EntryName → NewNumbers → Origin → Type 0
 KnowsOrigin keys k f here ft rn (OfRow r) = r.file ≡ f.number → KnowsRow keys k f here ft rn r.entry
 KnowsOrigin keys k f here ft rn _ = Unit {0}
 
-abbrev pub KnowsSlots : Keys EntryName → EntryTable → FileRead → ℕ → Fit EntryName → NewNumbers → List Slot → Type 0
+abbrev pub KnowsSlots : Keys EntryName → EntryTable → FileRead → ℕ → UnitForms EntryName → NewNumbers → List Slot → Type 0
 KnowsSlots keys k f here ft rn slots = Each (λ s. KnowsOrigin keys k f here ft rn s.origin) slots
 
 -- ---- entries of items
 
 -- with what is written of its values
-abbrev pub given_line : Fit EntryName → NewNumbers → Line EntryName → Line EntryName
+abbrev pub given_line : UnitForms EntryName → NewNumbers → Line EntryName → Line EntryName
 given_line ft rn l = line l.depth (given_node ft rn l.node)
 
 -- From an entry of the file on stand the rows of an entry and of all below it, which mean these once they have names.
@@ -255,7 +255,7 @@ abbrev pub name_attr : SpaceName → Attr EntryName
 name_attr s = record { name = 0x03; form = s.form; raw = s.raw; value = only (Text s.text) }
 
 -- a space of a chain, with the name of a space that was read, which stands where the definitions say
-pub record ShowsChained (keys : Keys EntryName) (files : List FileRead) (ft : Fit EntryName) (rn : NewNumbers) (key : EntryName) (s :
+pub record ShowsChained (keys : Keys EntryName) (files : List FileRead) (ft : UnitForms EntryName) (rn : NewNumbers) (key : EntryName) (s :
     SpaceRow)
     (node : Node EntryName) : Type 0 where
   pub at : key ≡ node.at
@@ -268,16 +268,16 @@ pub record ShowsChained (keys : Keys EntryName) (files : List FileRead) (ft : Fi
   pub there : OfSome files (λ f. (i : ℕ) × (x : EntryRow) × (s.row ≡ row f.number i) × IsRead f i x d)
 
 -- an import of a partial unit, which is the unit with that number among those that are written
-pub record ShowsImport (keys : Keys EntryName) (k : EntryTable) (here : ℕ) (ft : Fit EntryName) (part : ℕ) (node : Node EntryName) : Type 0
+pub record ShowsImport (keys : Keys EntryName) (k : EntryTable) (here : ℕ) (ft : UnitForms EntryName) (part : ℕ) (node : Node EntryName) : Type 0
   where
     pub at : keys.import here part ≡ node.at
     pub tag : node.tag ≡ 0x3d
     pub attrs : node.attrs ≡ record { name = 0x18; form = 0x10; raw = pos 0; value = ref (keys.root (unit_of_part k part)) } ∷ []
     pub own : has_key ft.same (keys.root (unit_of_part k part)) ft.own ≡ (unit_of_part k part == here)
-    pub file : has_key ft.same (keys.root (unit_of_part k part)) ft.file ≡ same_bool (is_common k (unit_of_part k part)) (is_common k here)
+    pub file : has_key ft.same (keys.root (unit_of_part k part)) ft.keys ≡ same_bool (is_common k (unit_of_part k part)) (is_common k here)
 
 -- what stands so deep, where numbers have names
-abbrev pub ShowsWhat : Keys EntryName → EntryTable → List FileRead → ℕ → Fit EntryName → NewNumbers → Names EntryName → Sort → ℕ
+abbrev pub ShowsWhat : Keys EntryName → EntryTable → List FileRead → ℕ → UnitForms EntryName → NewNumbers → Names EntryName → Sort → ℕ
     → ItemKind → Type 0
 ShowsWhat keys k files here ft rn names sort depth Root = ShowsRoot keys files here sort names.root
 ShowsWhat keys k files here ft rn names sort depth Whole = ShowsWhole files sort names.root names.whole
@@ -290,7 +290,7 @@ ShowsWhat keys k files here ft rn names sort depth (InChain chain space) =
 ShowsWhat keys k files here ft rn names sort depth (Import part) = ShowsImport keys k here ft part (names.import part)
 
 -- What is known of a file that is written in the unit with that number.
-pub record KnowsIn (keys : Keys EntryName) (k : EntryTable) (here : ℕ) (o : UnitItems) (ft : Fit EntryName) (rn : NewNumbers) (f :
+pub record KnowsIn (keys : Keys EntryName) (k : EntryTable) (here : ℕ) (o : UnitItems) (ft : UnitForms EntryName) (rn : NewNumbers) (f :
     FileRead) : Type 0 where
   pub file : KnowsFile k f
   pub references : KnowsReferences keys k f
@@ -300,7 +300,7 @@ pub record KnowsIn (keys : Keys EntryName) (k : EntryTable) (here : ℕ) (o : Un
   pub names : KnowsNames keys k f o
 
 -- What is known of the unit with that number: of all files whose entries it has, and of its items.
-pub record KnowsUnit (keys : Keys EntryName) (k : EntryTable) (files : List FileRead) (here : ℕ) (o : UnitItems) (ft : Fit EntryName) (rn :
+pub record KnowsUnit (keys : Keys EntryName) (k : EntryTable) (files : List FileRead) (here : ℕ) (o : UnitItems) (ft : UnitForms EntryName) (rn :
     NewNumbers)
     (names : Names EntryName) : Type 0 where
   pub of_files : Each (KnowsIn keys k here o ft rn) files

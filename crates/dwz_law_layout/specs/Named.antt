@@ -1,14 +1,10 @@
 -- What numbers of entries, units, spaces of chains and imports are named.
 use Rattle.std.specs.Prelude.{ℕ, Option, Some, None, slice_get, slice_index_or}
 use Rattle.dwz_def_reading.specs.Documents.{DwUnit}
-use Rattle.dwz_def_tops.specs.Spots.{EntryName, Import, InChain, PartialOf, UnitOf}
+use Rattle.dwz_def_tops.specs.Spots.{EntryName, Import, InChain, PartialOf, UnitOf, no_name}
 use Rattle.dwz_layout_numbers.specs.Names.{all_names}
 use Rattle.dwz_encode.specs.Shown.{Keys}
 use Rattle.dwz_law_layout.specs.Facts.{RunFacts, docs, units_written}
-
--- what no number names
-abbrev pub no_name : EntryName
-no_name = UnitOf 0
 
 -- the root of a unit
 abbrev pub root_name : Option (DwUnit EntryName) → EntryName

@@ -3,14 +3,12 @@ use Rattle.std.specs.Prelude.{◌≡◌, ◌⊎◌, ℕ, true, ◌==◌, Some, s
 use Rattle.dwz_def_reading.specs.Lists.{In}
 use Rattle.dwz_def_reading.specs.Documents.{DwUnit, Node}
 use Rattle.dwz_def_tops.specs.Lists.{Nth}
-use Rattle.dwz_def_tops.specs.Shown.{units_keys}
 use Rattle.dwz_def_tops.specs.Deciding.{same_bool}
 use Rattle.dwz_def_tops.specs.Spots.{EntryName}
 use Rattle.dwz_def_plan.specs.Homes.{Common, Local}
 use Rattle.dwz_def_plan.specs.Plan.{PartialUnit}
 use Rattle.dwz_def_images.specs.Units.{changes, common_units, out_units, partial_unit}
-use Rattle.dwz_def_encoding.specs.Placing.{Fit, has_key, unit_fit, with_keys}
-use Rattle.dwz_def_readback.specs.Files.{common_forms, file_forms}
+use Rattle.dwz_def_encoding.specs.Placing.{UnitForms, has_key}
 use Rattle.dwz_unit.specs.Rows.{EntryRow}
 use Rattle.dwz_layout_numbers.specs.Owners.{StandsIn}
 use Rattle.dwz_layout.specs.declared.known.EntryTable.{EntryTable}
@@ -20,10 +18,11 @@ use Rattle.dwz_layout.specs.Entries.{row}
 use Rattle.dwz_layout.specs.Known.{number_of, owner_of, unit_of_part}
 use Rattle.dwz_encode.specs.Shown.{Keys}
 use Rattle.dwz_law_layout.specs.Knows.{IsRead, KnowsOwners}
-use Rattle.dwz_law_layout.specs.Facts.{AreFacts, RunFacts, file_read, move, run, units, units_written}
+use Rattle.dwz_law_layout.specs.Facts.{AreFacts, RunFacts, file_read, move, units, units_written}
 use Rattle.dwz_law_layout.specs.Listed.{AreListed, TextsAt}
 use Rattle.dwz_law_layout.specs.Named.{keys}
 use Rattle.dwz_law_layout.specs.NamedLaws.{IsItself, OfFiles, entry_name}
+use Rattle.dwz_law_layout.specs.Unfitted.{common_unit_forms, file_unit_forms}
 
 -- In a file that is written, an entry that stands for itself has its name in the unit that owns it.
 abbrev pub OwnedLaw : Type 0
@@ -39,41 +38,34 @@ PartsLaw = (f : RunFacts) (t : TextsAt) (k : EntryTable) → AreFacts f → AreL
 
 -- ---- from a unit
 
--- what forms are chosen by in a unit of the common file, and in a unit of the file with that number
-abbrev pub common_fit : RunFacts → DwUnit EntryName → Fit EntryName
-common_fit f u = unit_fit (with_keys (common_forms (run f)) (units_keys (common_units (move f)))) u
-
-abbrev pub file_fit : RunFacts → ℕ → DwUnit EntryName → Fit EntryName
-file_fit f n u = unit_fit (with_keys (file_forms (run f) n) (units_keys (out_units (move f) (units f) n))) u
-
 -- From a unit of the common file: whether what an entry of a file names stands in it, and in its file, is told by owners.
 abbrev pub CommonReachedLaw : Type 0
 CommonReachedLaw = OfFiles (λ f k n bytes x. changes (move f) (units f) n ≡ true
     → (here : ℕ) (u : DwUnit EntryName) → slice_get (units_written f) here ≡ Some u → In u (common_units (move f))
-    → (o : UnitItems) → KnowsOwners (keys f) k (file_read f n bytes x) here o (common_fit f u))
+    → (o : UnitItems) → KnowsOwners (keys f) k (file_read f n bytes x) here o (common_unit_forms f u))
 
 -- so from a unit of the entry's own file
 abbrev pub FileReachedLaw : Type 0
 FileReachedLaw = OfFiles (λ f k n bytes x. changes (move f) (units f) n ≡ true
     → (here : ℕ) (u : DwUnit EntryName) → slice_get (units_written f) here ≡ Some u → In u (out_units (move f) (units f) n)
-    → (o : UnitItems) → KnowsOwners (keys f) k (file_read f n bytes x) here o (file_fit f n u))
+    → (o : UnitItems) → KnowsOwners (keys f) k (file_read f n bytes x) here o (file_unit_forms f n u))
 
 -- ---- what is imported
 
 -- whether the root of that partial unit stands in this unit, and in its file, is told by the numbers of units
-pub record ReachesPart (names : Keys EntryName) (k : EntryTable) (here : ℕ) (ft : Fit EntryName) (part : ℕ) : Type 0 where
+pub record ReachesPart (names : Keys EntryName) (k : EntryTable) (here : ℕ) (ft : UnitForms EntryName) (part : ℕ) : Type 0 where
   pub own : has_key ft.same (names.root (unit_of_part k part)) ft.own ≡ (unit_of_part k part == here)
-  pub file : has_key ft.same (names.root (unit_of_part k part)) ft.file ≡ same_bool (is_common k (unit_of_part k part)) (is_common k here)
+  pub file : has_key ft.same (names.root (unit_of_part k part)) ft.keys ≡ same_bool (is_common k (unit_of_part k part)) (is_common k here)
 
 -- from a unit of the common file
 abbrev pub CommonPartsLaw : Type 0
 CommonPartsLaw = (f : RunFacts) (t : TextsAt) (k : EntryTable) → AreFacts f → AreListed f t k
     → (here : ℕ) (u : DwUnit EntryName) → slice_get (units_written f) here ≡ Some u → In u (common_units (move f))
-    → (p : ℕ) (part : PartialUnit) → Nth 0 (move f).parts p part → ReachesPart (keys f) k here (common_fit f u) p
+    → (p : ℕ) (part : PartialUnit) → Nth 0 (move f).parts p part → ReachesPart (keys f) k here (common_unit_forms f u) p
 
 -- from a unit of a file that is written, where the partial unit is of that file, or of the common one
 abbrev pub FilePartsLaw : Type 0
 FilePartsLaw = OfFiles (λ f k n bytes x. changes (move f) (units f) n ≡ true
     → (here : ℕ) (u : DwUnit EntryName) → slice_get (units_written f) here ≡ Some u → In u (out_units (move f) (units f) n)
     → (p : ℕ) (part : PartialUnit) → Nth 0 (move f).parts p part → (part.home ≡ Common) ⊎ (part.home ≡ Local n)
-    → ReachesPart (keys f) k here (file_fit f n u) p)
+    → ReachesPart (keys f) k here (file_unit_forms f n u) p)

@@ -1,11 +1,8 @@
 -- What is written of the old units of a file shows the units that are kept of them.
 use Rattle.std.specs.Prelude.{◌≡◌, ℕ, ◌+◌, true, false, List, Some, slice_get, slice_index_or}
 use Rattle.dwz_def_reading.specs.Documents.{DwUnit}
-use Rattle.dwz_def_tops.specs.Shown.{units_keys}
 use Rattle.dwz_def_tops.specs.Spots.{EntryName}
-use Rattle.dwz_def_images.specs.Units.{kept_units, out_units}
-use Rattle.dwz_def_encoding.specs.Placing.{FileFit, with_keys}
-use Rattle.dwz_def_readback.specs.Files.{file_forms}
+use Rattle.dwz_def_images.specs.Units.{kept_units}
 use Rattle.dwz_unit.specs.Rows.{units_of as raw_units}
 use Rattle.dwz_graph.specs.declared.file.File.{File}
 use Rattle.dwz_graph.specs.Index.{Index}
@@ -17,11 +14,11 @@ use Rattle.dwz_layout.specs.declared.known.EntryTable.{EntryTable}
 use Rattle.dwz_layout.specs.declared.order.UnitItems.{UnitItems}
 use Rattle.dwz_law_layout.specs.Fitted.{KnowUnits}
 use Rattle.dwz_law_layout.specs.Knows.{NewNumbers}
-use Rattle.dwz_law_layout.specs.Facts.{AreFacts, HasFile, RunFacts, move, run, units, units_written, written}
+use Rattle.dwz_law_layout.specs.Facts.{AreFacts, HasFile, RunFacts, move, units, units_written, written}
 use Rattle.dwz_law_layout.specs.Listed.{AreListed, TextsAt}
 use Rattle.dwz_law_layout.specs.Named.{keys}
 use Rattle.dwz_law_layout.specs.Settled.{IsSettled}
-use Rattle.dwz_law_layout.specs.Unfitted.{KnowTexts}
+use Rattle.dwz_law_layout.specs.Unfitted.{KnowTexts, file_keyed_forms}
 
 -- these units have the numbers from that one on among all that are written
 abbrev pub AreWrittenFrom : RunFacts → (here : ℕ) → List (DwUnit EntryName) → Type 0
@@ -30,10 +27,6 @@ AreWrittenFrom f here us = (j : ℕ) (u : DwUnit EntryName) → slice_get us j �
 -- the old units of a file after
 abbrev pub olds_after : RunFacts → ℕ → List (DwUnit EntryName)
 olds_after f n = kept_units (move f) (units f) n 0 (units f)
-
--- how the values of a file after are written
-abbrev pub fit_of : RunFacts → ℕ → FileFit EntryName
-fit_of f n = with_keys (file_forms (run f) n) (units_keys (out_units (move f) (units f) n))
 
 -- In a file that is written, what is written of its old units is what is known of those after, if their texts stand where the definitions
 -- say.
@@ -45,4 +38,4 @@ KeptKnownLaw =
     → (numbers : NewNumbers) (here : ℕ) (order : List UnitItems)
     → AreKept (raw_units x.units) s.marks (imports_at s.plan.now) (from_index n start index) (next_index index) (raw_units x.units) order
     → AreWrittenFrom f here (olds_after f n) → KnowTexts f k numbers n order (olds_after f n)
-    → KnowUnits (keys f) k (fit_of f n) numbers here order (olds_after f n)
+    → KnowUnits (keys f) k (file_keyed_forms f n) numbers here order (olds_after f n)

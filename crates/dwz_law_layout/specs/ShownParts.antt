@@ -1,23 +1,20 @@
 -- What is written of the partial units of a file, and of those of the common file, shows these units.
 use Rattle.std.specs.Prelude.{◌≡◌, ℕ, ◌+◌, true, false, List, None, Some, length, slice_get, slice_index_or}
 use Rattle.dwz_def_reading.specs.Documents.{DwUnit}
-use Rattle.dwz_def_tops.specs.Shown.{units_keys}
 use Rattle.dwz_def_tops.specs.Spots.{EntryName}
 use Rattle.dwz_def_plan.specs.Homes.{Local}
-use Rattle.dwz_def_images.specs.Units.{common_units, out_units, partial_units}
-use Rattle.dwz_def_encoding.specs.Placing.{with_keys}
-use Rattle.dwz_def_readback.specs.Files.{common_forms, file_forms}
+use Rattle.dwz_def_images.specs.Units.{common_units, partial_units}
 use Rattle.dwz_layout_order.specs.declared.orders.Settled.{Settled}
 use Rattle.dwz_layout_order.specs.Ordered.{PartsPut}
 use Rattle.dwz_layout.specs.declared.known.EntryTable.{EntryTable}
 use Rattle.dwz_layout.specs.declared.order.UnitItems.{UnitItems}
 use Rattle.dwz_law_layout.specs.Fitted.{KnowUnits}
 use Rattle.dwz_law_layout.specs.Knows.{NewNumbers}
-use Rattle.dwz_law_layout.specs.Facts.{AreFacts, RunFacts, docs, move, run, units, units_written, written}
+use Rattle.dwz_law_layout.specs.Facts.{AreFacts, RunFacts, docs, move, units_written, written}
 use Rattle.dwz_law_layout.specs.Listed.{AreListed, TextsAt}
 use Rattle.dwz_law_layout.specs.Named.{keys}
 use Rattle.dwz_law_layout.specs.Settled.{IsSettled}
-use Rattle.dwz_law_layout.specs.Unfitted.{KnowCommon, KnowTexts}
+use Rattle.dwz_law_layout.specs.Unfitted.{KnowCommon, KnowTexts, common_keyed_forms, file_keyed_forms}
 
 -- the partial units of a file
 abbrev pub parts_after : RunFacts → ℕ → List (DwUnit EntryName)
@@ -32,8 +29,7 @@ PartsKnownLaw =
     → (numbers : NewNumbers) (here : ℕ) (order : List UnitItems) → PartsPut s n 0 s.plan.now.partials order
     → ((j : ℕ) (u : DwUnit EntryName) → slice_get (parts_after f n) j ≡ Some u → slice_get (units_written f) (here + j) ≡ Some u)
     → KnowTexts f k numbers n order (parts_after f n)
-    → KnowUnits (keys f) k (with_keys (file_forms (run f) n) (units_keys (out_units (move f) (units f) n))) numbers here order
-    (parts_after f n)
+    → KnowUnits (keys f) k (file_keyed_forms f n) numbers here order (parts_after f n)
 
 -- So it is of the partial units of the common file (DWARF 5, 7.3.6), which are the first of all that are written; its number is that of
 -- the files.
@@ -41,4 +37,4 @@ abbrev pub CommonKnownLaw : Type 0
 CommonKnownLaw =
     (f : RunFacts) (t : TextsAt) (k : EntryTable) (s : Settled) → AreFacts f → AreListed f t k → IsSettled f s
     → (order : List UnitItems) → PartsPut s (length (docs f)) 0 s.plan.now.partials order → KnowCommon f k order (common_units (move f))
-    → KnowUnits (keys f) k (with_keys (common_forms (run f)) (units_keys (common_units (move f)))) None 0 order (common_units (move f))
+    → KnowUnits (keys f) k (common_keyed_forms f) None 0 order (common_units (move f))

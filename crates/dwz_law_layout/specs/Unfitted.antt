@@ -11,7 +11,7 @@ use Rattle.dwz_layout_items.specs.declared.order.Item.{Item}
 use Rattle.dwz_layout_items.specs.declared.order.ItemKind.{ItemKind}
 use Rattle.dwz_layout_items.specs.declared.order.ItemKind.TheVariants.{InChain}
 use Rattle.dwz_def_images.specs.Units.{common_units, out_units}
-use Rattle.dwz_def_encoding.specs.Placing.{Fit, unit_fit, with_keys}
+use Rattle.dwz_def_encoding.specs.Placing.{KeyedForms, UnitForms, unit_forms, with_keys}
 use Rattle.dwz_def_readback.specs.Files.{common_forms, file_forms}
 use Rattle.dwz_layout.specs.declared.known.EntryTable.{EntryTable}
 use Rattle.dwz_layout.specs.declared.order.UnitItems.{UnitItems}
@@ -39,11 +39,21 @@ unfitted_file f numbers n = record {
 abbrev pub before_forms : RunFacts → (ℕ → NewNumbers) → List Unfitted
 before_forms f numbers = unfitted_common f ∷ map (unfitted_file f numbers) (files_written f)
 
--- ---- texts
+-- what forms are chosen by in the common file, and in the file after with that number
+abbrev pub common_keyed_forms : RunFacts → KeyedForms EntryName
+common_keyed_forms f = with_keys (common_forms (run f)) (units_keys (common_units (move f)))
 
--- how the values of a unit of a file after are written
-abbrev pub fit_in : RunFacts → ℕ → DwUnit EntryName → Fit EntryName
-fit_in f n u = unit_fit (with_keys (file_forms (run f) n) (units_keys (out_units (move f) (units f) n))) u
+abbrev pub file_keyed_forms : RunFacts → ℕ → KeyedForms EntryName
+file_keyed_forms f n = with_keys (file_forms (run f) n) (units_keys (out_units (move f) (units f) n))
+
+-- and in a unit of it
+abbrev pub common_unit_forms : RunFacts → DwUnit EntryName → UnitForms EntryName
+common_unit_forms f u = unit_forms (common_keyed_forms f) u
+
+abbrev pub file_unit_forms : RunFacts → ℕ → DwUnit EntryName → UnitForms EntryName
+file_unit_forms f n u = unit_forms (file_keyed_forms f n) u
+
+-- ---- texts
 
 -- the item names a space of a chain
 abbrev pub NamesChained : ℕ → ItemKind → Type 0
@@ -55,9 +65,9 @@ pub record HasChained (s : ℕ) (items : List Item) : Type 0 where
   pub there : In item items
   pub names : NamesChained s item.what
 
--- In a unit that is written so, and whose values are written so, the texts of the entries of that file stand where the definitions of what
+-- In a unit that is written so, and whose forms are chosen so, the texts of the entries of that file stand where the definitions of what
 -- is written say, with these new numbers; and so do the names of those of its spaces that stand in chains.
-pub record KnowsTextsOf (f : RunFacts) (k : EntryTable) (ft : Fit EntryName) (numbers : NewNumbers) (n : ℕ) (o : UnitItems) : Type 0 where
+pub record KnowsTextsOf (f : RunFacts) (k : EntryTable) (ft : UnitForms EntryName) (numbers : NewNumbers) (n : ℕ) (o : UnitItems) : Type 0 where
   pub entries : (bytes : List ℕ) (x : File) (index : Index) → HasFile f n bytes x index → KnowsTexts k (file_read f n bytes x) o ft numbers
   pub spaces : (bytes : List ℕ) (x : File) (index : Index) → HasFile f n bytes x index
       → (s i : ℕ) (r : EntryRow) (d : Node ℕ) (text : List ℕ) → HasChained s o.items
@@ -66,7 +76,7 @@ pub record KnowsTextsOf (f : RunFacts) (k : EntryTable) (ft : Fit EntryName) (nu
 
 -- so in that unit of the file itself
 abbrev pub KnowsUnitTexts : RunFacts → EntryTable → NewNumbers → ℕ → UnitItems → DwUnit EntryName → Type 0
-KnowsUnitTexts f k numbers n o u = KnowsTextsOf f k (fit_in f n u) numbers n o
+KnowsUnitTexts f k numbers n o u = KnowsTextsOf f k (file_unit_forms f n u) numbers n o
 
 -- so of each unit of the file
 abbrev pub KnowTexts : RunFacts → EntryTable → NewNumbers → ℕ → List UnitItems → List (DwUnit EntryName) → Type 0
@@ -76,16 +86,12 @@ KnowTexts f k numbers n _ _ = ⊥
 
 -- ---- the common file
 
--- how the values of a unit of the common file are written
-abbrev pub fit_common : RunFacts → DwUnit EntryName → Fit EntryName
-fit_common f u = unit_fit (with_keys (common_forms (run f)) (units_keys (common_units (move f)))) u
-
 -- In that unit of it, which is written so, texts of entries of any file stand where the definitions say, and names of spaces; and values
 -- that number files have the numbers of their paths (DWARF 5, 2.14).
 pub record KnowsCommonUnit (f : RunFacts) (k : EntryTable) (o : UnitItems) (u : DwUnit EntryName) : Type 0 where
-  pub texts : (n : ℕ) → KnowsTextsOf f k (fit_common f u) None n o
+  pub texts : (n : ℕ) → KnowsTextsOf f k (common_unit_forms f u) None n o
   pub files : (n : ℕ) (bytes : List ℕ) (x : File) (index : Index) → HasFile f n bytes x index
-      → KnowsFiles k (file_read f n bytes x) o (fit_common f u)
+      → KnowsFiles k (file_read f n bytes x) o (common_unit_forms f u)
 
 -- so of each of its units
 abbrev pub KnowCommon : RunFacts → EntryTable → List UnitItems → List (DwUnit EntryName) → Type 0

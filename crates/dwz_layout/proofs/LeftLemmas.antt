@@ -4,9 +4,8 @@ use Rattle.std.specs.Prelude.{IsOk}
 use Rattle.std.specs.Option.{option_map_or}
 use Rattle.std.proofs.lemmas.List.{drop_all, length-append, map-append}
 use Rattle.dwz_def_reading.specs.Input.{Input}
-use Rattle.dwz_def_reading.specs.Forms.{form_rows}
 use Rattle.dwz_def_reading.specs.Entries.{RawAttr}
-use Rattle.dwz_def_reading.specs.Values.{Raw, value_at, value_bytes}
+use Rattle.dwz_def_reading.specs.Values.{Raw, value_at, value_bytes, written_rows}
 use Rattle.dwz_def_reading.proofs.PartLemmas.{same_input, same_value}
 use Rattle.dwz_def_reading.proofs.ListFacts.{drop_here}
 use Rattle.dwz_model.specs.declared.place.Pair.{Pair}
@@ -68,20 +67,20 @@ module _ (k : EntryTable) (here : WritingContext) (r : Row) (pairs : List Pair) 
   }
 
   module _ (j : ℕ) (d : Pair) (at : Input) (next : ValueCounts) (done : List OutAttr) (left : LeftOf k here r pairs j at next done) (lt : j < length pairs) where
-    pub left_readable : IsOk (value_at form_rows (get_or pairs j d) at)
+    pub left_readable : IsOk (value_at written_rows (get_or pairs j d) at)
     left_readable =
         let x = reads_next left.entry.entry.at pairs j d at left.entry.entry.attrs lt left.reads in
         subst IsOk (sym x.value) refl
 
-    pub left_next : (place : Input) (raw : Raw) → value_at form_rows (get_or pairs j d) at ≡ Ok (raw, place)
+    pub left_next : (place : Input) (raw : Raw) → value_at written_rows (get_or pairs j d) at ≡ Ok (raw, place)
         → LeftOf k here r pairs (j + 1) place (after here next (value_read place.at (get_or pairs j d) raw)) (done ++ out_attr k r.file here next (value_read place.at (get_or pairs j d) raw))
     unfolding out_attrs
     left_next place raw value =
         let pair = get_or pairs j d in
         let attrs = left.entry.entry.attrs in
         let x = reads_next left.entry.entry.at pairs j d at attrs lt left.reads in
-        let same_raw = same_value x.raw raw x.place place (value_at form_rows pair at) x.value value in
-        let same_place = same_input x.raw raw x.place place (value_at form_rows pair at) x.value value in
+        let same_raw = same_value x.raw raw x.place place (value_at written_rows pair at) x.value value in
+        let same_place = same_input x.raw raw x.place place (value_at written_rows pair at) x.value value in
         let a : RawAttr = record { at = at.at; end = place.at; pair = pair; raw = raw } in
         let there : slice_get attrs j ≡ Some a = x.is ∙ (λ i. let b : RawAttr = record { at = at.at; end = (same_place i).at; pair = pair; raw = same_raw i } in Some b) in
         let rest = out_attrs k r.file here (after here next a) (drop (j + 1) attrs) in

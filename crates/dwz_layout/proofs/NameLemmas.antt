@@ -5,9 +5,8 @@ use Rattle.std.specs.Prelude.{IsOk}
 use Rattle.std.specs.Option.{option_map_or}
 use Rattle.std.proofs.lemmas.List.{drop_all}
 use Rattle.dwz_def_reading.specs.Input.{Input}
-use Rattle.dwz_def_reading.specs.Forms.{form_rows}
 use Rattle.dwz_def_reading.specs.Entries.{RawAttr}
-use Rattle.dwz_def_reading.specs.Values.{Raw, value_at}
+use Rattle.dwz_def_reading.specs.Values.{Raw, value_at, written_rows}
 use Rattle.dwz_def_reading.proofs.PartLemmas.{same_input, same_value}
 use Rattle.dwz_def_reading.proofs.ListFacts.{drop_here}
 use Rattle.dwz_model.specs.declared.place.Pair.{Pair}
@@ -55,12 +54,12 @@ module _ (k : EntryTable) (h : UnitRole) (s : SpaceRow) (pairs : List Pair) wher
   }
 
   module _ (j : ℕ) (d : Pair) (at : Input) (left : NameLeft k h s pairs j at) (lt : j < length pairs) where
-    pub name_readable : IsOk (value_at form_rows (get_or pairs j d) at)
+    pub name_readable : IsOk (value_at written_rows (get_or pairs j d) at)
     name_readable =
         let x = reads_next left.entry.entry.at pairs j d at left.entry.entry.attrs lt left.reads in
         subst IsOk (sym x.value) refl
 
-    module _ (place : Input) (raw : Raw) (value : value_at form_rows (get_or pairs j d) at ≡ Ok (raw, place)) where
+    module _ (place : Input) (raw : Raw) (value : value_at written_rows (get_or pairs j d) at ≡ Ok (raw, place)) where
       abbrev a : RawAttr
       a = value_read place.at (get_or pairs j d) raw
 
@@ -68,8 +67,8 @@ module _ (k : EntryTable) (h : UnitRole) (s : SpaceRow) (pairs : List Pair) wher
       there =
           let pair = get_or pairs j d in
           let x = reads_next left.entry.entry.at pairs j d at left.entry.entry.attrs lt left.reads in
-          let same_raw = same_value x.raw raw x.place place (value_at form_rows pair at) x.value value in
-          let same_place = same_input x.raw raw x.place place (value_at form_rows pair at) x.value value in
+          let same_raw = same_value x.raw raw x.place place (value_at written_rows pair at) x.value value in
+          let same_place = same_input x.raw raw x.place place (value_at written_rows pair at) x.value value in
           x.is ∙ (λ i. let b : RawAttr = record { at = at.at; end = (same_place i).at; pair = pair; raw = same_raw i } in Some b)
 
       split : space_attrs k h s ≡ by_name h (text_held h s) a (drop (j + 1) left.entry.entry.attrs) (eqb (get_or pairs j d).name 0x03)
@@ -81,7 +80,7 @@ module _ (k : EntryTable) (h : UnitRole) (s : SpaceRow) (pairs : List Pair) wher
       name_next ne =
           let pair = get_or pairs j d in
           let x = reads_next left.entry.entry.at pairs j d at left.entry.entry.attrs lt left.reads in
-          let same_place = same_input x.raw raw x.place place (value_at form_rows pair at) x.value value in
+          let same_place = same_input x.raw raw x.place place (value_at written_rows pair at) x.value value in
           record {
             entry = left.entry;
             reads = subst (λ (i : Input). Reads left.entry.entry.at (drop (j + 1) pairs) i (drop (j + 1) left.entry.entry.attrs)) same_place x.rest;

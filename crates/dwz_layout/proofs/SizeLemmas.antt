@@ -7,7 +7,7 @@ use Rattle.dwz_def_reading.specs.Forms.{form_rows}
 use Rattle.dwz_def_reading.specs.Entries.{RawAttr}
 use Rattle.dwz_def_reading.specs.Input.{Input}
 use Rattle.dwz_def_reading.specs.Abbrevs.{IsPlainPair}
-use Rattle.dwz_def_reading.specs.Values.{Bytes, Number, Raw, value_at, value_bytes}
+use Rattle.dwz_def_reading.specs.Values.{Bytes, Number, Raw, value_at, value_bytes, written_rows}
 use Rattle.dwz_model.specs.declared.place.Pair.{Pair}
 use Rattle.dwz_def_reading.specs.declared.exprs.Operand.{Operand}
 use Rattle.dwz_def_reading.specs.Exprs.{any_operands, expr_at, parts_from}
@@ -130,7 +130,7 @@ module _ (k : EntryTable) (here : WritingContext) (r : Row) (pairs : List Pair) 
       × (one ≡ length (values_bytes (stored_all no_numbers (out_attr k r.file here next (value_read end pair raw)))))
 
   pub measured_more : (j : ℕ) (d : Pair) (at place : Input) (next : ValueCounts) (room : List Pair) (size : ℕ) → Measured k here r pairs j at next room size → j < length pairs → (raw : Raw)
-      → value_at form_rows (get_or pairs j d) at ≡ Ok (raw, place)
+      → value_at written_rows (get_or pairs j d) at ≡ Ok (raw, place)
       → (new : ValueCounts) (names : List Pair) (one sum end : ℕ) → Added next room (get_or pairs j d) raw new names one end → end ≡ place.at → sum ≡ size + one → All IsPlainPair names
       → Measured k here r pairs (j + 1) place new names sum
   measured_more j d at place next room size m lt raw value new names one sum end added same add plain =

@@ -6,31 +6,11 @@ ghost use Rattle.dwz_layout.specs.Attributes;
 ghost use Rattle.dwz_layout.specs.Attributes.{plain_pair};
 
 use crate::known::{EntryTable, TextAt};
+use dwz_codes::{
+    DW_AT_IMPORT, DW_AT_STMT_LIST, DW_FORM_EXPRLOC, DW_FORM_REF_ADDR, DW_FORM_REF_SUP4,
+    DW_FORM_REF4, DW_FORM_SEC_OFFSET, DW_FORM_STRP, DW_FORM_STRP_SUP, DW_FORM_UDATA,
+};
 use dwz_model::Pair;
-
-// `DW_FORM_ref4`, `DW_FORM_ref_addr`, `DW_FORM_ref_sup4`.
-const REF4: u64 = 0x13;
-
-const REF_ADDR: u64 = 0x10;
-
-const REF_SUP4: u64 = 0x1c;
-
-// `DW_FORM_strp`, `DW_FORM_strp_sup`, `DW_FORM_udata`, `DW_FORM_exprloc`.
-const STRP: u64 = 0x0e;
-
-const STRP_SUP: u64 = 0x1d;
-
-const UDATA: u64 = 0x0f;
-
-const EXPRLOC: u64 = 0x18;
-
-// `DW_AT_import`.
-const IMPORT: u16 = 0x18;
-
-// `DW_AT_stmt_list` and `DW_FORM_sec_offset`.
-const STMT_LIST: u16 = 0x10;
-
-const SEC_OFFSET: u64 = 0x17;
 
 // A name and a form without a constant.
 #[inline(always)]
@@ -54,11 +34,11 @@ pub fn form_to(known: &EntryTable, here: u32, unit: u32) -> u64
     ensures some { 0 < result }
 {
     if unit == here {
-        REF4
+        DW_FORM_REF4
     } else if (unit < known.commons) == (here < known.commons) {
-        REF_ADDR
+        DW_FORM_REF_ADDR
     } else {
-        REF_SUP4
+        DW_FORM_REF_SUP4
     }
 }
 
@@ -80,9 +60,9 @@ pub fn text_pair(name: u16, text: TextAt) -> Pair
     ensures plain { IsPlainPair result }
 {
     match text {
-        TextAt::Own(_) => plain(name, STRP),
-        TextAt::Shared(_) => plain(name, STRP_SUP),
-        TextAt::Pooled(_) => plain(name, STRP),
+        TextAt::Own(_) => plain(name, DW_FORM_STRP),
+        TextAt::Shared(_) => plain(name, DW_FORM_STRP_SUP),
+        TextAt::Pooled(_) => plain(name, DW_FORM_STRP),
     }
 }
 
@@ -93,7 +73,7 @@ pub fn file_pair(name: u16) -> Pair
     ensures pair { result ≡ plain_pair name 0x0f }
     ensures plain { IsPlainPair result }
 {
-    plain(name, UDATA)
+    plain(name, DW_FORM_UDATA)
 }
 
 /// The name and the form of an expression.
@@ -103,7 +83,7 @@ pub fn expr_pair(name: u16) -> Pair
     ensures pair { result ≡ plain_pair name 0x18 }
     ensures plain { IsPlainPair result }
 {
-    plain(name, EXPRLOC)
+    plain(name, DW_FORM_EXPRLOC)
 }
 
 /// The name and the form of an import of a unit, in another one.
@@ -111,7 +91,7 @@ pub fn import_pair(known: &EntryTable, here: u32, unit: u32) -> Pair
     ensures pair { result ≡ (Attributes.import_attr known.now here unit).pair }
     ensures plain { IsPlainPair result }
 {
-    plain(IMPORT, form_to(known, here, unit))
+    plain(DW_AT_IMPORT, form_to(known, here, unit))
 }
 
 /// The name and the form of the line table of a partial unit.
@@ -119,5 +99,5 @@ pub fn line_pair() -> Pair
     ensures pair { result ≡ plain_pair 0x10 0x17 }
     ensures plain { IsPlainPair result }
 {
-    plain(STMT_LIST, SEC_OFFSET)
+    plain(DW_AT_STMT_LIST, DW_FORM_SEC_OFFSET)
 }

@@ -19,24 +19,14 @@ use crate::known::{EntryTable, Row, SpaceRow, TextAt, ValueCounts};
 use crate::pairs::{entry_pair, expr_pair, file_pair, import_pair, line_pair, text_pair};
 use crate::walk::Origin;
 use crate::ways::{Rewrite, UnitRole, WritingContext, way_of};
+use dwz_codes::{
+    DW_AT_NAME, DW_FORM_UDATA, DW_TAG_IMPORTED_UNIT, DW_TAG_NAMESPACE, DW_TAG_PARTIAL_UNIT,
+};
 use dwz_def_reading::Operand;
 use dwz_forms::{Raw, size_of_value};
 use dwz_model::{NoMemory, Pair};
 use dwz_unit::{Values, known_value};
 use std::alloc::AllocError;
-
-// `DW_FORM_udata`.
-const UDATA: u16 = 0x0f;
-
-// `DW_AT_name`.
-const NAME: u16 = 0x03;
-
-// `DW_TAG_partial_unit`, `DW_TAG_namespace`, `DW_TAG_imported_unit`.
-const PARTIAL_UNIT: u16 = 0x3c;
-
-const NAMESPACE: u16 = 0x39;
-
-const IMPORTED_UNIT: u16 = 0x3d;
 
 // How many bytes the number of an entry or the offset of a text has.
 const OFFSET: u64 = 4;
@@ -67,7 +57,7 @@ pub(crate) fn uleb_len(number: u64) -> u64
     if number < 128 {
         return 1;
     }
-    size_of_value(UDATA, &Raw::Number(number as i128))
+    size_of_value(DW_FORM_UDATA as u16, &Raw::Number(number as i128))
 }
 
 // The same of what some value stores, and the room gets the name and the form.
@@ -213,7 +203,7 @@ fn measure_as_name(
     ensures plain { OnOk result (All IsPlainPair room.new.pairs.items) }
 {
     match way_of(holder, pair) {
-        Rewrite::AsText => measure_stored(room, text_pair(NAME, text), OFFSET),
+        Rewrite::AsText => measure_stored(room, text_pair(DW_AT_NAME, text), OFFSET),
         _ => measure_stored(room, *pair, size_of_value(pair.form as u16, raw)),
     }
 }
@@ -237,7 +227,7 @@ fn measure_name(
     };
     for pair in pairs {
         let raw = known_value(&mut cursor, pair);
-        if pair.name == NAME {
+        if pair.name == DW_AT_NAME {
             return measure_as_name(room, holder, pair, &raw, space.text_in(holder));
         }
     }
@@ -290,10 +280,10 @@ pub(crate) fn tag_of(known: &EntryTable, origin: Origin) -> u16
     match origin {
         Origin::Read(row) => match known.entry(row) {
             Some(entry) => entry.tag,
-            None => IMPORTED_UNIT,
+            None => DW_TAG_IMPORTED_UNIT,
         },
-        Origin::OwnRoot(_) => PARTIAL_UNIT,
-        Origin::Chained { .. } => NAMESPACE,
-        Origin::Imported(_) => IMPORTED_UNIT,
+        Origin::OwnRoot(_) => DW_TAG_PARTIAL_UNIT,
+        Origin::Chained { .. } => DW_TAG_NAMESPACE,
+        Origin::Imported(_) => DW_TAG_IMPORTED_UNIT,
     }
 }

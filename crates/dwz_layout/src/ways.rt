@@ -1,7 +1,6 @@
 //! What is written of a value, by its name and form, and by what holds the unit.
 
 ghost use Rattle.std.specs.Prelude.{◌≡◌};
-ghost use Rattle.dwz_def_reading.specs.Classes;
 ghost use Rattle.dwz_layout.specs.Attributes;
 ghost use Rattle.dwz_layout.specs.Attributes.{here_view};
 ghost use Rattle.dwz_layout.specs.Ways;
@@ -9,6 +8,12 @@ ghost use Rattle.dwz_layout.specs.Ways.{holder_view, way_rows};
 
 use crate::known::EntryTable;
 use crate::order::Sort;
+use dwz_codes::{
+    DW_AT_SIBLING, DW_FORM_DATA1, DW_FORM_DATA2, DW_FORM_DATA4, DW_FORM_DATA8, DW_FORM_EXPRLOC,
+    DW_FORM_IMPLICIT_CONST, DW_FORM_LINE_STRP, DW_FORM_REF_ADDR, DW_FORM_REF_UDATA, DW_FORM_REF1,
+    DW_FORM_REF2, DW_FORM_REF4, DW_FORM_REF8, DW_FORM_SDATA, DW_FORM_STRP, DW_FORM_STRX,
+    DW_FORM_STRX1, DW_FORM_STRX2, DW_FORM_STRX3, DW_FORM_STRX4, DW_FORM_UDATA, names_file,
+};
 use dwz_model::Pair;
 
 /// What holds a unit that is written.
@@ -48,16 +53,9 @@ pub enum Rewrite {
     AsExpression,
 }
 
-// `DW_AT_sibling`, `DW_AT_decl_file`, `DW_AT_call_file`.
-const SIBLING: u16 = 0x01;
-
-const DECL_FILE: u16 = 0x3a;
-
-const CALL_FILE: u16 = 0x58;
-
 /// The way of a form by rows of forms and ways, in an old unit, in a partial unit of a file, and in one of the common file.
 macro_rules! ways {
-    ($form:ident, $holder:ident: $($code:literal $old:ident $new:ident $common:ident),* $(,)?) => {
+    ($form:ident, $holder:ident: $($code:ident $old:ident $new:ident $common:ident),* $(,)?) => {
         match $form {
             $($code => match $holder { UnitRole::OldUnit => Rewrite::$old, UnitRole::NewUnit => Rewrite::$new, UnitRole::CommonUnit => Rewrite::$common },)*
             _ => Rewrite::AsRead,
@@ -72,22 +70,28 @@ fn way_in(holder: UnitRole, form: u64) -> Rewrite
     ensures { result ≡ Ways.way_in (holder_view holder) form way_rows }
 {
     ways! { form, holder:
-        0x05 AsRead AsRead AsFile, 0x06 AsRead AsRead AsFile, 0x07 AsRead AsRead AsFile, 0x0b AsRead AsRead AsFile,
-        0x0d AsRead AsRead AsFile, 0x0e AsText AsText AsText, 0x0f AsRead AsRead AsFile,
-        0x10 AsEntry AsEntry AsEntry, 0x11 AsEntry AsEntry AsEntry, 0x12 AsEntry AsEntry AsEntry,
-        0x13 AsEntry AsEntry AsEntry, 0x14 AsEntry AsEntry AsEntry, 0x15 AsEntry AsEntry AsEntry,
-        0x18 AsExpression AsExpression AsExpression,
-        0x1a KeepsText AsText AsText, 0x1f KeepsText KeepsText AsText, 0x21 AsRead AsRead AsFile,
-        0x25 KeepsText AsText AsText, 0x26 KeepsText AsText AsText, 0x27 KeepsText AsText AsText, 0x28 KeepsText AsText AsText,
+        DW_FORM_DATA2 AsRead AsRead AsFile,
+        DW_FORM_DATA4 AsRead AsRead AsFile,
+        DW_FORM_DATA8 AsRead AsRead AsFile,
+        DW_FORM_DATA1 AsRead AsRead AsFile,
+        DW_FORM_SDATA AsRead AsRead AsFile,
+        DW_FORM_STRP AsText AsText AsText,
+        DW_FORM_UDATA AsRead AsRead AsFile,
+        DW_FORM_REF_ADDR AsEntry AsEntry AsEntry,
+        DW_FORM_REF1 AsEntry AsEntry AsEntry,
+        DW_FORM_REF2 AsEntry AsEntry AsEntry,
+        DW_FORM_REF4 AsEntry AsEntry AsEntry,
+        DW_FORM_REF8 AsEntry AsEntry AsEntry,
+        DW_FORM_REF_UDATA AsEntry AsEntry AsEntry,
+        DW_FORM_EXPRLOC AsExpression AsExpression AsExpression,
+        DW_FORM_STRX KeepsText AsText AsText,
+        DW_FORM_LINE_STRP KeepsText KeepsText AsText,
+        DW_FORM_IMPLICIT_CONST AsRead AsRead AsFile,
+        DW_FORM_STRX1 KeepsText AsText AsText,
+        DW_FORM_STRX2 KeepsText AsText AsText,
+        DW_FORM_STRX3 KeepsText AsText AsText,
+        DW_FORM_STRX4 KeepsText AsText AsText,
     }
-}
-
-// Whether the numbers of an attribute are those of files (2.14).
-#[inline(always)]
-fn names_file(name: u16) -> bool
-    ensures { result ≡ Classes.names_file name }
-{
-    name == DECL_FILE || name == CALL_FILE
 }
 
 /// What is written of a value with this name and form.
@@ -95,7 +99,7 @@ fn names_file(name: u16) -> bool
 pub fn way_of(holder: UnitRole, pair: &Pair) -> Rewrite
     ensures { result ≡ Ways.rewrite_of (holder_view holder) pair.now }
 {
-    if pair.name == SIBLING {
+    if pair.name == DW_AT_SIBLING {
         return Rewrite::Dropped;
     }
     let way = way_in(holder, pair.form);

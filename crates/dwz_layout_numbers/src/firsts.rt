@@ -1,13 +1,11 @@
 //! Where what entries name begins, among the texts of their file and among its numbers of files.
 
 ghost use Rattle.std.specs.Prelude.{◌≡◌, ℕ, ◌+◌, ◌<◌, ◌^◌, count_by, length, IfOk};
-ghost use Rattle.dwz_def_reading.specs.Classes;
-ghost use Rattle.dwz_graph.specs.Classes.{class_view};
 ghost use Rattle.dwz_unit.specs.Rows.{rows_of, units_of};
 ghost use Rattle.dwz_layout_numbers.specs.Befores as Specs;
 ghost use Rattle.dwz_layout_numbers.specs.Befores.{befores_from, is_pair_file, is_pair_placed};
 
-use dwz_graph::{Class, class_of};
+use dwz_codes::{Class, DW_AT_SIBLING, class_of, names_file};
 use dwz_model::{NoMemory, Pair};
 use dwz_unit::{Units, Values};
 use std::alloc::Global;
@@ -21,18 +19,8 @@ pub struct CountsBefore {
     pub files: u64,
 }
 
-// It is written nowhere, so nothing that it stores has a place after.
-const DW_AT_SIBLING: u16 = 0x01;
-
-// `DW_AT_decl_file` and `DW_AT_call_file`.
-fn names_file(name: u16) -> bool
-    ensures { result ≡ Classes.names_file name }
-{
-    name == 0x3a || name == 0x58
-}
-
 fn is_placed(class: Class) -> bool
-    ensures { result ≡ Specs.is_placed (class_view class) }
+    ensures { result ≡ Specs.is_placed class }
 {
     match class {
         Class::TextInStr => true,
@@ -43,7 +31,7 @@ fn is_placed(class: Class) -> bool
 }
 
 fn is_constant(class: Class) -> bool
-    ensures { result ≡ Specs.is_constant (class_view class) }
+    ensures { result ≡ Specs.is_constant class }
 {
     match class {
         Class::Constant => true,

@@ -11,7 +11,7 @@ ghost use Rattle.dwz_unit.specs.Rows.{EntryRow, rows_of, units_of};
 
 use crate::numbers::UnitNumbers;
 use dwz_graph::Index;
-use dwz_model::NoMemory;
+use dwz_model::{NoMemory, at_or};
 use dwz_plan::{Home, Plan};
 use dwz_unit::Units;
 
@@ -28,17 +28,6 @@ fn of_top(plan: &Plan, tops: &[u32], parts: &[u32], top: u32, kept: u32) -> u32
         Home::Common(part) => at_or(parts, part as usize, kept),
         Home::Local(part) => at_or(parts, part as usize, kept),
         Home::Stay => kept,
-    }
-}
-
-// The number at a place, or the other one behind the last.
-#[inline(always)]
-fn at_or(numbers: &[u32], i: usize, other: u32) -> u32
-    ensures { result ≡ slice_index_or numbers.now i other }
-{
-    match numbers.get(i) {
-        Some(number) => *number,
-        None => other,
     }
 }
 

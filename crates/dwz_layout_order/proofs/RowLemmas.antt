@@ -7,7 +7,7 @@ use Rattle.dwz_def_reading.specs.Documents.{Entries, Node}
 use Rattle.dwz_def_reading.specs.Lists.{Each}
 use Rattle.dwz_def_tops.specs.Spaces.{space_text, tops_under}
 use Rattle.dwz_def_tops.proofs.Members.{each_split}
-use Rattle.dwz_def_tops.specs.Spots.{ASpace, ATop, EntryName, Row, SpaceName, Top, name_of, row_in, row_tops}
+use Rattle.dwz_def_tops.specs.Spots.{ASpace, ATop, EntryName, Row, SpaceName, Top, name_of, number_tops, row_in, row_tops}
 use Rattle.dwz_graph.specs.Steps.{is_space, spaces_by, tops_by}
 use Rattle.dwz_layout_items.specs.Outline.{ShowsRow, View}
 use Rattle.dwz_def_plan.specs.Plan.{row_pinned, row_staying}
@@ -65,12 +65,12 @@ module _ (file unit : ℕ) (tongue : Option ℤ) where
   pub row_top : (spaces : List SpaceName) (n : ℕ) (e : Node EntryName) (c x : Entries EntryName) → space_text e ≡ None
       → row_in file unit tongue spaces n (Entry e c x) ≡ ATop (the_top spaces n e c) (row_in file unit tongue spaces (suc n) x)
   unfolding row_in
-  row_top spaces n e c x h = rw (h, row_in) refl
+  row_top spaces n e c x h = rw (h, number_tops) refl
 
   pub row_space : (spaces : List SpaceName) (n : ℕ) (e : Node EntryName) (c x : Entries EntryName) (text : List ℕ) → space_text e ≡ Some text
       → row_in file unit tongue spaces n (Entry e c x) ≡ ASpace e (row_in file unit tongue (spaces ++ name_of text e ∷ []) n c) (row_in file unit tongue spaces (n + tops_under c) x)
   unfolding row_in
-  row_space spaces n e c x text h = rw (h, row_in) refl
+  row_space spaces n e c x text h = rw (h, number_tops) refl
 
   -- what is shown
   pub record IsShown (v : View) (m : Marks) (spaces : List SpaceName) (n : Next) (f : Entries EntryName) : Type 0 where

@@ -10,7 +10,8 @@ ghost use Rattle.dwz_unit.specs.Rows.{shown_units, units_of};
 
 use crate::marks::Marks;
 use crate::outline::{Next, put_list};
-use crate::sorts::{COMPILE_UNIT, sort_of};
+use crate::sorts::sort_of;
+use dwz_codes::DW_UT_COMPILE;
 use dwz_graph::InputSections;
 use dwz_layout::UnitItems;
 use dwz_layout_items::{Item, Outer, put_kept, put_whole};
@@ -48,7 +49,7 @@ pub(crate) fn put_unit(
         → OnOk result (IsKept marks.now u.kind u.below next.old imports.now items.old.items items.new.items) }
     ensures next { (u : RawUnit) → slice_get (units_of units.now) n ≡ Some u → OnOk result (next.new ≡ behind_unit u next.old) }
 {
-    if unit.kind != COMPILE_UNIT {
+    if unit.kind != DW_UT_COMPILE {
         return put_whole(items);
     }
     outers.clear();

@@ -5,14 +5,12 @@ ghost use Rattle.dwz_def_reading.specs.Units.{RawUnit, entries_in};
 ghost use Rattle.dwz_layout_order.specs.Sorts.{IsMainOf, SortOf};
 ghost use Rattle.dwz_unit.specs.Rows.{shown_units, units_of};
 
+use dwz_codes::DW_UT_COMPILE;
 use dwz_expr::Operand;
 use dwz_graph::{InputSections, entry_of, here_of};
 use dwz_layout::{Row, Sort};
 use dwz_model::Base;
 use dwz_unit::{RawUnit as RawUnitOfCode, Units};
-
-// `DW_UT_compile` (DWARF 5, 7.5.1).
-pub(crate) const COMPILE_UNIT: u8 = 1;
 
 // The number of the entry that describes the type of a type unit; that of its root, where there is no such entry.
 fn main_of(units: &Units, sections: &InputSections, n: u32, unit: &RawUnitOfCode) -> u32
@@ -53,7 +51,7 @@ pub(crate) fn sort_of(
         file,
         entry: unit.first,
     };
-    if unit.kind == COMPILE_UNIT {
+    if unit.kind == DW_UT_COMPILE {
         return Sort::Compile(root);
     }
     Sort::OfType {

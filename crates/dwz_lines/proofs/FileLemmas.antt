@@ -1,7 +1,6 @@
 -- What stands behind the formats of files, and whole tables.
-use Rattle.std.proofs.Common.{◌≡◌, ℕ, Bool, true, false, cond, List, [], length, map, drop, Option, Some, None, Result, Ok, Err, Bor, refl, sym, ap, ◌∙◌, inl, inr}
+use Rattle.std.proofs.Common.{◌≡◌, ℕ, Bool, true, false, cond, List, [], length, map, drop, Option, Some, None, Result, Ok, Err, refl, sym, ap, ◌∙◌, inl, inr}
 use Rattle.std.specs.Prelude.{◌||◌}
-use Rattle.std.proofs.lemmas.List.{length-map}
 use Rattle.dwz_model.specs.declared.fault.Fault.{Fault}
 use Rattle.dwz_model.specs.declared.fault.ReadErr.{ReadErr}
 use Rattle.dwz_model.specs.declared.fault.ReadErr.TheVariants.{NoMemory, Refused}
@@ -15,8 +14,7 @@ use Rattle.dwz_def_reading.proofs.SequenceLemmas.{input_of}
 use Rattle.dwz_lines.specs.Headers.{AreTables, NoTables}
 use Rattle.dwz_lines.specs.Reading.{Dirs, Misses, TriesAt, bind, dirs_in, files_after, files_behind, files_in, files_of, formats_in, has_dir, path_in, path_of, paths_in, row_in, rows_in, sure}
 use Rattle.dwz_lines.specs.Reading.{table_in}
-use Rattle.dwz_lines.specs.TableViews.{joined_in}
-use Rattle.dwz_lines.proofs.LoopLemmas.{times_into}
+use Rattle.dwz_lines.proofs.LoopLemmas.{as_they_are, times_into}
 use Rattle.dwz_lines.proofs.TableLemmas.{no_tables, none_there, table_there}
 
 -- ---- rows of directories, and of files
@@ -25,10 +23,9 @@ pub paths_are : (s : TextSections) (pairs : List Pair) (n : ℕ) (i : Input) →
 unfolding paths_in rows_in
 paths_are s pairs n i = refl
 
-pub joined_are : (s : TextSections) (pairs : List Pair) (dirs : List (Bor (List ℕ))) (n : ℕ) (i : Input)
-    → joined_in s pairs (map (λ d. d.now) dirs) n i ≡ times_into (path_in (map (λ d. d.now) dirs)) (row_in s (length dirs) pairs) [] n i
-unfolding joined_in rows_in
-joined_are s pairs dirs n i = ap (λ (m : ℕ). times_into (path_in (map (λ d. d.now) dirs)) (row_in s m pairs) [] n i) (length-map dirs (λ (d : Bor (List ℕ)). d.now))
+pub rows_into : (s : TextSections) (pairs : List Pair) (dirs n : ℕ) (i : Input) → rows_in s dirs pairs n i ≡ times_into (λ row. row) (row_in s dirs pairs) [] n i
+unfolding rows_in
+rows_into s pairs dirs n i = sym (as_they_are (row_in s dirs pairs) n i)
 
 -- ---- files
 
@@ -41,23 +38,18 @@ module _ (s : TextSections) (d : Dirs) (i j k : Input) (pairs : List Pair) (n : 
   no_dir none = behind_count ∙ ap (λ (b : Bool). cond b (bind (rows_in s (length d.paths) pairs n k) (files_of d pairs)) None) none
 
   module _ (some : has_dir n (length d.paths) ≡ true) where
-    by_paths : files_in s d i ≡ bind (joined_in s pairs d.paths n k) (λ (p : List (List ℕ) × Input). Some (record { paths = p.0; has_strp = d.strp || names_strs pairs }, p.1))
-    unfolding joined_in
-    by_paths = behind_count ∙ ap (λ (b : Bool). cond b (bind (rows_in s (length d.paths) pairs n k) (files_of d pairs)) None) some ∙ by (rows_in s (length d.paths) pairs n k) where
-      by : (o : Option (List PathRow × Input)) → bind o (files_of d pairs) ≡ bind (bind o (λ (r : List PathRow × Input). Some (map (path_in d.paths) r.0, r.1)))
-          (λ (p : List (List ℕ) × Input). Some (record { paths = p.0; has_strp = d.strp || names_strs pairs }, p.1))
-      by None = refl
-      by (Some r) = refl
+    by_rows : files_in s d i ≡ bind (rows_in s (length d.paths) pairs n k) (files_of d pairs)
+    by_rows = behind_count ∙ ap (λ (b : Bool). cond b (bind (rows_in s (length d.paths) pairs n k) (files_of d pairs)) None) some
 
-    pub no_paths : joined_in s pairs d.paths n k ≡ None → files_in s d i ≡ None
-    no_paths none = by_paths ∙ ap (λ (o : Option (List (List ℕ) × Input)). bind o (λ (p : List (List ℕ) × Input). Some (record { paths = p.0; has_strp = d.strp || names_strs pairs }, p.1))) none
+    pub no_rows : rows_in s (length d.paths) pairs n k ≡ None → files_in s d i ≡ None
+    no_rows none = by_rows ∙ ap (λ (o : Option (List PathRow × Input)). bind o (files_of d pairs)) none
 
-    pub files_there : (paths : List (List ℕ)) (m : Input) (strp : Bool) → joined_in s pairs d.paths n k ≡ Some (paths, m) → strp ≡ (d.strp || names_strs pairs)
-        → files_in s d i ≡ Some (record { paths = paths; has_strp = strp }, m)
-    files_there paths m strp is same =
-        by_paths
-        ∙ ap (λ (o : Option (List (List ℕ) × Input)). bind o (λ (p : List (List ℕ) × Input). Some (record { paths = p.0; has_strp = d.strp || names_strs pairs }, p.1))) is
-        ∙ ap (λ (b : Bool). Some (record { paths = paths; has_strp = b }, m)) (sym same)
+    pub files_there : (rows : List PathRow) (m : Input) (strp : Bool) → rows_in s (length d.paths) pairs n k ≡ Some (rows, m) → strp ≡ (d.strp || names_strs pairs)
+        → files_in s d i ≡ Some (record { paths = map (path_in d.paths) rows; has_strp = strp }, m)
+    files_there rows m strp is same =
+        by_rows
+        ∙ ap (λ (o : Option (List PathRow × Input)). bind o (files_of d pairs)) is
+        ∙ ap (λ (b : Bool). Some (record { paths = map (path_in d.paths) rows; has_strp = b }, m)) (sym same)
 
 -- ---- tables
 

@@ -1,16 +1,18 @@
 -- Paths that stand in one row of bytes stay when another one is appended.
-use Rattle.std.proofs.Common.{◌≡◌, ℕ, zero, suc, ◌-◌, ◌≤◌, Bool, true, false, cond, List, [], ◌∷◌, ◌++◌, length, map, take, drop, Some, None, Bor, get_or, ltb, refl, sym, ap, subst, ◌∙◌, append_assoc}
+use Rattle.std.proofs.Common.{◌≡◌, ℕ, zero, suc, ◌+◌, ◌-◌, ◌<◌, ◌≤◌, Bool, true, false, cond, List, [], ◌∷◌, ◌++◌, length, map, take, drop, Some, None, Bor, get_or, ltb, refl, sym, ap, subst, ◌∙◌, append_assoc}
 use Rattle.std.proofs.Common.{arith}
 use Rattle.std.specs.Prelude.{◌||◌}
 use Rattle.std.specs.declared.alloc.AllocError.{AllocError}
-use Rattle.std.specs.Prelude.{OnOk, Result, Ok, Err, is_ok}
+use Rattle.std.specs.Prelude.{OnOk, Result, Ok, Err, is_ok, is_some}
 use Rattle.std.proofs.lemmas.Bool.{le-ltb, lt-ltb, ltb-false, ltb-true}
-use Rattle.std.proofs.lemmas.List.{drop-append-le, length-append, length-drop, map-append, take-append-drop, take-append-le, take_all}
+use Rattle.std.proofs.lemmas.List.{append-nil, at_drop_all, at_drop_more, drop-append-le, length-append, length-drop, map-append, take-append-drop, take-append-le, take_all}
 use Rattle.dwz_bytes.proofs.LebLemmas.{drop-front}
 use Rattle.dwz_def_reading.specs.LineTables.{begins_with_slash, is_no_path, join, nth_path}
 use Rattle.dwz_lines.specs.declared.paths.Span.{Span}
+use Rattle.dwz_lines.specs.declared.rows.Row.{Row}
 use Rattle.dwz_lines.specs.Paths.{AreWithin, IsIn, IsKept, text_of, texts_of}
-use Rattle.dwz_lines.specs.Reading.{path_or_none}
+use Rattle.dwz_lines.specs.Reading.{path_in, path_or_none}
+use Rattle.dwz_lines.specs.RowViews.{row_view}
 
 -- ---- directories, and paths by number
 
@@ -35,6 +37,40 @@ unfolding nth_path
 none_path bytes [] n ge = refl
 none_path bytes (t ∷ spans) zero ge = absurd (let no = ltb-false 0 (suc (length spans)) (sym ge) in omega (arith, no))
 none_path bytes (t ∷ spans) (suc n) ge = none_path bytes spans n (let no = ltb-false (suc n) (suc (length spans)) (sym ge) in sym (le-ltb n (length spans) (omega (arith, no))))
+
+-- the path of a file in a list of rows
+pub some_row : (dirs : List (List ℕ)) (rows : List Row) (n : ℕ) (r : Row) → true ≡ ltb n (length rows) → r ≡ get_or rows n r
+    → nth_path (map (path_in dirs) (map row_view rows)) n ≡ Some (path_in dirs (row_view r))
+unfolding nth_path
+some_row dirs [] n r lt is = absurd (let less = ltb-true n 0 (sym lt) in omega (arith, less))
+some_row dirs (t ∷ rows) zero r lt is = ap (λ (q : Row). Some (path_in dirs (row_view q))) (sym is)
+some_row dirs (t ∷ rows) (suc n) r lt is = some_row dirs rows n r (let less = ltb-true (suc n) (suc (length rows)) (sym lt) in sym (lt-ltb n (length rows) (omega (arith, less)))) is
+
+pub none_row : (dirs : List (List ℕ)) (rows : List Row) (n : ℕ) → false ≡ ltb n (length rows) → nth_path (map (path_in dirs) (map row_view rows)) n ≡ None
+unfolding nth_path
+none_row dirs [] n ge = refl
+none_row dirs (t ∷ rows) zero ge = absurd (let no = ltb-false 0 (suc (length rows)) (sym ge) in omega (arith, no))
+none_row dirs (t ∷ rows) (suc n) ge = none_row dirs rows n (let no = ltb-false (suc n) (suc (length rows)) (sym ge) in sym (le-ltb n (length rows) (omega (arith, no))))
+
+-- a row is there exactly where its path is
+pub row_there : (dirs : List (List ℕ)) (rows : List Row) (n : ℕ) → ltb n (length rows) ≡ is_some (nth_path (map (path_in dirs) (map row_view rows)) n)
+unfolding nth_path
+row_there dirs [] n = le-ltb n 0 (omega arith)
+row_there dirs (t ∷ rows) zero = lt-ltb 0 (suc (length rows)) (omega arith)
+row_there dirs (t ∷ rows) (suc n) = by (ltb n (length rows)) refl ∙ row_there dirs rows n where
+  by : (b : Bool) → ltb n (length rows) ≡ b → ltb (suc n) (suc (length rows)) ≡ ltb n (length rows)
+  by true is = let lt = ltb-true n (length rows) is in lt-ltb (suc n) (suc (length rows)) (omega (arith, lt)) ∙ sym is
+  by false is = let ge = ltb-false n (length rows) is in le-ltb (suc n) (suc (length rows)) (omega (arith, ge)) ∙ sym is
+
+-- one row more is joined
+pub joined_more : (dirs : List (List ℕ)) (rows : List Row) (n : ℕ) (r : Row) (paths : List (List ℕ)) → n < length rows
+    → paths ++ map (path_in dirs) (map row_view (drop n rows)) ≡ (paths ++ path_in dirs (row_view (get_or rows n r)) ∷ []) ++ map (path_in dirs) (map row_view (drop (n + 1) rows))
+joined_more dirs rows n r paths lt =
+    at_drop_more (λ (w : List Row). paths ++ map (path_in dirs) (map row_view w)) rows n r lt
+    ∙ sym (append_assoc paths (path_in dirs (row_view (get_or rows n r)) ∷ []) (map (path_in dirs) (map row_view (drop (n + 1) rows))))
+
+pub joined_all : (dirs : List (List ℕ)) (rows : List Row) (n : ℕ) (paths : List (List ℕ)) → length rows ≤ n → paths ++ map (path_in dirs) (map row_view (drop n rows)) ≡ paths
+joined_all dirs rows n paths le = at_drop_all (λ (w : List Row). paths ++ map (path_in dirs) (map row_view w)) rows n le ∙ append-nil paths
 
 pub is_in : (bytes : List ℕ) (spans : List Span) (n : ℕ) (s : Span) → AreWithin bytes spans → true ≡ ltb n (length spans) → s ≡ get_or spans n s → IsIn bytes s
 is_in bytes [] n s are lt is = absurd (let less = ltb-true n 0 (sym lt) in omega (arith, less))

@@ -9,7 +9,8 @@ use Rattle.dwz_bytes.specs.Input.{Input}
 use Rattle.dwz_bytes.specs.Reading.{fixed_at, uleb_at}
 use Rattle.dwz_def_reading.specs.Forms.{form_rows}
 use Rattle.dwz_def_reading.specs.Values.{Raw, value_at}
-use Rattle.dwz_def_reading.specs.LineTables.{FileTable, PathRow, TextSections, format_of, index_in, is_format, join, names_strs, path_text}
+use Rattle.dwz_def_reading.specs.LineTables.{FileTable, PathRow, TextSections, format_of, has_its_text, index_in, is_format, join, names_strs}
+use Rattle.dwz_def_reading.specs.LineTables.{value_text}
 
 -- ---- answers without their faults
 
@@ -87,8 +88,9 @@ with_dir dirs index path (Some dir) = None
 
 abbrev pub seen_with : TextSections → ℕ → Pair → Raw → Seen → Option Seen
 seen_with s dirs pair raw t =
-    if pair.name == 1 then with_path t.path t.dir (path_text s pair.form raw)
-    else (if pair.name == 2 then with_dir dirs (index_in raw) t.path t.dir else Some t)
+    if pair.name == 1 then with_path t.path t.dir (value_text s pair.form raw)
+    else (if not (has_its_text s pair raw) then None
+    else (if pair.name == 2 then with_dir dirs (index_in raw) t.path t.dir else Some t))
 
 unfoldable pub values_in : TextSections → ℕ → List Pair → Seen → Input → Option (Seen × Input)
 values_in s dirs [] t i = Some (t, i)

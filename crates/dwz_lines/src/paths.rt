@@ -81,8 +81,8 @@ fn dir<'a>(dirs: &[&'a [u8]], number: u64) -> &'a [u8]
     }
 }
 
-// Appends the path of a file, which is seen from its directory, which is seen from the first one.
-fn append(out: &mut Vec<u8>, dirs: &[&[u8]], row: &Row) -> Result<(), NoMemory>
+/// Appends the path of a file, which is seen from its directory, which is seen from the first one.
+pub(crate) fn append(out: &mut Vec<u8>, dirs: &[&[u8]], row: &Row) -> Result<(), NoMemory>
     ensures ok { OnOk result (out.new.items ≡ out.old.items ++ path_in (map (λ d. d.now) dirs.now) (row_view row.now)) }
     ensures err { OnErr result (IsKept (vec_len out.old) out.old.items out.new.items) }
 {

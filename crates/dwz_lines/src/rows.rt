@@ -7,7 +7,8 @@ ghost use Rattle.dwz_def_reading.specs.Forms.{form_rows};
 ghost use Rattle.dwz_def_reading.specs.Texts;
 ghost use Rattle.dwz_def_reading.specs.Values.{value_at};
 ghost use Rattle.dwz_forms.specs.RawValues.{raw_view};
-ghost use Rattle.dwz_def_reading.specs.LineTables.{index_in, path_text};
+ghost use Rattle.dwz_def_reading.specs.LineTables;
+ghost use Rattle.dwz_def_reading.specs.LineTables.{index_in};
 ghost use Rattle.dwz_lines.specs.Reading;
 ghost use Rattle.dwz_lines.specs.Reading.{FindsAt, row_in, seen_with, sure};
 ghost use Rattle.dwz_lines.specs.Views.{format_view, format_views};
@@ -15,7 +16,7 @@ ghost use Rattle.dwz_lines.specs.RowViews.{row_view, seen_view, strings_view};
 
 use crate::formats::Format;
 use dwz_bytes::Cursor;
-use dwz_codes::{DW_FORM_STRP, DW_LNCT_DIRECTORY_INDEX, DW_LNCT_PATH};
+use dwz_codes::{DW_FORM_LINE_STRP, DW_FORM_STRP, DW_LNCT_DIRECTORY_INDEX, DW_LNCT_PATH};
 use dwz_forms::{Raw, read_value};
 use dwz_model::Pair;
 use dwz_strs::text_at;
@@ -62,9 +63,9 @@ fn text_by<'a>(section: &'a [u8], offset: u128) -> Option<&'a [u8]>
     text_at(section, offset as u64)
 }
 
-// The text of a path, by its form.
-fn path<'a>(strings: Strings<'a>, form: u64, raw: Raw<'a>) -> Option<&'a [u8]>
-    ensures { option_map (λ t. t.now) result ≡ path_text (strings_view strings.entry) form (raw_view raw.entry) }
+// The text of a value, by its form.
+fn value_text<'a>(strings: Strings<'a>, form: u64, raw: Raw<'a>) -> Option<&'a [u8]>
+    ensures { option_map (λ t. t.now) result ≡ LineTables.value_text (strings_view strings.entry) form (raw_view raw.entry) }
 {
     match raw {
         Raw::Bytes(bytes) => Some(bytes),
@@ -79,6 +80,20 @@ fn path<'a>(strings: Strings<'a>, form: u64, raw: Raw<'a>) -> Option<&'a [u8]>
     }
 }
 
+// Whether a form is that of a text's offset.
+fn is_text_offset(form: u64) -> bool
+    ensures { result ≡ LineTables.is_text_offset form }
+{
+    form == DW_FORM_STRP || form == DW_FORM_LINE_STRP
+}
+
+// Whether a text stands where a value says so.
+fn has_its_text(strings: Strings, format: Format, raw: Raw) -> bool
+    ensures { result ≡ LineTables.has_its_text (strings_view strings.entry) (format_view format) (raw_view raw.entry) }
+{
+    !is_text_offset(format.form) || value_text(strings, format.form, raw).is_some()
+}
+
 // The number of a directory.
 fn index(raw: Raw) -> u128
     ensures { result ≡ index_in (raw_view raw.entry) }
@@ -89,7 +104,8 @@ fn index(raw: Raw) -> u128
     }
 }
 
-// What is seen with a value more: there is one path, and one index at most, which is that of one of so many directories.
+// What is seen with a value more: its text stands, if it names one; there is one path, and one index at most, which is that of one of
+// so many directories.
 fn with_value<'a>(
     seen: Seen<'a>,
     format: Format,
@@ -104,13 +120,14 @@ fn with_value<'a>(
         DW_LNCT_PATH => match seen.path {
             Some(_) => None,
             None => {
-                let path = path(strings, format.form, raw)?;
+                let path = value_text(strings, format.form, raw)?;
                 Some(Seen {
                     path: Some(path),
                     dir: seen.dir,
                 })
             }
         },
+        _ if !has_its_text(strings, format, raw) => None,
         DW_LNCT_DIRECTORY_INDEX => match seen.dir {
             Some(_) => None,
             None => {

@@ -1,34 +1,18 @@
-//! Line tables that are read.
-//!
-//! A table is read in one pass: each row is asked what it says as it is read. All faults of a table are one, so the order of tests doesn't
-//! matter. How many rows a table says it has isn't believed: a row without a byte has no path, so the first one ends the reading.
+//! Line tables with all their paths.
 
 ghost use Rattle.std.specs.Prelude.{◌≡◌, ◌<◌, ◌^◌, length};
 ghost use Rattle.std.specs.Option.{option_map};
 ghost use Rattle.dwz_def_reading.specs.Faults.{Answers};
-ghost use Rattle.dwz_def_reading.specs.LineTables.{bad_line_table, file_table_at, nth_path};
+ghost use Rattle.dwz_def_reading.specs.LineTables.{file_table_at, nth_path};
 ghost use Rattle.dwz_lines.specs.TableViews.{sections};
 
-use crate::header::tables_of;
+use crate::file_rows::FileRows;
 use crate::paths::Paths;
-use crate::rows::Strings;
-use crate::tables::{read_directories, read_files};
-use dwz_model::{DEBUG_LINE, Fault, ReadErr, Reason};
+use dwz_model::ReadErr;
 use std::alloc::Global;
 use std::marker::Model;
 
-// The line table at a place is bad.
-fn bad_at(place: u64) -> Fault
-    ensures { result ≡ bad_line_table place }
-{
-    Fault {
-        section: DEBUG_LINE,
-        at: place,
-        reason: Reason::BadLineTable,
-    }
-}
-
-/// The paths of the files of a line table, by their numbers. Clauses see a `FileTable`.
+/// The paths of the files of a line table, by their numbers, each joined, for whoever asks for most of them. Clauses see a `FileTable`.
 #[derive(Drop)]
 pub struct FileTable {
     pub(crate) paths: Paths,
@@ -56,13 +40,12 @@ impl FileTable {
     ) -> Result<FileTable, ReadErr>
         ensures { Answers (λ t. t) result (file_table_at (sections strs.now line_strs.now) line.now at) }
     {
-        let bad = bad_at(at);
-        let strings = Strings { strs, line_strs };
-        let Some(mut cursor) = tables_of(line, at) else {
-            return Err(ReadErr::Refused(bad));
-        };
-        let dirs = read_directories(alloc, &mut cursor, strings, bad)?;
-        read_files(alloc, &mut cursor, &dirs, strings, bad)
+        let rows = FileRows::read(alloc, line, line_strs, strs, at)?;
+        let paths = rows.paths(alloc)?;
+        Ok(FileTable {
+            paths,
+            has_strp: rows.has_strp(),
+        })
     }
 
     /// The path of a file by its number, counted from 0: joined with that of its directory and that of the unit's. None

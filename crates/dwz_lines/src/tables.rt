@@ -1,16 +1,15 @@
 //! Directories and files (DWARF 5, 6.2.4): formats, how many rows there are, and the rows.
 
-ghost use Rattle.std.specs.Prelude.{◌≡◌, ◌||◌, length, map};
+ghost use Rattle.std.specs.Prelude.{◌≡◌, ◌||◌, map};
 ghost use Rattle.dwz_lines.specs.Reading;
-ghost use Rattle.dwz_lines.specs.Reading.{TriesAt, dirs_in, files_in, paths_in};
-ghost use Rattle.dwz_lines.specs.RowViews.{strings_view};
-ghost use Rattle.dwz_lines.specs.TableViews.{dirs_view, joined_in};
+ghost use Rattle.dwz_lines.specs.Reading.{TriesAt, dirs_in, files_in, paths_in, rows_in};
+ghost use Rattle.dwz_lines.specs.RowViews.{row_view, strings_view};
+ghost use Rattle.dwz_lines.specs.TableViews.{dirs_view};
 ghost use Rattle.dwz_lines.specs.Views.{format_views};
 
+use crate::file_rows::FileRows;
 use crate::formats::{Format, formats, names_strs};
-use crate::paths::Paths;
-use crate::rows::{Strings, one_row};
-use crate::table::FileTable;
+use crate::rows::{Row, Strings, one_row};
 use dwz_bytes::Cursor;
 use dwz_model::{Fault, ReadErr};
 use std::alloc::Global;
@@ -64,27 +63,28 @@ pub(crate) fn read_directories<'a>(
     Ok(Directories { paths, strp })
 }
 
-// The paths of so many files, each joined with those of its directories.
-fn file_paths<'a>(
+// So many files, each in one of so many directories.
+#[tactic(auto, unfolding(crate::specs::Reading::rows_in))]
+fn rows_of_files<'a>(
     alloc: Global,
     cursor: &mut Cursor<'a>,
     formats: &[Format],
     count: u64,
-    dirs: &[&'a [u8]],
+    dirs: u64,
     strings: Strings<'a>,
     bad: Fault,
-) -> Result<Paths, ReadErr>
-    ensures { TriesAt (λ p. p) bad cursor.new result
-        (joined_in (strings_view strings.entry) (format_views formats.now) (map (λ d. d.now) dirs.now) count cursor.old) }
+) -> Result<Vec<Row<'a>>, ReadErr>
+    ensures { TriesAt (λ v. map row_view v.items) bad cursor.new result
+        (rows_in (strings_view strings.entry) dirs (format_views formats.now) count cursor.old) }
 {
-    let mut paths = Paths::new(alloc);
+    let mut rows = Vec::new(alloc);
     for _number in 0..count {
-        let Some(row) = one_row(cursor, formats, strings, dirs.len() as u64) else {
+        let Some(row) = one_row(cursor, formats, strings, dirs) else {
             return Err(ReadErr::Refused(bad));
         };
-        paths.push(dirs, &row)?;
+        rows.push(row)?;
     }
-    Ok(paths)
+    Ok(rows)
 }
 
 // Whether there is a directory wherever there is a file.
@@ -101,25 +101,30 @@ pub(crate) fn either(one: bool, other: bool) -> bool
     one || other
 }
 
-/// The files of a table.
+/// The files of a table, in these directories.
 #[tactic(auto, unfolding(crate::specs::Reading::files_in))]
 pub(crate) fn read_files<'a>(
     alloc: Global,
     cursor: &mut Cursor<'a>,
-    dirs: &Directories<'a>,
+    dirs: Directories<'a>,
     strings: Strings<'a>,
     bad: Fault,
-) -> Result<FileTable, ReadErr>
-    ensures { TriesAt (λ t. t) bad cursor.new result (files_in (strings_view strings.entry) (dirs_view dirs.now) cursor.old) }
+) -> Result<FileRows<'a>, ReadErr>
+    ensures { TriesAt (λ t. t) bad cursor.new result (files_in (strings_view strings.entry) (dirs_view dirs.entry) cursor.old) }
 {
     let formats = formats(alloc, cursor, bad)?;
     let Ok(count) = cursor.uleb() else {
         return Err(ReadErr::Refused(bad));
     };
-    if !has_dir(count, dirs.paths.len()) {
+    let many = dirs.paths.len();
+    if !has_dir(count, many) {
         return Err(ReadErr::Refused(bad));
     }
-    let paths = file_paths(alloc, cursor, &formats, count, &dirs.paths, strings, bad)?;
+    let rows = rows_of_files(alloc, cursor, &formats, count, many as u64, strings, bad)?;
     let has_strp = either(dirs.strp, names_strs(&formats));
-    Ok(FileTable { paths, has_strp })
+    Ok(FileRows {
+        dirs: dirs.paths,
+        rows,
+        has_strp,
+    })
 }

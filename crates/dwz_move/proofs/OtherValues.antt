@@ -6,10 +6,9 @@ use Rattle.std.proofs.lemmas.List.{get_or-take, length-take}
 use Rattle.std.specs.Prelude.{◌||◌, ◌==◌, IsOk}
 use Rattle.dwz_def_tops.specs.Spots.{EntryName}
 use Rattle.dwz_def_reading.specs.Input.{Input}
-use Rattle.dwz_def_reading.specs.Forms.{form_rows}
 use Rattle.dwz_def_reading.specs.Entries.{RawAttr}
 use Rattle.dwz_def_reading.specs.Units.{RawUnit}
-use Rattle.dwz_def_reading.specs.Values.{Raw, value_at}
+use Rattle.dwz_def_reading.specs.Values.{Raw, value_at, written_rows}
 use Rattle.dwz_graph.specs.Rows.{AreAttrsMeant}
 use Rattle.dwz_graph.proofs.StepLemmas.{no_value, sibling, value}
 use Rattle.dwz_def_reading.specs.Documents.{Attr, Value, attr_map}
@@ -114,14 +113,14 @@ module _ (entry : ℕ) (front : List Pair) (j : ℕ) (at : Input) (values : List
     within : j < length h.pairs
     within = (let few = length-take (length front) h.pairs in let same : length front ≡ length (take (length front) h.pairs) = ap (λ (w : List Pair). length w) h.front_is in omega arith)
 
-    pub value_in_front : IsOk (value_at form_rows (get_or front j no_pair) at)
+    pub value_in_front : IsOk (value_at written_rows (get_or front j no_pair) at)
     value_in_front =
         let x = reads_next entry h.pairs j no_pair at values within h.reads in
-        subst IsOk (sym (ap (λ (p : Pair). value_at form_rows p at) here ∙ x.value)) refl
+        subst IsOk (sym (ap (λ (p : Pair). value_at written_rows p at) here ∙ x.value)) refl
 
-    pub next_in_front : (place : Input) (raw : Raw) → value_at form_rows (get_or front j no_pair) at ≡ Ok (raw, place) → NextInFront entry front j (get_or front j no_pair) at place raw values
+    pub next_in_front : (place : Input) (raw : Raw) → value_at written_rows (get_or front j no_pair) at ≡ Ok (raw, place) → NextInFront entry front j (get_or front j no_pair) at place raw values
     next_in_front place raw value =
-        let x = next_read entry h.pairs j no_pair at place raw values within h.reads (ap (λ (p : Pair). value_at form_rows p at) (sym here) ∙ value) in
+        let x = next_read entry h.pairs j no_pair at place raw values within h.reads (ap (λ (p : Pair). value_at written_rows p at) (sym here) ∙ value) in
         record {
           is = subst (λ (p : Pair). slice_get values j ≡ Some (record { at = at.at; end = place.at; pair = p; raw = raw })) (sym here) x.is;
           rest = record { pairs = h.pairs; front_is = h.front_is; others = h.others; reads = x.rest };

@@ -1,6 +1,6 @@
 //! What binds a top: what an entry of it holds that says where it stands, or leads out of its unit.
 
-ghost use Rattle.std.specs.Prelude.{◌≡◌, ℕ, ◌<◌, ◌≤◌, List, Option, Ok, None, Some, drop, slice_index_or, IfOk};
+ghost use Rattle.std.specs.Prelude.{◌≡◌, ℕ, ◌<◌, ◌≤◌, List, Option, Ok, Some, drop, IfOk};
 ghost use Rattle.dwz_def_tops.specs.Alike;
 ghost use Rattle.dwz_def_tops.specs.Alike.{attr_binds, binding_forms, entry_binds};
 ghost use Rattle.dwz_def_tops.specs.Spots.{EntryName, Top};
@@ -11,7 +11,6 @@ ghost use Rattle.dwz_def_reading.specs.Documents.{Node, Value, attr_map, node_ma
 ghost use Rattle.dwz_def_reading.specs.Classes;
 ghost use Rattle.dwz_def_reading.specs.Meanings.{MeaningContext};
 ghost use Rattle.dwz_def_reading.specs.Meant.{attr_with, meaning};
-ghost use Rattle.dwz_graph.specs.Classes.{class_view};
 ghost use Rattle.dwz_graph.specs.Named.{value_refs};
 ghost use Rattle.dwz_graph.specs.Resolved.{stored};
 ghost use Rattle.dwz_move.specs.Bound;
@@ -19,15 +18,16 @@ ghost use Rattle.dwz_move.specs.Bound.{AreInto, HasTops};
 ghost use Rattle.dwz_graph.specs.Names.{top_in};
 ghost use Rattle.dwz_unit.specs.Rows.{EntryRow, units_of};
 
-use crate::values::{SIBLING, is_entry, read_expression};
+use crate::values::{is_entry, read_expression};
+use dwz_codes::{
+    Class, DW_AT_SIBLING, DW_FORM_ADDR, DW_FORM_ADDRX, DW_FORM_ADDRX1, DW_FORM_ADDRX2,
+    DW_FORM_ADDRX3, DW_FORM_ADDRX4, DW_FORM_LOCLISTX, DW_FORM_RNGLISTX, DW_FORM_SEC_OFFSET,
+    DW_TAG_IMPORTED_UNIT, class_of,
+};
 use dwz_expr::Operand;
 use dwz_forms::Raw;
-use dwz_graph::{Class, class_of};
-use dwz_model::{NoMemory, Pair};
+use dwz_model::{NoMemory, Pair, at_or};
 use dwz_unit::{Units, Values, known_value};
-
-// DW_TAG_imported_unit.
-const IMPORTED_UNIT: u16 = 0x3d;
 
 /// The tops of a unit, by their numbers: from the first to before the end.
 #[derive(Clone, Copy, Debug, PartialEq, Eq)]
@@ -43,22 +43,22 @@ fn is_binding(form: u64) -> bool
     ensures { result ≡ has form binding_forms }
 {
     match form {
-        0x01 => true,
-        0x17 => true,
-        0x1b => true,
-        0x22 => true,
-        0x23 => true,
-        0x29 => true,
-        0x2a => true,
-        0x2b => true,
-        0x2c => true,
+        DW_FORM_ADDR
+        | DW_FORM_SEC_OFFSET
+        | DW_FORM_ADDRX
+        | DW_FORM_LOCLISTX
+        | DW_FORM_RNGLISTX
+        | DW_FORM_ADDRX1
+        | DW_FORM_ADDRX2
+        | DW_FORM_ADDRX3
+        | DW_FORM_ADDRX4 => true,
         _ => false,
     }
 }
 
 #[inline(always)]
 pub(crate) fn is_expression(class: Class) -> bool
-    ensures { result ≡ Bound.is_expression (class_view class) }
+    ensures { result ≡ Bound.is_expression class }
 {
     match class {
         Class::Expression => true,
@@ -98,24 +98,13 @@ fn value_binds(
     }
     let class = class_of(pair.form);
     if is_entry(class) {
-        return Ok(leaves(own, top_at(into, next)));
+        return Ok(leaves(own, at_or(into, next, None)));
     }
     if is_expression(class) {
         let address = read_expression(raw, end, operands)?;
         return Ok(address || !operands.is_empty());
     }
     Ok(false)
-}
-
-// The top that stands there, if one does.
-#[inline(always)]
-pub(crate) fn top_at(into: &[Option<u32>], at: usize) -> Option<u32>
-    ensures { result ≡ slice_index_or into.now at None }
-{
-    match into.get(at) {
-        Some(top) => *top,
-        None => None,
-    }
 }
 
 /// Whether what an entry holds binds the top that it stands in, which is one of these of its unit. The tops that its references go
@@ -132,7 +121,7 @@ pub(crate) fn entry_binds(
         → HasTops tops unit own.now → IsEntryMeant (units_of units.now) s i numbers row d → AreInto name into.now (node_refs d)
         → IfOk result (λ b. b ≡ entry_binds tops unit (node_map name d)) }
 {
-    if units.entry(i).tag == IMPORTED_UNIT {
+    if units.entry(i).tag == DW_TAG_IMPORTED_UNIT {
         return Ok(true);
     }
     let Values { pairs, mut cursor } = units.values(i);
@@ -140,7 +129,7 @@ pub(crate) fn entry_binds(
     for pair in pairs {
         let raw = known_value(&mut cursor, pair);
         let end = cursor.at() as u64;
-        if pair.name == SIBLING {
+        if pair.name == DW_AT_SIBLING {
             continue;
         }
         if value_binds(own, into, next, end, pair, &raw, operands)? {

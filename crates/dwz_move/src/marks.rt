@@ -22,13 +22,13 @@ ghost use Rattle.dwz_move.specs.Marked;
 ghost use Rattle.dwz_move.specs.Marked.{Marks, MarksIf, asked_tops, expression_names, expression_pins, if_asked};
 ghost use Rattle.dwz_unit.specs.Rows.{EntryRow, units_of};
 
-use crate::bind::{is_expression, top_at};
+use crate::bind::is_expression;
 use crate::tops::from_entry;
-use crate::values::{SIBLING, is_entry, read_expression};
+use crate::values::{is_entry, read_expression};
+use dwz_codes::{DW_AT_SIBLING, class_of};
 use dwz_expr::Operand;
 use dwz_forms::Raw;
-use dwz_graph::class_of;
-use dwz_model::{NoMemory, Pair};
+use dwz_model::{NoMemory, Pair, at_or};
 use dwz_unit::{Units, Values, known_value};
 
 /// For each top whether an operand names an entry of it; and whether one that is a ULEB128 number does.
@@ -67,7 +67,7 @@ fn mark_operands(marks: &mut Vec<bool>, ulebs: bool, into: &[Option<u32>], opera
     ensures { Marks (asked_tops ulebs operands.now into.now) marks.old.items marks.new.items }
 {
     for (k, operand) in operands.iter().enumerate() {
-        mark(marks, is_asked(ulebs, operand), top_at(into, k));
+        mark(marks, is_asked(ulebs, operand), at_or(into, k, None));
     }
 }
 
@@ -120,7 +120,7 @@ pub(crate) fn mark_entry(
     for pair in up_to_expressions(pairs) {
         let raw = known_value(&mut cursor, pair);
         let end = cursor.at() as u64;
-        if pair.name != SIBLING {
+        if pair.name != DW_AT_SIBLING {
             rest = mark_value(named, rest, end, pair, &raw, operands)?;
         }
     }

@@ -5,20 +5,13 @@ ghost use Rattle.dwz_forms.specs.RawValues.{raw_view};
 ghost use Rattle.dwz_def_reading.specs.Exprs.{Expression, expr_at};
 ghost use Rattle.dwz_def_reading.specs.Meanings;
 ghost use Rattle.dwz_def_reading.specs.Meanings.{MeaningContext, expr_context};
-ghost use Rattle.dwz_graph.specs.Classes.{class_view};
 ghost use Rattle.dwz_move.specs.Values;
 
+use dwz_codes::Class;
 use dwz_expr::{Operand, read_into};
 use dwz_forms::Raw;
-use dwz_graph::Class;
-use dwz_model::{NoMemory, ReadErr};
+use dwz_model::{DEBUG_INFO, NoMemory, ReadErr};
 use std::alloc::AllocError;
-
-/// `DW_AT_sibling` (DWARF 5, 7.5.4).
-pub(crate) const SIBLING: u16 = 0x01;
-
-// `.debug_info`.
-const INFO: u8 = 1;
 
 /// The bytes of a value.
 #[inline(always)]
@@ -34,7 +27,7 @@ pub(crate) fn bytes_of<'a>(raw: &Raw<'a>) -> &'a [u8]
 /// Whether a value of that class is an entry.
 #[inline(always)]
 pub(crate) fn is_entry(class: Class) -> bool
-    ensures { result ≡ Values.is_entry (class_view class) }
+    ensures { result ≡ Values.is_entry class }
 {
     match class {
         Class::UnitEntry => true,
@@ -58,7 +51,7 @@ pub(crate) fn read_expression(
     let bytes = bytes_of(raw);
     let at = end.saturating_sub(bytes.len() as u64);
     operands.clear();
-    match read_into(operands, bytes, at, INFO) {
+    match read_into(operands, bytes, at, DEBUG_INFO) {
         Ok(address) => Ok(address),
         Err(ReadErr::NoMemory) => Err(AllocError),
         Err(ReadErr::Refused(_)) => Ok(false),

@@ -7,29 +7,19 @@ ghost use Rattle.dwz_def_reading.specs.Values.{HasSpelling};
 ghost use Rattle.dwz_graph.specs.Rows.{AreRowsMeant, IsEntryMeant};
 ghost use Rattle.dwz_forms.specs.RawValues.{raw_view};
 ghost use Rattle.dwz_def_reading.specs.Documents.{Node, Value, node_map};
-ghost use Rattle.dwz_def_reading.specs.Classes;
 ghost use Rattle.dwz_def_reading.specs.Meanings.{MeaningContext, number_of};
 ghost use Rattle.dwz_def_reading.specs.Meant.{meaning};
 ghost use Rattle.dwz_def_plan.specs.Groups.{value_weight};
 ghost use Rattle.dwz_graph.specs.Resolved.{stored};
-ghost use Rattle.dwz_graph.specs.Classes.{class_view};
 ghost use Rattle.dwz_move.specs.Weights;
 ghost use Rattle.dwz_move.specs.Weights.{capped, node_weight, rows_weight};
 ghost use Rattle.dwz_unit.specs.Rows.{EntryRow, units_of};
 
-use crate::values::{SIBLING, bytes_of};
+use crate::values::bytes_of;
+use dwz_codes::{Class, DW_AT_SIBLING, DW_FORM_STRING, class_of, names_file};
 use dwz_forms::{Raw, size_of_value};
-use dwz_graph::{Class, class_of};
 use dwz_model::Pair;
 use dwz_unit::{Units, Values, known_value};
-
-// DW_FORM_string.
-const STRING: u64 = 0x08;
-
-// DW_AT_decl_file and DW_AT_call_file.
-const DECL_FILE: u16 = 0x3a;
-
-const CALL_FILE: u16 = 0x58;
 
 // A group of tops that weigh so much together gains, whatever else they weigh.
 const HEAVY: u64 = 64;
@@ -42,18 +32,11 @@ pub(crate) fn add_weights(weight: u64, more: u64) -> u64
     weight.saturating_add(more).min(HEAVY)
 }
 
-#[inline(always)]
-fn names_file(name: u16) -> bool
-    ensures { result ≡ Classes.names_file name }
-{
-    name == DECL_FILE || name == CALL_FILE
-}
-
 // The weight of a value of that class, where it doesn't depend on what is stored: 4 of a text that stands elsewhere or a reference, 1 of
 // a file.
 #[inline(always)]
 fn set_weight(class: Class, file: bool) -> Option<u64>
-    ensures { result ≡ Weights.set_weight (class_view class) file }
+    ensures { result ≡ Weights.set_weight class file }
 {
     match class {
         Class::Text => Some(4),
@@ -82,7 +65,7 @@ pub(crate) fn weight_of_value(pair: &Pair, raw: &Raw) -> u64
     ensures { (s : MeaningContext ℕ) (at end : ℕ) (v : Value ℕ) → meaning s (stored at end pair.now raw.now) ≡ Ok v
         → result ≡ value_weight pair.now.form (number_of (raw_view raw.now)) v.plain }
 {
-    if pair.form == STRING {
+    if pair.form == DW_FORM_STRING {
         return bytes_of(raw).len() as u64 + 1;
     }
     match set_weight(class_of(pair.form), names_file(pair.name)) {
@@ -110,7 +93,7 @@ pub(crate) fn weight_of_entry(units: &Units, i: u32) -> u64
     let Values { pairs, mut cursor } = units.values(i);
     for pair in pairs {
         let raw = known_value(&mut cursor, pair);
-        if pair.name != SIBLING {
+        if pair.name != DW_AT_SIBLING {
             weight = add_weights(weight, weight_of_value(pair, &raw));
         }
     }

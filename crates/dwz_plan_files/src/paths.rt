@@ -5,26 +5,16 @@ ghost use Rattle.std.specs.List.{list_any};
 ghost use Rattle.dwz_def_reading.specs.Units.{entries_in};
 ghost use Rattle.dwz_layout_numbers.specs.Befores as Known;
 ghost use Rattle.dwz_layout_numbers.specs.Befores.{is_pair_file};
-ghost use Rattle.dwz_def_reading.specs.Classes;
-ghost use Rattle.dwz_graph.specs.Classes.{class_view};
 ghost use Rattle.dwz_plan_files.specs.Roots.{numbers_file};
 ghost use Rattle.dwz_unit.specs.Rows.{EntryRow, rows_of, units_of};
 
-use dwz_graph::{Class, class_of};
+use dwz_codes::{Class, class_of, names_file};
 use dwz_model::Pair;
 use dwz_unit::{Units, Values};
 
-// `DW_AT_decl_file` and `DW_AT_call_file`.
-#[inline(always)]
-fn names_file(name: u16) -> bool
-    ensures { result ≡ Classes.names_file name }
-{
-    name == 0x3a || name == 0x58
-}
-
 #[inline(always)]
 fn is_constant(class: Class) -> bool
-    ensures { result ≡ Known.is_constant (class_view class) }
+    ensures { result ≡ Known.is_constant class }
 {
     match class {
         Class::Constant => true,

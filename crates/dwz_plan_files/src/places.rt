@@ -13,6 +13,7 @@ ghost use Rattle.dwz_plan.specs.Shows.{ShowsTops};
 ghost use Rattle.dwz_plan_files.specs.Steps.{IsPlacedAt, KnowsTops, LineIs, LineOf};
 ghost use Rattle.dwz_unit.specs.Rows.{attr_view, units_of as raw_units};
 
+use dwz_codes::{DW_AT_STMT_LIST, DW_FORM_SEC_OFFSET};
 use dwz_graph::{Index, first_attr, offset_of};
 use dwz_groups::Tops;
 use dwz_layout::Row;
@@ -55,17 +56,12 @@ pub(crate) fn place_of(indexes: &[Index], tops: &Tops, top: u32) -> Option<Row>
     Some(Row { file, entry })
 }
 
-// `DW_FORM_sec_offset` and `DW_AT_stmt_list`.
-const SEC_OFFSET: u64 = 0x17;
-
-const STMT_LIST: u16 = 0x10;
-
 // The offset that an attribute gives. It has 4 bytes.
 fn line_in(attr: &RawAttr) -> Option<u32>
     requires { HasSpelling attr.now.pair.form (raw_view attr.now.raw) }
     ensures { LineIs (attr_view attr.now) result }
 {
-    if attr.pair.form == SEC_OFFSET {
+    if attr.pair.form == DW_FORM_SEC_OFFSET {
         Some(offset_of(&attr.raw) as u32)
     } else {
         None
@@ -80,7 +76,7 @@ pub(crate) fn line_of_unit(units: &Units, n: u32) -> Option<u32>
         return None;
     }
     let root = units.unit(n).first;
-    match first_attr(units, root, STMT_LIST) {
+    match first_attr(units, root, DW_AT_STMT_LIST) {
         None => None,
         Some(attr) => line_in(&attr),
     }

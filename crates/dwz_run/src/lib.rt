@@ -6,7 +6,7 @@
 //!
 //! The laws say what follows: `done_laws` (what is put reads back as what was read), `cause_laws`, `answer_laws`, `stop_laws`, `demo_laws`.
 //!
-//! Read first: `specs/Laws.antt`; then `Ends` (`Ends.antt` of `dwz_run_course`) and `Out` (`Out.antt` of `dwz_def_output`).
+//! Read first: `specs/Laws.antt`; then `Ends` (`Ends.antt` of `dwz_run_course`) and `Out` (`Out.antt` of `dwz_def_run`).
 #![tactic(auto)]
 
 mod laws;

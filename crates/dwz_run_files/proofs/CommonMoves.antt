@@ -3,7 +3,7 @@ use Rattle.std.proofs.Common.{◌≡◌, ℕ, ◌+◌, List, [], ◌∷◌, Opti
 use Rattle.dwz_def_reading.specs.Documents.{DwUnit, node_map}
 use Rattle.dwz_def_reading.specs.Lists.{Each}
 use Rattle.dwz_def_tops.specs.Spots.{EntryName, name_of}
-use Rattle.dwz_def_encoding.specs.Placing.{Fit, file_number}
+use Rattle.dwz_def_encoding.specs.Placing.{UnitForms, file_number}
 use Rattle.dwz_layout.specs.declared.known.ValueCounts.{ValueCounts}
 use Rattle.dwz_layout.specs.declared.known.EntryTable.{EntryTable}
 use Rattle.dwz_layout.specs.declared.known.TextAt.{TextAt}
@@ -12,7 +12,7 @@ use Rattle.dwz_layout.specs.Entries.{row}
 use Rattle.dwz_layout.specs.Known.{file_at, text_at}
 use Rattle.dwz_law_layout.specs.Knows.{EachFrom, IsText, files_in, firsts_at, name_attr, texts_in}
 use Rattle.dwz_law_layout.specs.Facts.{RunFacts, file_read}
-use Rattle.dwz_law_layout.specs.Unfitted.{KnowCommon, KnowsCommonUnit, KnowsTextsOf, fit_common}
+use Rattle.dwz_law_layout.specs.Unfitted.{KnowCommon, KnowsCommonUnit, KnowsTextsOf, common_unit_forms}
 use Rattle.dwz_encode_texts.specs.declared.pruning.PrunedFile.{PrunedFile}
 use Rattle.dwz_encode_texts.specs.MovedTexts.{IsPooled}
 use Rattle.dwz_run_files.specs.Moved.{AreMoved}
@@ -32,8 +32,8 @@ each_both P Q R n (x ∷ xs) go all too = (go n x all.0 too.0, each_both P Q R (
 
 module _ (f : RunFacts) (k : EntryTable) (pruned : List (Option PrunedFile)) (m : EntryTable) (h : AreMoved pruned k m) where
   module _ (o : UnitItems) (u : DwUnit EntryName) where
-    abbrev ft : Fit EntryName
-    ft = fit_common f u
+    abbrev ft : UnitForms EntryName
+    ft = common_unit_forms f u
 
     texts_stay : (n : ℕ) → PoolsUnit f k o → KnowsTextsOf f k ft None n o → KnowsTextsOf f m ft None n o
     texts_stay n pooled old = record {

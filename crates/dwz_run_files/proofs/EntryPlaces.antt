@@ -6,7 +6,7 @@ use Rattle.dwz_def_reading.specs.Lists.{In}
 use Rattle.dwz_def_reading.proofs.ListFacts.{got_below, got_in}
 use Rattle.dwz_def_reading.specs.Documents.{DwUnit}
 use Rattle.dwz_def_tops.specs.Shown.{units_keys}
-use Rattle.dwz_def_tops.specs.Spots.{EntryName}
+use Rattle.dwz_def_tops.specs.Spots.{EntryName, no_name}
 use Rattle.dwz_def_plan.specs.Plan.{image}
 use Rattle.dwz_def_images.specs.Units.{common_units, file_units, out_units}
 use Rattle.dwz_def_images.proofs.ApartOwn.{keys_joined}
@@ -24,7 +24,7 @@ use Rattle.dwz_layout.specs.Laid.{made_of}
 use Rattle.dwz_law_layout.proofs.RowsWritten.{row_written}
 use Rattle.dwz_law_layout.specs.Facts.{RunFacts, docs, files_written, move, rule, run, units, units_written}
 use Rattle.dwz_law_layout.specs.Listed.{TextsAt}
-use Rattle.dwz_law_layout.specs.Named.{keys, no_name}
+use Rattle.dwz_law_layout.specs.Named.{keys}
 use Rattle.dwz_law_layout.proofs.EntriesReach.{reached}
 use Rattle.dwz_law_layout.proofs.FileEntries.{here, named}
 use Rattle.dwz_law_layout.proofs.ImagesStand.{in_units}

@@ -34,7 +34,7 @@ use Rattle.dwz_law_layout.specs.Facts.{HasFile, RunFacts, file_read, move, run, 
 use Rattle.dwz_law_layout.specs.Listed.{TextsAt, entry_row, space_entries}
 use Rattle.dwz_law_layout.specs.Named.{keys}
 use Rattle.dwz_law_layout.proofs.LayoutLemmas.{knows_file}
-use Rattle.dwz_law_layout.specs.Unfitted.{HasChained, KnowTexts, KnowsUnitTexts, fit_in}
+use Rattle.dwz_law_layout.specs.Unfitted.{HasChained, KnowTexts, KnowsUnitTexts, file_keyed_forms, file_unit_forms}
 use Rattle.dwz_encode_texts.proofs.FileTexts.{space_row}
 use Rattle.dwz_law_layout.specs.Laid.{numbers_if, run_numbers}
 use Rattle.dwz_encode_texts.specs.declared.pruning.PrunedFile.{PrunedFile}
@@ -46,7 +46,7 @@ use Rattle.dwz_run_files.specs.Moved.{AreMoved, IsPrunedIf, moved_if, moved_spac
 use Rattle.dwz_run_files.specs.Prepared.{ArePrepared, IsOrdered}
 use Rattle.dwz_run_files.specs.Whole.{EachText, IsNotPooled, StandWhole}
 use Rattle.dwz_run_files.proofs.CommonMoves.{each_from_more}
-use Rattle.dwz_run_files.proofs.FilesUse.{file_keys, units_known, uses_are}
+use Rattle.dwz_run_files.proofs.FilesUse.{units_known, uses_are}
 use Rattle.dwz_run_files.proofs.SameLists.{firsts_same, texts_moved, writes_same}
 use Rattle.dwz_run_files.proofs.HeldTexts.{held_in_file}
 use Rattle.dwz_run_files.proofs.SlotsThere.{unit_there}
@@ -99,7 +99,7 @@ module _ (f : RunFacts) (s : Settled) (t : TextsAt) (k : EntryTable) (orders : L
 
     -- so does its name where a unit of the file holds it
     held_moves : (u : DwUnit EntryName)
-        → text_held (fit_in f n u).holder (space_at m space) ≡ moved_if (pruned_at pruned n) (text_held (fit_in f n u).holder (space_at k space))
+        → text_held (file_unit_forms f n u).holder (space_at m space) ≡ moved_if (pruned_at pruned n) (text_held (file_unit_forms f n u).holder (space_at k space))
     held_moves u = held_in_file u.kind (space_at m space) ∙ space_moves
         ∙ ap (moved_if (pruned_at pruned n)) (sym (held_in_file u.kind (space_at k space)))
 
@@ -114,7 +114,7 @@ module _ (f : RunFacts) (s : Settled) (t : TextsAt) (k : EntryTable) (orders : L
     abbrev EntriesTold : NewNumbers → UnitItems → DwUnit EntryName → Type 0
     EntriesTold rn o u = (bytes : List ℕ) (x : File) (index : Index) → HasFile f n bytes x index
         → (i : ℕ) (r : EntryRow) (d : Node ℕ) → IsRead (file_read f n bytes x) i r d → Writes k o (file_read f n bytes x) i
-        → EachFrom (λ j a. IsText (fit_in f n u) rn a (text_at m n j)) (firsts_at k (file_read f n bytes x) i).text
+        → EachFrom (λ j a. IsText (file_unit_forms f n u) rn a (text_at m n j)) (firsts_at k (file_read f n bytes x) i).text
         (texts_in (node_map (file_read f n bytes x).after d).attrs)
 
     abbrev NamesTold : NewNumbers → UnitItems → DwUnit EntryName → Type 0
@@ -122,20 +122,20 @@ module _ (f : RunFacts) (s : Settled) (t : TextsAt) (k : EntryTable) (orders : L
         → (space i : ℕ) (r : EntryRow) (d : Node ℕ) (text : List ℕ) → HasChained space o.items
         → slice_get (space_entries 0 f.indexes) space ≡ Some (entry_row n i)
         → IsRead (file_read f n bytes x) i r d → space_text d ≡ Some text
-        → IsText (fit_in f n u) rn (name_attr (name_of text d)) (moved_if q (text_held (fit_in f n u).holder (space_at k space)))
+        → IsText (file_unit_forms f n u) rn (name_attr (name_of text d)) (moved_if q (text_held (file_unit_forms f n u).holder (space_at k space)))
 
     unit_told : (rn : NewNumbers) (o : UnitItems) (u : DwUnit EntryName) → EntriesTold rn o u → NamesTold rn o u → KnowsUnitTexts f m rn n o u
     unit_told rn o u entries names = record {
       entries = λ bytes x index has. record {
         are = λ i r d read writes.
-            subst (λ (w : ValueCounts). EachFrom (λ j a. IsText (fit_in f n u) rn a (text_at m n j)) w.text
+            subst (λ (w : ValueCounts). EachFrom (λ j a. IsText (file_unit_forms f n u) rn a (text_at m n j)) w.text
             (texts_in (node_map (file_read f n bytes x).after d).attrs))
             (sym (firsts_same pruned k m h (row n i)))
             (entries bytes x index has i r d read (writes_same pruned k m h o (file_read f n bytes x) i writes));
       };
       spaces = λ bytes x index has space i r d text chained found read is.
-          subst (λ (w : TextAt). IsText (fit_in f n u) rn (name_attr (name_of text d)) w)
-          (sym (held_moves n space i found u ∙ ap (λ (w : Option PrunedFile). moved_if w (text_held (fit_in f n u).holder (space_at k space))) at))
+          subst (λ (w : TextAt). IsText (file_unit_forms f n u) rn (name_attr (name_of text d)) w)
+          (sym (held_moves n space i found u ∙ ap (λ (w : Option PrunedFile). moved_if w (text_held (file_unit_forms f n u).holder (space_at k space))) at))
           (names bytes x index has space i r d text chained found read is);
     }
 
@@ -144,10 +144,10 @@ module _ (f : RunFacts) (s : Settled) (t : TextsAt) (k : EntryTable) (orders : L
       → KnowsUnitTexts f m None n o u
   unit_stays n at o u old = unit_told n None at refl None o u
       (λ bytes x index has i r d read writes.
-      each_from_more (λ j a. IsText (fit_in f n u) None a (text_at k n j)) (λ j a. IsText (fit_in f n u) None a (text_at m n j))
+      each_from_more (λ j a. IsText (file_unit_forms f n u) None a (text_at k n j)) (λ j a. IsText (file_unit_forms f n u) None a (text_at m n j))
       (firsts_at k (file_read f n bytes x) i).text
       (texts_in (node_map (file_read f n bytes x).after d).attrs)
-      (λ j a told. subst (λ (w : TextAt). IsText (fit_in f n u) None a w) (sym (text_moves n None at refl j)) told)
+      (λ j a told. subst (λ (w : TextAt). IsText (file_unit_forms f n u) None a w) (sym (text_moves n None at refl j)) told)
       ((old.entries bytes x index has).are i r d read writes))
       (λ bytes x index has space i r d text chained found read is. old.spaces bytes x index has space i r d text chained found read is)
 
@@ -159,12 +159,12 @@ module _ (f : RunFacts) (s : Settled) (t : TextsAt) (k : EntryTable) (orders : L
     front = ap (λ (x : ℕ). Own x) (front_stays strs used pf.strs is)
 
     unit_moves : (j : ℕ) (o : UnitItems) (u : DwUnit EntryName) → slice_get order j ≡ Some o → EachText IsNotPooled f k o n
-        → KnowsShown (keys f) k (file_keys f n) None (first + j) o u
+        → KnowsShown (keys f) k (file_keyed_forms f n) None (first + j) o u
         → KnowsUnitTexts f k None n o u → KnowsUnitTexts f m (Some (new_number strs used)) n o u
     unit_moves j o u found own known old =
-        let slots = unit_there (keys f) k known.files (first + j) o (fit_in f n u) None known.names known.known in
+        let slots = unit_there (keys f) k known.files (first + j) o (file_unit_forms f n u) None known.names known.known in
         let common : is_common k (first + j) ≡ false = known.common in
-        let held : (fit_in f n u).holder ≡ holder_by (is_common k (first + j)) o.sort =
+        let held : (file_unit_forms f n u).holder ≡ holder_by (is_common k (first + j)) o.sort =
         same_holder (keys f) false o.sort u.kind known.sort ∙ ap (λ (b : Bool). holder_by b o.sort) (sym common) in
         unit_told n (Some pf) at front (Some (new_number strs used)) o u
         (λ bytes x index has i r d read writes.
@@ -172,16 +172,16 @@ module _ (f : RunFacts) (s : Settled) (t : TextsAt) (k : EntryTable) (orders : L
         let rows = (knows_file f t k p.facts p.listed n bytes x index has).rows in
         let there = ap (λ (w : List EntryRow). slice_get w i) rows ∙ read.found in
         entry_moved strs used pf.strs is k m file (text_moves n (Some pf) at front) rows (here k used first j order o found among)
-        (fit_in f n u) held i r d read
+        (file_unit_forms f n u) held i r d read
         (entry_among k used first j order o found among f t p.facts p.listed slots (row n i) r there writes)
         ((old.entries bytes x index has).are i r d read writes)
         (own bytes x index has i r d read writes)))
         (λ bytes x index has space i r d text chained at_space read is_space.
         (let file = file_read f n bytes x in
         let rows = (knows_file f t k p.facts p.listed n bytes x index has).rows in
-        name_moved strs used pf.strs is k file rows (fit_in f n u) (space_at k space) i r d text
+        name_moved strs used pf.strs is k file rows (file_unit_forms f n u) (space_at k space) i r d text
         (space_row_is n space i at_space) read is_space
-        (chained_among k used first j order o found among (fit_in f n u).holder held space chained)
+        (chained_among k used first j order o found among (file_unit_forms f n u).holder held space chained)
         (old.spaces bytes x index has space i r d text chained at_space read is_space)
         (subst IsNotPooled (sym (held_in_file u.kind (space_at k space))) (stand.names n bytes x index has space i r d at_space read))))
 
@@ -189,11 +189,11 @@ module _ (f : RunFacts) (s : Settled) (t : TextsAt) (k : EntryTable) (orders : L
 
   module _ (n first : ℕ) (order : List UnitItems) (rn : NewNumbers)
       (one : (j : ℕ) (o : UnitItems) (u : DwUnit EntryName) → slice_get order j ≡ Some o
-      → KnowsShown (keys f) k (file_keys f n) None (first + j) o u
+      → KnowsShown (keys f) k (file_keyed_forms f n) None (first + j) o u
       → KnowsUnitTexts f k None n o u → KnowsUnitTexts f m rn n o u) where
     units_move : (c : ℕ) (some : List UnitItems) (us : List (DwUnit EntryName))
         → ((j : ℕ) (o : UnitItems) → slice_get some j ≡ Some o → slice_get order (c + j) ≡ Some o)
-        → KnowUnits (keys f) k (file_keys f n) None (first + c) some us → KnowTexts f k None n some us → KnowTexts f m rn n some us
+        → KnowUnits (keys f) k (file_keyed_forms f n) None (first + c) some us → KnowTexts f k None n some us → KnowTexts f m rn n some us
     units_move c [] [] within known old = tt
     units_move c [] (u ∷ us) within known old = absurd old
     units_move c (o ∷ some) [] within known old = absurd old
@@ -203,16 +203,16 @@ module _ (f : RunFacts) (s : Settled) (t : TextsAt) (k : EntryTable) (orders : L
           one c o u (ap (slice_get order) none ∙ within 0 o refl) known.0 old.0,
           units_move (suc c) some us
               (λ j x e. (let far : suc c + j ≡ c + suc j = omega arith in ap (slice_get order) far ∙ within (suc j) x e))
-              (subst (λ (w : ℕ). KnowUnits (keys f) k (file_keys f n) None w some us) next known.1) old.1,
+              (subst (λ (w : ℕ). KnowUnits (keys f) k (file_keyed_forms f n) None w some us) next known.1) old.1,
         )
 
-    all_move : KnowUnits (keys f) k (file_keys f n) None first order (out_units (move f) (units f) n)
+    all_move : KnowUnits (keys f) k (file_keyed_forms f n) None first order (out_units (move f) (units f) n)
         → KnowTexts f k None n order (out_units (move f) (units f) n)
         → KnowTexts f m rn n order (out_units (move f) (units f) n)
     all_move known old =
         let none : first ≡ first + 0 = omega arith in
         units_move 0 order (out_units (move f) (units f) n) (λ j o e. (let same : 0 + j ≡ j = omega arith in ap (slice_get order) same ∙ e))
-        (subst (λ (w : ℕ). KnowUnits (keys f) k (file_keys f n) None w order (out_units (move f) (units f) n)) none known) old
+        (subst (λ (w : ℕ). KnowUnits (keys f) k (file_keyed_forms f n) None w order (out_units (move f) (units f) n)) none known) old
 
   -- ---- a file that is written
 
@@ -230,7 +230,7 @@ module _ (f : RunFacts) (s : Settled) (t : TextsAt) (k : EntryTable) (orders : L
         → KnowTexts f k None n order (out_units (move f) (units f) n)
         → KnowTexts f m (run_numbers (run f) n) n order (out_units (move f) (units f) n)
     file_moves stays old = by (pruned_at pruned n) refl stays where
-      known : KnowUnits (keys f) k (file_keys f n) None first order (out_units (move f) (units f) n)
+      known : KnowUnits (keys f) k (file_keyed_forms f n) None first order (out_units (move f) (units f) n)
       known = units_known f s t k orders p stand n rank first order is
 
       by : (q : Option PrunedFile) → pruned_at pruned n ≡ q → IsPrunedIf f n (order_uses k first order) q

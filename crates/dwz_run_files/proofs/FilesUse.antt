@@ -8,10 +8,10 @@ use Rattle.dwz_def_tops.specs.Shown.{units_keys}
 use Rattle.dwz_def_tops.proofs.Members.{in_filter_from}
 use Rattle.dwz_def_tops.specs.Spots.{EntryName, file_numbers}
 use Rattle.dwz_def_images.specs.Units.{changes, out_units}
-use Rattle.dwz_def_encoding.specs.Placing.{FileFit, with_keys}
+use Rattle.dwz_def_encoding.specs.Placing.{with_keys}
 use Rattle.dwz_def_encoding.specs.Pruned.{units_uses}
 use Rattle.dwz_def_readback.specs.Files.{formed_by}
-use Rattle.dwz_def_readback.specs.Files.{file_forms, formed, sources, tells}
+use Rattle.dwz_def_readback.specs.Files.{formed, sources, tells}
 use Rattle.dwz_def_readback.specs.Sound.{FewTexts}
 use Rattle.dwz_layout.specs.declared.known.EntryTable.{EntryTable}
 use Rattle.dwz_layout.specs.declared.order.UnitItems.{UnitItems}
@@ -22,7 +22,7 @@ use Rattle.dwz_layout_order.specs.declared.orders.Settled.{Settled}
 use Rattle.dwz_law_layout.specs.Facts.{RunFacts, docs, files_written, move, run, units}
 use Rattle.dwz_law_layout.specs.Listed.{TextsAt}
 use Rattle.dwz_law_layout.specs.Named.{keys}
-use Rattle.dwz_law_layout.specs.Unfitted.{before_forms, unfitted_file}
+use Rattle.dwz_law_layout.specs.Unfitted.{before_forms, file_keyed_forms, unfitted_file}
 use Rattle.dwz_law_layout.proofs.FilesKnown.{run_known}
 use Rattle.dwz_encode_texts.specs.Used.{order_uses}
 use Rattle.dwz_encode_texts.proofs.NamedUses.{named_uses}
@@ -54,14 +54,10 @@ know_at names k here (a ∷ orders) (y ∷ files) known (suc i) order x e g =
     let far : here + length a + unit_count (take i orders) ≡ here + (length a + unit_count (take i orders)) = omega arith in
     subst (λ (n : ℕ). Know names k n order x) far (know_at names k (here + length a) orders files known.1 i order x e g)
 
--- the units of a file after, before their values have forms
-abbrev pub file_keys : RunFacts → ℕ → FileFit EntryName
-file_keys f n = with_keys (file_forms (run f) n) (units_keys (out_units (move f) (units f) n))
-
 module _ (f : RunFacts) (s : Settled) (t : TextsAt) (k : EntryTable) (orders : List (List UnitItems)) (p : ArePrepared f s t k orders)
     (stand : StandWhole f k orders) where
   pub units_known : (n rank first : ℕ) (order : List UnitItems) → IsOrdered f orders n rank first order
-      → KnowUnits (keys f) k (file_keys f n) None first order (out_units (move f) (units f) n)
+      → KnowUnits (keys f) k (file_keyed_forms f n) None first order (out_units (move f) (units f) n)
   units_known n rank first order is =
       let known = run_known f t k s p.facts p.listed p.settled orders p.ordered (λ n. None) stand.known in
       let x = unfitted_file f (λ n. None) n in

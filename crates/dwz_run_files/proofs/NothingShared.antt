@@ -14,7 +14,7 @@ use Rattle.dwz_def_reading.specs.Lists.{Each}
 use Rattle.dwz_def_tops.proofs.Members.{each_append}
 use Rattle.dwz_def_tops.specs.Spots.{EntryName}
 use Rattle.dwz_def_images.specs.Units.{common_units, out_units}
-use Rattle.dwz_def_encoding.specs.Placing.{Fit, texts_of, units_with}
+use Rattle.dwz_def_encoding.specs.Placing.{UnitForms, texts_of, units_with}
 use Rattle.dwz_def_readback.specs.Files.{imports_common, shared_if}
 use Rattle.dwz_graph.specs.declared.file.File.{File}
 use Rattle.dwz_graph.specs.Index.{Index}
@@ -33,7 +33,7 @@ use Rattle.dwz_law_layout.specs.Knows.{EachFrom, IsRead, firsts_at, texts_in}
 use Rattle.dwz_law_layout.specs.Facts.{HasFile, RunFacts, file_read, files_written, move, run, units}
 use Rattle.dwz_law_layout.specs.Laid.{FilesTexts, TextsKnown}
 use Rattle.dwz_law_layout.specs.Listed.{AreListed, TextsAt, entry_row, space_entries}
-use Rattle.dwz_law_layout.specs.Unfitted.{KnowCommon, KnowTexts, KnowsTextsOf, fit_in}
+use Rattle.dwz_law_layout.specs.Unfitted.{KnowCommon, KnowTexts, KnowsTextsOf, file_unit_forms}
 use Rattle.dwz_law_layout.proofs.FilesKnown.{none_known}
 use Rattle.dwz_law_layout.proofs.OrderOfRun.{run_few}
 use Rattle.dwz_encode_texts.specs.Names.{named_text, row_name}
@@ -56,24 +56,14 @@ shared_none false = refl
 
 module _ (f : RunFacts) (none : common_units (move f) ≡ []) where
   -- so forms are chosen as if none could be
-  fit_same : (n : ℕ) (u : DwUnit EntryName) → unshared (fit_in f n u) ≡ fit_in f n u
+  fit_same : (n : ℕ) (u : DwUnit EntryName) → unshared (file_unit_forms f n u) ≡ file_unit_forms f n u
   unfolding units_with
   fit_same n u =
       let imports = imports_common (move f) (units f) n in
-      let nothing : [] ≡ (fit_in f n u).shared =
+      let nothing : [] ≡ (file_unit_forms f n u).shared =
       sym (shared_none imports) ∙ ap (λ (us : List (DwUnit EntryName)). shared_if imports (texts_of [] us)) (sym none) in
-      let ft = fit_in f n u in
-      (λ i. record {
-        same = ft.same;
-        own = ft.own;
-        file = ft.file;
-        holder = ft.holder;
-        texts = ft.texts;
-        shared = nothing i;
-        paths = ft.paths;
-        offsets = ft.offsets;
-        origin = ft.origin;
-      })
+      let ft = file_unit_forms f n u in
+      (λ i. record ft { file = record ft.file { forms = record ft.file.forms { shared = nothing i } } })
 
   units_told : (k : EntryTable) (n : ℕ) (order : List UnitItems) (us : List (DwUnit EntryName)) → KnowUnshared f k n order us
       → KnowTexts f k None n order us
@@ -81,7 +71,7 @@ module _ (f : RunFacts) (none : common_units (move f) ≡ []) where
   units_told k n [] (u ∷ us) known = absurd known
   units_told k n (o ∷ order) [] known = absurd known
   units_told k n (o ∷ order) (u ∷ us) known =
-      (subst (λ (ft : Fit EntryName). KnowsTextsOf f k ft None n o) (fit_same n u) known.0, units_told k n order us known.1)
+      (subst (λ (ft : UnitForms EntryName). KnowsTextsOf f k ft None n o) (fit_same n u) known.0, units_told k n order us known.1)
 
   files_told : (k : EntryTable) (files : List ℕ) (orders : List (List UnitItems)) → FilesUnshared f k files orders
       → FilesTexts f k (λ n. None) files orders

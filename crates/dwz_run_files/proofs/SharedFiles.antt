@@ -24,7 +24,7 @@ use Rattle.dwz_law_layout.specs.Knows.{FileRead, IsText, Writes, name_attr}
 use Rattle.dwz_law_layout.specs.Facts.{AreFacts, HasFile, RunFacts, docs, file_read, move, run, units}
 use Rattle.dwz_law_layout.specs.Laid.{FilesTexts}
 use Rattle.dwz_law_layout.specs.Listed.{AreListed, TextsAt}
-use Rattle.dwz_law_layout.specs.Unfitted.{KnowTexts, KnowsTextsOf, fit_in}
+use Rattle.dwz_law_layout.specs.Unfitted.{KnowTexts, KnowsTextsOf, file_unit_forms}
 use Rattle.dwz_law_layout.proofs.FilesKnown.{flag_is}
 use Rattle.dwz_law_layout.proofs.UnitsKnown.{not_common}
 use Rattle.dwz_encode_texts.specs.TextLaws.{unshared}
@@ -70,7 +70,7 @@ module _ (f : RunFacts) (t : TextsAt) (sharing : List Bool) (before k : EntryTab
         ∙ ap (imports_common (move f) (units f)) none
 
     shared_is : (n : ℕ) (u : DwUnit EntryName) (bytes : List ℕ) (x : File) (index : Index) → HasFile f n bytes x index
-        → (fit_in f n u).shared ≡ shared_if (shares_in sharing n) (texts (run f))
+        → (file_unit_forms f n u).shared ≡ shared_if (shares_in sharing n) (texts (run f))
     shared_is n u bytes x index h =
         let many = are_many f.contents f.files f.indexes facts.kept facts.indexed in
         let files = many.0 in
@@ -79,20 +79,20 @@ module _ (f : RunFacts) (t : TextsAt) (sharing : List Bool) (before k : EntryTab
 
     -- ---- a unit
 
-    unit_shared : (n : ℕ) (o : UnitItems) (u : DwUnit EntryName) → KnowsTextsOf f before (unshared (fit_in f n u)) None n o
-        → WritesOwn f before n o → KnowsTextsOf f k (fit_in f n u) None n o
+    unit_shared : (n : ℕ) (o : UnitItems) (u : DwUnit EntryName) → KnowsTextsOf f before (unshared (file_unit_forms f n u)) None n o
+        → WritesOwn f before n o → KnowsTextsOf f k (file_unit_forms f n u) None n o
     unit_shared n o u old own = record {
       entries = λ bytes x index h. record {
         are = λ i r d read writes. (
             let wrote_it = wrote o (file_read f n bytes x) i writes in
-            texts_shared f t sharing before k facts listed has n bytes x index h (fit_in f n u) (not_common u.kind)
+            texts_shared f t sharing before k facts listed has n bytes x index h (file_unit_forms f n u) (not_common u.kind)
             (shared_is n u bytes x index h) i r d read (own bytes x index h i r d read wrote_it)
             ((old.entries bytes x index h).are i r d read wrote_it));
       };
       spaces = λ bytes x index h s i r d text chained at read is.
-          names_shared f t sharing before k facts listed has n bytes x index h (fit_in f n u) (not_common u.kind)
+          names_shared f t sharing before k facts listed has n bytes x index h (file_unit_forms f n u) (not_common u.kind)
           (shared_is n u bytes x index h) s i r d text at read is
-          (subst (λ (w : TextAt). IsText (unshared (fit_in f n u)) None (name_attr (name_of text d)) w)
+          (subst (λ (w : TextAt). IsText (unshared (file_unit_forms f n u)) None (name_attr (name_of text d)) w)
           (held_in_file u.kind (space_at before s)) (old.spaces bytes x index h s i r d text chained at read is));
     }
 

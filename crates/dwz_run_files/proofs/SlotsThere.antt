@@ -14,7 +14,7 @@ use Rattle.dwz_layout_items.specs.declared.order.ItemKind.{ItemKind}
 use Rattle.dwz_layout_items.specs.declared.order.ItemKind.TheVariants.{Import, InChain, Root, Space, Top, Whole}
 use Rattle.dwz_layout_items.specs.Order.{Names}
 use Rattle.dwz_unit.specs.Rows.{EntryRow, rows_below, rows_of}
-use Rattle.dwz_def_encoding.specs.Placing.{Fit}
+use Rattle.dwz_def_encoding.specs.Placing.{UnitForms}
 use Rattle.dwz_layout.specs.declared.known.EntryTable.{EntryTable}
 use Rattle.dwz_layout.specs.declared.known.Row.{Row}
 use Rattle.dwz_layout.specs.declared.order.Sort.{Sort}
@@ -102,7 +102,7 @@ some_file k P T [] all go shows = absurd shows
 some_file k P T (f ∷ files) all go (inl own) = go f all.0 own
 some_file k P T (f ∷ files) all go (inr rest) = some_file k P T files all.1 go rest
 
-module _ (keys : Keys EntryName) (k : EntryTable) (files : List FileRead) (all : Each (KnowsFile k) files) (here : ℕ) (ft : Fit EntryName)
+module _ (keys : Keys EntryName) (k : EntryTable) (files : List FileRead) (all : Each (KnowsFile k) files) (here : ℕ) (ft : UnitForms EntryName)
     (rn : NewNumbers) (names : Names EntryName) where
   tree_of : (depth : ℕ) (r : Row) (node : Node EntryName) (below : Entries EntryName) → OfSome files (λ f. ShowsTree f r node below)
       → AreThere k (tree_slots k depth r)
@@ -145,7 +145,7 @@ module _ (keys : Keys EntryName) (k : EntryTable) (files : List FileRead) (all :
       each_append (λ s. IsThere k s.origin) (what_slots k sort x.depth x.what) (items_slots k sort items)
       (what_there sort x.depth x.what shows.0) (items_there sort items shows.1)
 
-pub unit_there : (keys : Keys EntryName) (k : EntryTable) (files : List FileRead) (here : ℕ) (o : UnitItems) (ft : Fit EntryName) (rn : NewNumbers)
+pub unit_there : (keys : Keys EntryName) (k : EntryTable) (files : List FileRead) (here : ℕ) (o : UnitItems) (ft : UnitForms EntryName) (rn : NewNumbers)
     (names : Names EntryName)
     → KnowsUnit keys k files here o ft rn names → AreThere k (items_slots k o.sort o.items)
 unit_there keys k files here o ft rn names known =

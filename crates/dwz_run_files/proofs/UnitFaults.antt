@@ -10,7 +10,8 @@ use Rattle.dwz_def_reading.specs.Rows.{RowView}
 use Rattle.dwz_def_reading.specs.declared.elf.FileHeader.{FileHeader}
 use Rattle.dwz_def_reading.specs.declared.elf.Section.{Section}
 use Rattle.dwz_def_reading.specs.Abbrevs.{Declaration}
-use Rattle.dwz_def_reading.specs.ElfFaults.{Before, FieldRowsFor, InOrder, IsFirstElfFault, KeptRowsFor, FaultRow, WrongByte, by_itself, file_fault}
+use Rattle.dwz_def_reading.specs.ElfFaults.{FieldRowsFor, InOrder, IsFirstElfFault, KeptRowsFor, FaultRow, WrongByte, by_itself, file_fault}
+use Rattle.dwz_def_reading.specs.FirstOf.{OrElse}
 use Rattle.dwz_def_reading.specs.ElfHeaders.{file_header}
 use Rattle.dwz_def_reading.specs.ElfNames.{sections_in}
 use Rattle.dwz_def_reading.specs.Entries.{IsAttrFault, IsDeclaredFault, IsFrontFault, Mode, RawEntry, SpellsFront, UnitContext, fault_in_entry}
@@ -35,25 +36,25 @@ record ArePlaced (Holds : Fault → Type 0) : Type 0 where
 one_row : (What : Type 0) (reason : Reason) (at : ℕ) → ArePlaced (FaultRow What reason at)
 one_row What reason at = record { each = λ f h. same_place f (file_fault reason at) h.0 (lit≤ tt) }
 
-both : (First Then : Fault → Type 0) → ArePlaced First → ArePlaced Then → ArePlaced (Before First Then)
+both : (First Then : Fault → Type 0) → ArePlaced First → ArePlaced Then → ArePlaced (OrElse First Then)
 both First Then first others = record { each = λ f h. elim h [ inl is ↦ first.each f is | inr p ↦ others.each f p.1 ] }
 
 in_order : {X : Type 0} (RowOf : List X → X → Fault → Type 0) → ((before : List X) (x : X) → ArePlaced (RowOf before x))
-    → (before xs : List X) → ArePlaced (InOrder Before RowOf before xs)
+    → (before xs : List X) → ArePlaced (InOrder OrElse RowOf before xs)
 in_order RowOf each before [] = record { each = λ f h. absurd h }
 in_order RowOf each before (x ∷ xs) = both _ _ (each before x) (in_order RowOf each (before ++ x ∷ []) xs)
 
 wrong_byte : (bytes : List ℕ) → ArePlaced (WrongByte bytes)
 wrong_byte bytes = record { each = λ f h. same_place f (file_fault NotElf h.0) h.1.0 (lit≤ tt) }
 
-fields : (bytes : List ℕ) (file : FileHeader) → ArePlaced (FieldRowsFor by_itself Before bytes file)
+fields : (bytes : List ℕ) (file : FileHeader) → ArePlaced (FieldRowsFor by_itself OrElse bytes file)
 fields bytes file =
     both _ _ (one_row _ _ _)
     (both _ _ (one_row _ _ _)
     (both _ _ (one_row _ _ _)
     (both _ _ (one_row _ _ _) (both _ _ (one_row _ _ _) (both _ _ (one_row _ _ _) (one_row _ _ _))))))
 
-kept : (sections : List Section) (s : Section) → ArePlaced (KeptRowsFor by_itself Before sections s)
+kept : (sections : List Section) (s : Section) → ArePlaced (KeptRowsFor by_itself OrElse sections s)
 kept sections s = both _ _ (one_row _ _ _) (one_row _ _ _)
 
 pub elf_placed : (bytes : List ℕ) (f : Fault) → IsFirstElfFault bytes f → OfSection f

@@ -17,7 +17,7 @@ use Rattle.dwz_layout.specs.Known.{space_at}
 use Rattle.dwz_law_layout.specs.Knows.{IsRead, IsText, Writes, name_attr}
 use Rattle.dwz_law_layout.specs.Facts.{AreFacts, HasFile, RunFacts, file_read, move, units}
 use Rattle.dwz_law_layout.specs.Listed.{AreListed, TextsAt, entry_row, space_entries}
-use Rattle.dwz_law_layout.specs.Unfitted.{HasChained, KnowsTextsOf, fit_in}
+use Rattle.dwz_law_layout.specs.Unfitted.{HasChained, KnowsTextsOf, file_unit_forms}
 use Rattle.dwz_encode_texts.specs.TextLaws.{ComesFromScope, StandAsRead, unshared}
 use Rattle.dwz_encode_texts.proofs.LawLemmas.{names_law, texts_law}
 use Rattle.dwz_run_files.proofs.HeldTexts.{held_in_file}
@@ -44,7 +44,7 @@ module _ (f : RunFacts) (t : TextsAt) (k : EntryTable) (facts : AreFacts f) (lis
 
   -- they stand where the definitions say, if the file shares none
   abbrev pub Stand : Type 0
-  Stand = KnowsTextsOf f k (unshared (fit_in f n u)) None n o
+  Stand = KnowsTextsOf f k (unshared (file_unit_forms f n u)) None n o
 
   pub unit_texts : EntriesCome f k n o u → SpacesCome f k n o u → Stand
   unit_texts entries spaces = record {
@@ -53,7 +53,7 @@ module _ (f : RunFacts) (t : TextsAt) (k : EntryTable) (facts : AreFacts f) (lis
           texts_law f t k facts listed stand n bytes x index h keys u i r d read (entries bytes x index h i r d read writes);
     };
     spaces = λ bytes x index h s i r d text has at read is.
-        subst (λ (w : TextAt). IsText (unshared (fit_in f n u)) None (name_attr (name_of text d)) w)
+        subst (λ (w : TextAt). IsText (unshared (file_unit_forms f n u)) None (name_attr (name_of text d)) w)
         (sym (held_in_file u.kind (space_at k s)))
         (names_law f t k facts listed stand n bytes x index h keys u i r d read (spaces bytes x index h s i r d read has at) s text at is);
   }

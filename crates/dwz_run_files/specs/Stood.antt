@@ -14,14 +14,14 @@ use Rattle.dwz_law_layout.specs.Knows.{IsRead, Writes}
 use Rattle.dwz_encode_common.specs.Placed.{in_common_file}
 use Rattle.dwz_law_layout.specs.Facts.{HasFile, RunFacts, file_read, files_written, move, units}
 use Rattle.dwz_law_layout.specs.Listed.{TextsAt}
-use Rattle.dwz_law_layout.specs.Unfitted.{KnowsTextsOf, fit_in}
+use Rattle.dwz_law_layout.specs.Unfitted.{KnowsTextsOf, file_unit_forms}
 use Rattle.dwz_run_files.specs.Prepared.{ArePrepared}
 use Rattle.dwz_encode_texts.specs.TextLaws.{StandAsRead, unshared}
 
 -- the texts of each unit of a file stand where the definitions say of a file that shares none with the common file
 abbrev pub KnowUnshared : RunFacts → EntryTable → ℕ → List UnitItems → List (DwUnit EntryName) → Type 0
 KnowUnshared f k n [] [] = Unit {0}
-KnowUnshared f k n (o ∷ order) (u ∷ some) = KnowsTextsOf f k (unshared (fit_in f n u)) None n o × KnowUnshared f k n order some
+KnowUnshared f k n (o ∷ order) (u ∷ some) = KnowsTextsOf f k (unshared (file_unit_forms f n u)) None n o × KnowUnshared f k n order some
 KnowUnshared f k n _ _ = ⊥
 
 -- no entry of the file with that number that the unit writes is one of the common file

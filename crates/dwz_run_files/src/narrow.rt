@@ -16,13 +16,8 @@ use crate::moved::FileAfter;
 use crate::work::LaidRun;
 use dwz_encode_operands::{entry_places, first_listed, first_spoken, operand_numbers};
 use dwz_layout::EntryTable;
-use dwz_model::{Fault, NoMemory, Reason};
+use dwz_model::{DEBUG_INFO, DEBUG_LOCLISTS, Fault, NoMemory, Reason};
 use std::alloc::Global;
-
-// The codes of `.debug_info` and of `.debug_loclists`.
-const INFO: u8 = 1;
-
-const LOCLISTS: u8 = 7;
 
 // The first place in `.debug_info`.
 fn first_in_info(
@@ -91,10 +86,10 @@ pub(crate) fn narrow_fault(
         → IfOk result (IsFound (NarrowFault (run f) moved.now.number)) }
 {
     if let Some(at) = first_in_info(alloc, work, moved, units_at)? {
-        return Ok(Some(narrow_at(INFO, at)));
+        return Ok(Some(narrow_at(DEBUG_INFO, at)));
     }
     if let Some(at) = first_in_lists(alloc, work, moved, units_at)? {
-        return Ok(Some(narrow_at(LOCLISTS, at)));
+        return Ok(Some(narrow_at(DEBUG_LOCLISTS, at)));
     }
     Ok(None)
 }

@@ -1,37 +1,24 @@
 //! Where units begin after (DWARF 5, 7.5.1).
 
-ghost use Rattle.std.specs.Prelude.{◌≡◌, ◌-◌, IfOk, length, slice_index};
+ghost use Rattle.std.specs.Prelude.{◌≡◌, ◌-◌, IfOk, length};
 ghost use Rattle.dwz_def_reading.specs.Units.{RawKind, header_size};
 ghost use Rattle.dwz_run_files.specs.Spots.{unit_places_from};
 ghost use Rattle.dwz_unit.specs.Rows.{kind_number, units_of};
 
-use dwz_model::NoMemory;
+use dwz_codes::DW_UT_TYPE;
+use dwz_model::{NoMemory, at_or};
 use dwz_unit::Units;
 use std::alloc::Global;
-
-// `DW_UT_type`, whose header has a signature and an offset besides.
-const TYPE: u8 = 2;
 
 // How many bytes the header of a unit of that type has.
 #[inline(always)]
 fn header_bytes(kind: u8) -> u64
     ensures { (k : RawKind) → kind ≡ kind_number k → result ≡ header_size k }
 {
-    if kind == TYPE {
+    if kind == DW_UT_TYPE {
         return 24;
     }
     12
-}
-
-// The place of the entry with a number, and 0 behind the last one.
-#[inline(always)]
-fn place_of(places: &[u64], entry: usize) -> u64
-    ensures { result ≡ slice_index places.now entry }
-{
-    match places.get(entry) {
-        Some(place) => *place,
-        None => 0,
-    }
 }
 
 // Where a unit of that type begins, whose root stands there.
@@ -59,7 +46,7 @@ pub fn unit_places(
     let mut out = Vec::with_capacity(alloc, units.len() as usize)?;
     for n in 0..units.len() {
         let unit = units.unit(n);
-        let root = place_of(places, start as usize + unit.first as usize);
+        let root = at_or(places, start as usize + unit.first as usize, 0);
         out.push(before_root(root, unit.kind))?;
     }
     Ok(out)

@@ -16,7 +16,8 @@ use Rattle.dwz_words.specs.declared.options.Options.{Options}
 use Rattle.dwz_def_output.specs.Contents.{common_after}
 use Rattle.dwz_def_output.specs.FilesAfter.{common_bytes, sup_of}
 use Rattle.dwz_def_run.specs.Out.{sup_name}
-use Rattle.dwz_def_output.specs.Refusals.{CommonFault, CommonRefusal, IsLargeSection, OfFirst, OrElse, too_large_at}
+use Rattle.dwz_def_output.specs.Refusals.{CommonFault, CommonRefusal, IsLargeSection, too_large_at}
+use Rattle.dwz_def_reading.specs.FirstOf.{OfFirst, OrElse}
 use Rattle.dwz_def_output.proofs.FreeLemmas.{Nothing, not_then}
 use Rattle.dwz_run_output.specs.declared.common.CommonFile.{CommonFile}
 use Rattle.dwz_run_output.specs.Common.{FaultWith, IsCommonMade, IsLargeWith}

@@ -4,7 +4,8 @@ use Rattle.std.specs.List.{range_with_len}
 use Rattle.std.specs.Option.{option_or}
 use Rattle.dwz_model.specs.declared.fault.Fault.{Fault}
 use Rattle.dwz_model.specs.declared.fault.Refusal.{Refusal}
-use Rattle.dwz_def_output.specs.Refusals.{InFile, OfFirst, OrElse}
+use Rattle.dwz_def_output.specs.Refusals.{InFile}
+use Rattle.dwz_def_reading.specs.FirstOf.{OfFirst, OrElse}
 use Rattle.dwz_def_output.proofs.FreeLemmas.{Nothing, not_first, not_then}
 use Rattle.dwz_def_output.specs.NewFiles.{IsFound}
 

@@ -19,7 +19,8 @@ use Rattle.dwz_run_course.specs.Answers.{IsAnswer}
 use Rattle.dwz_run_course.specs.Demo.{HasLengths}
 use Rattle.dwz_def_output.specs.Written.{IsFree, ReadAs}
 use Rattle.dwz_def_run.specs.Out.{IsWritten, Out, all_puts, common_length_after, output_of, run_for, summary_lines, summary_of, sup_name}
-use Rattle.dwz_def_output.specs.Refusals.{CommonRefusal, FileFault, InFile, OfFirst, OutFault, SectionsFault}
+use Rattle.dwz_def_output.specs.Refusals.{CommonRefusal, FileFault, InFile, OutFault, SectionsFault}
+use Rattle.dwz_def_reading.specs.FirstOf.{OfFirst}
 use Rattle.dwz_def_output.proofs.FreeLemmas.{Nothing}
 use Rattle.dwz_def_output.proofs.OfSections.{of_section}
 use Rattle.dwz_def_output.specs.declared.new_file.NewFile.{NewFile}

@@ -9,7 +9,8 @@ use Rattle.dwz_def_tops.specs.Lists.{Nth}
 use Rattle.dwz_def_images.specs.Units.{changes}
 use Rattle.dwz_def_readback.specs.Files.{Run}
 use Rattle.dwz_def_output.specs.Contents.{listed, sections_after}
-use Rattle.dwz_def_output.specs.Refusals.{FirstNarrow, IsLargeSection, OfFirst, OrElse, SectionsFault, spoken}
+use Rattle.dwz_def_output.specs.Refusals.{FirstNarrow, IsLargeSection, SectionsFault, spoken}
+use Rattle.dwz_def_reading.specs.FirstOf.{OfFirst, OrElse}
 use Rattle.dwz_def_output.proofs.FreeLemmas.{Nothing, not_first, not_then}
 use Rattle.dwz_def_output.specs.declared.new_file.NewFile.{NewFile}
 use Rattle.dwz_def_output.specs.NewFiles.{IsFound, IsNewFile, IsNewOrOld, NarrowFault}

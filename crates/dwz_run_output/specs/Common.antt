@@ -10,7 +10,8 @@ use Rattle.dwz_def_readback.specs.Files.{Run}
 use Rattle.dwz_words.specs.declared.options.Options.{Options}
 use Rattle.dwz_def_output.specs.FilesAfter.{common_bytes, has_common, sup_of}
 use Rattle.dwz_def_run.specs.Out.{sup_name}
-use Rattle.dwz_def_output.specs.Refusals.{IsLargeSection, OfFirst, OrElse, too_large_at}
+use Rattle.dwz_def_output.specs.Refusals.{IsLargeSection, too_large_at}
+use Rattle.dwz_def_reading.specs.FirstOf.{OfFirst, OrElse}
 use Rattle.dwz_run_output.specs.declared.common.CommonFile.{CommonFile}
 
 -- ---- its first fault

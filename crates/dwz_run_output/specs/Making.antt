@@ -11,7 +11,8 @@ use Rattle.dwz_words.specs.declared.options.Options.{Options}
 use Rattle.dwz_def_output.specs.Contents.{sections_after}
 use Rattle.dwz_def_output.specs.FilesAfter.{file_after}
 use Rattle.dwz_def_run.specs.Out.{sup_name}
-use Rattle.dwz_def_output.specs.Refusals.{FileFault, InFile, OfFirst}
+use Rattle.dwz_def_output.specs.Refusals.{FileFault, InFile}
+use Rattle.dwz_def_reading.specs.FirstOf.{OfFirst}
 use Rattle.dwz_def_output.specs.declared.new_file.NewFile.{NewFile}
 use Rattle.dwz_def_output.specs.NewFiles.{IsNewOrOld}
 

@@ -16,7 +16,7 @@ ghost use Rattle.dwz_def_output.specs.NewFiles.{IsFound, IsNewCommon};
 use crate::faults::{TOO_LARGE, first_large, too_large};
 use crate::rows::copy_name;
 use dwz_graph::Graph;
-use dwz_model::{Blob, Fault, NoMemory, Sections};
+use dwz_model::{Blob, Fault, NoMemory, Sections, WHOLE_FILE};
 use dwz_sup::{checksum, common_file, debug_sup};
 use dwz_words::Options;
 use std::alloc::Global;
@@ -77,7 +77,7 @@ fn large_file(sections: &Sections) -> Option<Fault>
     ensures { IsFound (IsLargeWith sections.now) result }
 {
     if common_len(sections) >= TOO_LARGE as u128 {
-        Some(too_large(0))
+        Some(too_large(WHOLE_FILE))
     } else {
         None
     }

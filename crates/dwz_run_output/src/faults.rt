@@ -4,27 +4,16 @@ ghost use Rattle.std.specs.Prelude.{◌≡◌, ℕ, ◌<◌, ◌^◌, length};
 ghost use Rattle.std.specs.Option.{option_copied};
 ghost use Rattle.std.specs.List.{range_with_len};
 ghost use Rattle.dwz_def_readback.specs.Files.{Run};
-ghost use Rattle.dwz_def_output.specs.Refusals.{InFile, IsLargeSection, OfFirst, SectionsFault, too_large_at};
+ghost use Rattle.dwz_def_output.specs.Refusals.{InFile, IsLargeSection, SectionsFault, too_large_at};
+ghost use Rattle.dwz_def_reading.specs.FirstOf.{OfFirst};
 ghost use Rattle.dwz_def_output.specs.Changed.{changes_by, if_new};
 ghost use Rattle.dwz_def_output.specs.NewFiles.{AreNew, IsFound, IsNewFile, IsNewOrOld};
 
 use dwz_def_output::NewFile;
-use dwz_model::{Blob, Fault, Reason, Refusal, Sections};
-
-// The codes of the sections.
-pub(crate) const INFO: u8 = 1;
-
-pub(crate) const ABBREV: u8 = 2;
-
-pub(crate) const STR: u8 = 3;
-
-pub(crate) const STR_OFFSETS: u8 = 5;
-
-pub(crate) const LINE: u8 = 6;
-
-pub(crate) const LOCLISTS: u8 = 7;
-
-pub(crate) const ARANGES: u8 = 8;
+use dwz_model::{
+    Blob, DEBUG_ABBREV, DEBUG_ARANGES, DEBUG_INFO, DEBUG_LINE, DEBUG_LOCLISTS, DEBUG_STR,
+    DEBUG_STR_OFFSETS, Fault, Reason, Refusal, Sections,
+};
 
 /// A section of so many bytes is too large, and so is a file.
 pub(crate) const TOO_LARGE: usize = 0xffff_fff0;
@@ -66,13 +55,13 @@ fn large(code: u8, bytes: Option<&Blob>) -> Option<Fault>
 pub(crate) fn first_large(sections: &Sections) -> Option<Fault>
     ensures { IsFound (OfFirst IsLargeSection (changes_by sections.now None).new) result }
 {
-    large(INFO, Some(&sections.info))
-        .or(large(ABBREV, Some(&sections.abbrev)))
-        .or(large(STR, sections.strs.as_ref()))
-        .or(large(STR_OFFSETS, sections.offsets.as_ref()))
-        .or(large(LINE, sections.line.as_ref()))
-        .or(large(LOCLISTS, sections.loclists.as_ref()))
-        .or(large(ARANGES, sections.aranges.as_ref()))
+    large(DEBUG_INFO, Some(&sections.info))
+        .or(large(DEBUG_ABBREV, Some(&sections.abbrev)))
+        .or(large(DEBUG_STR, sections.strs.as_ref()))
+        .or(large(DEBUG_STR_OFFSETS, sections.offsets.as_ref()))
+        .or(large(DEBUG_LINE, sections.line.as_ref()))
+        .or(large(DEBUG_LOCLISTS, sections.loclists.as_ref()))
+        .or(large(DEBUG_ARANGES, sections.aranges.as_ref()))
 }
 
 // The first fault of what is new in a file.

@@ -4,7 +4,7 @@
 //! `Output`: puts, the common file first, and summary; or the first operand that is too narrow, section that is too large, or file that
 //! can't be laid out. A file's bytes are made once and moved into its put. `NewFile` is filled by `dwz_run_files`.
 //!
-//! Read first: `specs/NewFiles.antt`; and `OutFault`, `Out` of `dwz_def_output`.
+//! Read first: `specs/NewFiles.antt`; `OutFault` (`dwz_def_output`) and `Out` (`dwz_def_run`).
 #![tactic(auto)]
 
 mod after;

@@ -12,12 +12,15 @@ ghost use Rattle.dwz_run_output.specs.Giving.{IsThere, given, with_sup_if};
 ghost use Rattle.dwz_run_output.specs.Making.{AnswersAll, AnswersFile, CanMake};
 
 use crate::common::{CommonFile, sup_of_file};
-use crate::faults::{ABBREV, ARANGES, INFO, LINE, LOCLISTS, STR, STR_OFFSETS, in_file};
+use crate::faults::in_file;
 use crate::rows::take_row;
 use dwz_def_output::NewFile;
 use dwz_elf::{Elf, Rebuild};
 use dwz_graph::Graph;
-use dwz_model::{Blob, GraphErr, NoMemory, ReadErr, Sections};
+use dwz_model::{
+    Blob, DEBUG_ABBREV, DEBUG_ARANGES, DEBUG_INFO, DEBUG_LINE, DEBUG_LOCLISTS, DEBUG_STR,
+    DEBUG_STR_OFFSETS, GraphErr, NoMemory, ReadErr, Sections,
+};
 use std::alloc::Global;
 
 // Gives the section with a code its new bytes, if there are some. One that isn't there gets none.
@@ -69,13 +72,13 @@ fn rebuild_file(
     } = sections;
     let mut rebuild = Rebuild::new(alloc, elf);
     add_sup(&mut rebuild, sup)?;
-    give(&mut rebuild, elf, ARANGES, aranges)?;
-    give(&mut rebuild, elf, LOCLISTS, loclists)?;
-    give(&mut rebuild, elf, LINE, line)?;
-    give(&mut rebuild, elf, STR_OFFSETS, offsets)?;
-    give(&mut rebuild, elf, STR, strs)?;
-    give(&mut rebuild, elf, ABBREV, Some(abbrev))?;
-    give(&mut rebuild, elf, INFO, Some(info))?;
+    give(&mut rebuild, elf, DEBUG_ARANGES, aranges)?;
+    give(&mut rebuild, elf, DEBUG_LOCLISTS, loclists)?;
+    give(&mut rebuild, elf, DEBUG_LINE, line)?;
+    give(&mut rebuild, elf, DEBUG_STR_OFFSETS, offsets)?;
+    give(&mut rebuild, elf, DEBUG_STR, strs)?;
+    give(&mut rebuild, elf, DEBUG_ABBREV, Some(abbrev))?;
+    give(&mut rebuild, elf, DEBUG_INFO, Some(info))?;
     rebuild.finish(alloc, bytes)
 }
 

@@ -1,4 +1,4 @@
-//! Tests of the crates that know nothing of DWARF but codes and bytes: plain data, bytes, the shared table, nodes, and rounds.
+//! Tests of the crates that know nothing of DWARF but codes and bytes: plain data, bytes, the shared table, nodes, rounds, and chains.
 //!
 //! A module for each crate that it tests. A crate with tests of its own is proved twice, so these stand on the libraries as their users do.
 //! What no clause says is tested here: that calls succeed with ample memory, that two workers are at work at once (`MeetGate`), the
@@ -10,6 +10,8 @@
 mod bucket;
 #[cfg(test)]
 mod bytes;
+#[cfg(test)]
+mod chains;
 #[cfg(test)]
 mod codes;
 #[cfg(test)]

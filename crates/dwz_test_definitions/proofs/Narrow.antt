@@ -15,7 +15,8 @@ use Rattle.dwz_outside.specs.declared.puts.Put.{Put}
 use Rattle.dwz_words.specs.declared.options.Options.{Options}
 use Rattle.dwz_def_output.specs.Contents.{listed, lists_after, operand_number_after}
 use Rattle.dwz_def_output.specs.FilesAfter.{has_common}
-use Rattle.dwz_def_output.specs.Refusals.{CommonRefusal, FirstNarrow, InFile, IsNarrow, OfFirst, OutFault, SectionsFault, narrow_at, operands_of_attr, operands_of_attrs, operands_of_entries}
+use Rattle.dwz_def_output.specs.Refusals.{CommonRefusal, FirstNarrow, InFile, IsNarrow, OutFault, SectionsFault, narrow_at, operands_of_attr, operands_of_attrs, operands_of_entries}
+use Rattle.dwz_def_reading.specs.FirstOf.{OfFirst}
 use Rattle.dwz_def_output.specs.Refusals.{operands_of_units, spoken}
 use Rattle.dwz_def_run.specs.Out.{all_puts}
 use Rattle.dwz_test_definitions.proofs.Files.{far_doc}

@@ -4,7 +4,9 @@ ghost use Rattle.std.specs.Prelude.{◌≡◌};
 
 use crate::expect::same_for;
 use dwz_bytes::Cursor;
-use dwz_forms::{Raw, read_value, size_of_value, write_value};
+use dwz_forms::{
+    FormSet, Raw, read_value, read_value_among, read_value_sup, size_of_value, write_value,
+};
 use dwz_model::{Fault, Pair, Reason};
 use std::alloc::Global;
 use std::process::Abort;
@@ -166,5 +168,77 @@ fn stands_behind_the_value_or_at_the_fault(rt: HostRuntime) {
         let mut cursor = Cursor::new(bytes, 1);
         same_for(&rt, &form, &read_value(&mut cursor, &pair(form)), &expected);
         same_for(&rt, &form, &cursor.at(), &end);
+    }
+}
+
+// A form, and bytes; the value behind the first of them where a supplementary file is at hand.
+const BESIDE: &[(u16, &[u8], Result<Raw, Reason>)] = &[
+    (0x1c, &[9, 0x0c, 0, 0, 0x80], Ok(Raw::Number(2147483660))),
+    (0x1d, &[9, 5, 0, 0, 0], Ok(Raw::Number(5))),
+    (0x13, &[9, 0x1e, 0, 0, 0], Ok(Raw::Number(30))),
+    (0x1c, &[9, 1, 2, 3], Err(Reason::Truncated)),
+    (
+        0x24,
+        &[9, 0, 0, 0, 0, 0, 0, 0, 0],
+        Err(Reason::UnsupportedForm { form: 0x24 }),
+    ),
+];
+
+#[test]
+fn reads_what_leads_to_a_supplementary_file(rt: HostRuntime) {
+    for &(form, bytes, value) in BESIDE {
+        assert!(rt; !bytes.is_empty());
+        let expected = match value {
+            Ok(raw) => Ok(raw),
+            Err(reason) => Err(Fault {
+                section: 1,
+                at: 1,
+                reason,
+            }),
+        };
+        let mut cursor = Cursor::new(bytes, 1);
+        let found = read_value_sup(&mut cursor, &pair(form as u64));
+        same_for(&rt, &form, &found, &expected);
+        if let Ok(raw) = found {
+            same_for(&rt, &form, &size_of_value(form, &raw), &4);
+        }
+    }
+}
+
+// A set of forms, a form, and whether its values are read.
+const SETS: &[(FormSet, u64, bool)] = &[
+    (FormSet::Own, 0x17, true),
+    (FormSet::Own, 0x1c, false),
+    (FormSet::Beside, 0x01, true),
+    (FormSet::Beside, 0x1d, true),
+    (FormSet::OwnFree, 0x13, true),
+    (FormSet::OwnFree, 0x1d, false),
+    (FormSet::OwnFree, 0x17, false),
+    (FormSet::BesideFree, 0x1d, true),
+    (FormSet::BesideFree, 0x01, false),
+    (FormSet::BesideFree, 0x23, false),
+    (FormSet::BesideFree, 0x2c, false),
+    (FormSet::Common, 0x0e, true),
+    (FormSet::Common, 0x10, true),
+    (FormSet::Common, 0x11, false),
+    (FormSet::Common, 0x17, false),
+    (FormSet::Common, 0x1a, false),
+    (FormSet::Common, 0x1c, false),
+    (FormSet::Common, 0x1f, false),
+    (FormSet::CommonRoot, 0x17, true),
+    (FormSet::CommonRoot, 0x01, false),
+];
+
+#[test]
+fn reads_forms_of_a_set(rt: HostRuntime) {
+    for &(forms, form, is_read) in SETS {
+        let mut cursor = Cursor::new(&[0; 16], 0);
+        let found = read_value_among(&mut cursor, &pair(form), forms);
+        let refused = Err(Fault {
+            section: 1,
+            at: 0,
+            reason: Reason::UnsupportedForm { form },
+        });
+        same_for(&rt, &(forms, form), &(found != refused), &is_read);
     }
 }

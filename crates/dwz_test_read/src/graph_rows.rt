@@ -39,6 +39,10 @@ const LINES: &str =
 const CUT_LINES: &str =
     "27000000050008001f000000010101fb0e0d000101010100000001000001010108010001010801612e63";
 
+// A line table whose file has a value of another content type, which names no text.
+const PASSED_LINES: &str =
+    "23000000050008001b000000010101fb0e0101010801640002010881401f01782e6300ffff0000";
+
 // A type unit whose type isn't there, and its table.
 const TYPE_UNIT: &str = "1d000000050002080000000000000000000000001a0000000102696e7400040500";
 
@@ -94,6 +98,28 @@ pub(crate) const ROWS: &[Row] = &[
         )],
         workers: &[1],
         fault: Some((0, 6, 0, Reason::BadLineTable)),
+    },
+    Row {
+        shows: "a line table in which a text that is passed over isn't there",
+        files: &[Content(
+            62,
+            &[
+                "1000000005000108000000000100000000020000",
+                FILE,
+                "",
+                "",
+                "",
+                PASSED_LINES,
+            ],
+        )],
+        workers: &[1],
+        fault: Some((0, 6, 0, Reason::BadLineTable)),
+    },
+    Row {
+        shows: "the same, where nothing numbers a file",
+        files: &[Content(62, &[UNIT, TYPE, "", "", "", PASSED_LINES])],
+        workers: &[1],
+        fault: None,
     },
     Row {
         shows: "a file that the line table doesn't have",

@@ -36,6 +36,8 @@ mod strs;
 #[cfg(test)]
 mod unit;
 #[cfg(test)]
+mod unit_modes;
+#[cfg(test)]
 mod unit_reads;
 #[cfg(test)]
 mod unit_tables;

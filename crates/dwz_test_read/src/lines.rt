@@ -1,7 +1,7 @@
 //! Small line tables. What is expected was given by a model that was written independently.
 
 use crate::expect::{same, same_for};
-use dwz_lines::{FileTable, uses_strp, write_header};
+use dwz_lines::{FileRows, FileTable, uses_strp, write_header};
 use dwz_model::{Blob, Fault, Names, ReadErr, Reason};
 use std::alloc::{AllocError, Global};
 use std::test::Fail;
@@ -63,6 +63,47 @@ fn reads_paths(rt: HostRuntime) -> Result<(), Fail> {
     Ok(())
 }
 
+// The path of a file of some rows behind what is there, if there is such a row.
+fn joined(alloc: Global, rows: &FileRows, number: u64) -> Result<Option<Vec<u8>>, AllocError> {
+    let mut out = b"at ".to_vec(alloc)?;
+    if rows.path_into(number, &mut out)? {
+        Ok(Some(out))
+    } else {
+        Ok(None)
+    }
+}
+
+// The same of a path.
+fn behind_at(alloc: Global, path: Option<&[u8]>) -> Result<Option<Vec<u8>>, AllocError> {
+    let Some(path) = path else {
+        return Ok(None);
+    };
+    let mut out = b"at ".to_vec(alloc)?;
+    out.extend_from_slice(path)?;
+    Ok(Some(out))
+}
+
+#[test]
+fn joins_paths_of_rows(rt: HostRuntime) -> Result<(), Fail> {
+    for row in READ {
+        let rows = FileRows::read(rt.alloc(), row.table, LINE_STRS, STRS, 0)?;
+        for (number, path) in row.paths {
+            let found = joined(rt.alloc(), &rows, *number)?;
+            same_for(&rt, number, &found, &behind_at(rt.alloc(), *path)?);
+            same_for(&rt, number, &rows.has_path(*number), &path.is_some());
+        }
+        same_for(&rt, &"strp", &rows.has_strp(), &row.strp);
+    }
+    Ok(())
+}
+
+// No table is read at the first byte.
+const BAD: ReadErr = ReadErr::Refused(Fault {
+    section: 6,
+    at: 0,
+    reason: Reason::BadLineTable,
+});
+
 // The byte that is changed, and what to: the length, the version, the sizes, the header's length, opcode_base, how many directories there
 // are, a form, an index, an offset.
 const CHANGED: &[(usize, u8)] = &[
@@ -91,18 +132,145 @@ fn fault_of(alloc: Global, line: &[u8], at: u64) -> Option<ReadErr> {
 
 #[test]
 fn refuses_tables(rt: HostRuntime) {
-    let fault = ReadErr::Refused(Fault {
-        section: 6,
-        at: 0,
-        reason: Reason::BadLineTable,
-    });
     for (place, byte) in CHANGED {
         let mut line = TABLE;
         line[place % 65] = *byte;
-        same_for(&rt, place, &fault_of(rt.alloc(), &line, 0), &Some(fault));
+        same_for(&rt, place, &fault_of(rt.alloc(), &line, 0), &Some(BAD));
     }
     for at in ELSEWHERE {
         assert!(rt; fault_of(rt.alloc(), &TABLE, *at).is_some(), "at {at}");
+    }
+}
+
+// A row with a path that stands there, and a value of content type 0x2001, which is passed over: by line_strp, by strp, and by data4.
+const PASSED: &[u8] = b"#\0\0\0\x05\0\x08\0\x1b\0\0\0\x01\x01\x01\xfb\x0e\x01\x01\x01\x08\x01d\0\
+\x02\x01\x08\x81@\x1f\x01x.c\0\x04\0\0\0";
+
+const PASSED_STRP: &[u8] =
+    b"#\0\0\0\x05\0\x08\0\x1b\0\0\0\x01\x01\x01\xfb\x0e\x01\x01\x01\x08\x01d\0\
+\x02\x01\x08\x81@\x0e\x01x.c\0\x04\0\0\0";
+
+const PASSED_NUMBER: &[u8] =
+    b"#\0\0\0\x05\0\x08\0\x1b\0\0\0\x01\x01\x01\xfb\x0e\x01\x01\x01\x08\x01d\0\
+\x02\x01\x08\x81@\x06\x01x.c\0\x04\0\0\0";
+
+// Two rows with such a value by line_strp, and none.
+const PASSED_TWICE: &[u8] = b"+\0\0\0\x05\0\x08\0#\0\0\0\x01\x01\x01\xfb\x0e\x01\x01\x01\x08\x01d\0\
+\x02\x01\x08\x81@\x1f\x02x.c\0\0\0\0\0y.c\0\x04\0\0\0";
+
+const NO_ROW: &[u8] = b"\x1b\0\0\0\x05\0\x08\0\x13\0\0\0\x01\x01\x01\xfb\x0e\x01\x01\x01\x08\x01d\0\
+\x02\x01\x08\x81@\x1f\0";
+
+// A directory whose time is by line_strp, and a file in it.
+const PASSED_OF_DIR: &[u8] =
+    b"\x22\0\0\0\x05\0\x08\0\x1a\0\0\0\x01\x01\x01\xfb\x0e\x01\x02\x03\x1f\x01\x08\x01\x04\0\0\0d\0\
+\x01\x01\x08\x01x.c\0";
+
+// A table, `.debug_line_str`, `.debug_str`, and the path of the first file, if the table is read and has one.
+struct PassedOver {
+    shows: &'static str,
+    table: &'static [u8],
+    line_strs: &'static [u8],
+    strs: &'static [u8],
+    path: Result<Option<&'static [u8]>, ReadErr>,
+}
+
+const PASSED_OVER: &[PassedOver] = &[
+    PassedOver {
+        shows: "no section of texts",
+        table: PASSED,
+        line_strs: b"",
+        strs: b"abc\0d\0",
+        path: Err(BAD),
+    },
+    PassedOver {
+        shows: "the end of the texts",
+        table: PASSED,
+        line_strs: b"abc\0",
+        strs: b"abc\0d\0",
+        path: Err(BAD),
+    },
+    PassedOver {
+        shows: "a text without its end",
+        table: PASSED,
+        line_strs: b"abc\0d",
+        strs: b"abc\0d\0",
+        path: Err(BAD),
+    },
+    PassedOver {
+        shows: "a text",
+        table: PASSED,
+        line_strs: b"abc\0d\0",
+        strs: b"",
+        path: Ok(Some(b"d/x.c")),
+    },
+    PassedOver {
+        shows: "no text in `.debug_str`",
+        table: PASSED_STRP,
+        line_strs: b"abc\0d\0",
+        strs: b"abc\0",
+        path: Err(BAD),
+    },
+    PassedOver {
+        shows: "a text in `.debug_str`",
+        table: PASSED_STRP,
+        line_strs: b"",
+        strs: b"abc\0d\0",
+        path: Ok(Some(b"d/x.c")),
+    },
+    PassedOver {
+        shows: "a number",
+        table: PASSED_NUMBER,
+        line_strs: b"",
+        strs: b"",
+        path: Ok(Some(b"d/x.c")),
+    },
+    PassedOver {
+        shows: "no text in the second row",
+        table: PASSED_TWICE,
+        line_strs: b"abc\0",
+        strs: b"",
+        path: Err(BAD),
+    },
+    PassedOver {
+        shows: "a text in both rows",
+        table: PASSED_TWICE,
+        line_strs: b"abc\0d\0",
+        strs: b"",
+        path: Ok(Some(b"d/x.c")),
+    },
+    PassedOver {
+        shows: "no row",
+        table: NO_ROW,
+        line_strs: b"",
+        strs: b"",
+        path: Ok(None),
+    },
+    PassedOver {
+        shows: "no text of a directory",
+        table: PASSED_OF_DIR,
+        line_strs: b"abc\0",
+        strs: b"",
+        path: Err(BAD),
+    },
+    PassedOver {
+        shows: "a text of a directory",
+        table: PASSED_OF_DIR,
+        line_strs: b"abc\0d\0",
+        strs: b"",
+        path: Ok(Some(b"d/x.c")),
+    },
+];
+
+#[test]
+fn texts_that_are_passed_over_stand(rt: HostRuntime) {
+    for row in PASSED_OVER {
+        let read = FileTable::read(rt.alloc(), row.table, row.line_strs, row.strs, 0);
+        let found = match &read {
+            Ok(table) => Ok(table.path(0)),
+            Err(error) => Err(*error),
+        };
+        same_for(&rt, &row.shows, &found, &row.path);
     }
 }
 

@@ -62,6 +62,15 @@ const STRP_LINES: &[u8] =
     b"\x27\0\0\0\x05\0\x08\0\x1f\0\0\0\x01\x01\x01\xfb\x0e\x0d\0\x01\x01\x01\x01\0\0\0\x01\
 \0\0\x01\x01\x01\x08\x01\0\x01\x01\x0e\x01\0\0\0\0";
 
+// One whose file has a value of another content type, by line_strp or by data4. No text stands there.
+const PASSED_LINES: &[u8] =
+    b"#\0\0\0\x05\0\x08\0\x1b\0\0\0\x01\x01\x01\xfb\x0e\x01\x01\x01\x08\x01d\0\
+\x02\x01\x08\x81@\x1f\x01x.c\0\xff\xff\0\0";
+
+const NUMBER_LINES: &[u8] =
+    b"#\0\0\0\x05\0\x08\0\x1b\0\0\0\x01\x01\x01\xfb\x0e\x01\x01\x01\x08\x01d\0\
+\x02\x01\x08\x81@\x06\x01x.c\0\xff\xff\0\0";
+
 // The type of a section that has no content in the file.
 const NO_BITS: u32 = 8;
 
@@ -75,6 +84,12 @@ const FILES: &[([&[u8]; 5], u32, Option<bool>)] = &[
     ([UNIT, TYPES, TEXTS, b"", LINES], NO_BITS, Some(true)),
     ([UNIT, TYPES, TEXTS, b"", STRP_LINES], NO_BITS, Some(false)),
     ([UNIT, TYPES, TEXTS, b"", b"\0"], NO_BITS, Some(false)),
+    (
+        [UNIT, TYPES, TEXTS, b"", PASSED_LINES],
+        NO_BITS,
+        Some(false),
+    ),
+    ([UNIT, TYPES, TEXTS, b"", NUMBER_LINES], NO_BITS, Some(true)),
 ];
 
 #[test]

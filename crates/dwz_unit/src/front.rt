@@ -2,11 +2,11 @@
 
 ghost use Rattle.std.specs.Prelude.{◌≡◌, ◌+◌, ◌<◌, ◌^◌, All, length, slice_get, IfOk, IsOk, Ok, Some};
 ghost use Rattle.dwz_bytes.specs.Reading.{uleb_at};
-ghost use Rattle.dwz_def_reading.specs.Forms.{form_rows};
 ghost use Rattle.dwz_def_reading.specs.Abbrevs.{IsPlainPair};
 ghost use Rattle.dwz_def_reading.specs.Entries.{attrs_at, code_or_fault};
 ghost use Rattle.dwz_def_reading.specs.Parts.{Leaves};
-ghost use Rattle.dwz_def_reading.specs.Values.{HasSpelling, value_at};
+ghost use Rattle.dwz_def_reading.specs.Values.{HasSpelling, value_at, written_rows};
+ghost use Rattle.dwz_forms.specs.FormSets.{rows_of};
 ghost use Rattle.dwz_forms.specs.RawValues.{raw_view};
 ghost use Rattle.dwz_unit.specs.Contexts.{context_view};
 ghost use Rattle.dwz_unit.specs.Fronts.{attrs_passed, front_passed, value_passed};
@@ -16,7 +16,7 @@ use crate::context::Context;
 use crate::faults::{code_fault, fault_in_entry, info_fault};
 use crate::rows::RawAttr;
 use dwz_bytes::Cursor;
-use dwz_forms::{Raw, read_value};
+use dwz_forms::{FormSet, Raw, read_value_among, read_value_sup};
 use dwz_model::{Fault, Pair, Reason};
 
 // No entry may be deeper, where a root has depth 1.
@@ -34,24 +34,29 @@ pub(crate) struct Front {
     pub attrs: u32,
 }
 
-// Passes over a value of an entry.
+// Passes over a value of an entry, whose form is one of the set.
 #[inline(always)]
-fn pass_value(entry: usize, pair: &Pair, cursor: &mut Cursor) -> Result<(), Fault>
-    ensures { Leaves (λ x. x) cursor.new result (value_passed entry pair.now cursor.old) }
+fn pass_value(forms: FormSet, entry: usize, pair: &Pair, cursor: &mut Cursor) -> Result<(), Fault>
+    ensures { Leaves (λ x. x) cursor.new result (value_passed (rows_of forms) entry pair.now cursor.old) }
 {
-    match read_value(cursor, pair) {
+    match read_value_among(cursor, pair, forms) {
         Ok(_) => Ok(()),
         Err(fault) => Err(fault_in_entry(entry, fault)),
     }
 }
 
-// Passes over the values of an entry.
+// Passes over the values of an entry, whose forms are of the set.
 #[inline(always)]
-fn pass_values(entry: usize, pairs: &[Pair], cursor: &mut Cursor) -> Result<(), Fault>
-    ensures { Leaves (λ x. x) cursor.new result (attrs_passed entry pairs.now cursor.old) }
+fn pass_values(
+    forms: FormSet,
+    entry: usize,
+    pairs: &[Pair],
+    cursor: &mut Cursor,
+) -> Result<(), Fault>
+    ensures { Leaves (λ x. x) cursor.new result (attrs_passed (rows_of forms) entry pairs.now cursor.old) }
 {
     for pair in pairs {
-        pass_value(entry, pair, cursor)?;
+        pass_value(forms, entry, pair, cursor)?;
     }
     Ok(())
 }
@@ -96,11 +101,12 @@ pub(crate) fn pass_front(
     if depth > DEEPEST {
         return Err(info_fault(at, Reason::TooDeep));
     }
-    if before >= context.room as usize {
+    if before >= context.mode.room as usize {
         return Err(info_fault(at, Reason::TooMany));
     }
     let pairs = decl.pairs.as_slice();
-    pass_values(at, pairs, cursor)?;
+    let forms = context.mode.forms(context.root_tag, depth);
+    pass_values(forms, at, pairs, cursor)?;
     Ok(Some(Front {
         at,
         tag: decl.tag,
@@ -109,14 +115,14 @@ pub(crate) fn pass_front(
     }))
 }
 
-/// A value that was read before.
+/// A value that was read before. Of whatever file it is, its form is one of those that are written.
 #[inline(always)]
 pub fn known_value<'a>(cursor: &mut Cursor<'a>, pair: &Pair) -> Raw<'a>
-    requires { IsOk (value_at form_rows pair.now cursor.old) }
-    ensures value { value_at form_rows pair.now cursor.old ≡ Ok (raw_view result, cursor.new) }
+    requires { IsOk (value_at written_rows pair.now cursor.old) }
+    ensures value { value_at written_rows pair.now cursor.old ≡ Ok (raw_view result, cursor.new) }
     ensures writable { HasSpelling pair.now.form (raw_view result) }
 {
-    match read_value(cursor, pair) {
+    match read_value_sup(cursor, pair) {
         Ok(raw) => raw,
         Err(_) => unreachable!(),
     }
@@ -131,14 +137,14 @@ pub(crate) fn value_of<'a>(
     cursor: &mut Cursor<'a>,
 ) -> RawAttr<'a>
     requires number { number < length pairs.now }
-    requires read { IsOk (attrs_at form_rows entry pairs.now cursor.old) }
+    requires read { IsOk (attrs_at written_rows entry pairs.now cursor.old) }
     requires short { cursor.old.at + length cursor.old.rest < 2 ^ 32 }
     requires plain { All IsPlainPair pairs.now }
-    ensures attr { IfOk (attrs_at form_rows entry pairs.now cursor.old) (λ x. slice_get x.0 number ≡ Some (attr_view result)) }
+    ensures attr { IfOk (attrs_at written_rows entry pairs.now cursor.old) (λ x. slice_get x.0 number ≡ Some (attr_view result)) }
     ensures pair { IsPlainPair result.pair }
     ensures writable { HasSpelling result.pair.form (raw_view result.raw) }
 {
-    let Ok(()) = pass_values(entry, &pairs[..number], cursor) else {
+    let Ok(()) = pass_values(FormSet::Beside, entry, &pairs[..number], cursor) else {
         unreachable!()
     };
     let at = cursor.at() as u32;

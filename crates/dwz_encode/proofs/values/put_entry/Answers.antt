@@ -5,5 +5,5 @@ use Rattle.dwz_encode.proofs.values.put_entry.Goals as goal
 pub returns : goal.returns
 returns c =
     put_changed c.put_four.result c.args.out.now.items c.put_four.new.out.items _ _
-    (entry_bytes (numbers_view c.args.numbers) c.args.known.now c.args.here c.args.target c.owner.result c.form_to-form.result c.at_or_zero.result c.number_by_form.result c.owner.ensures
-    c.form_to-form.ensures.form c.at_or_zero.ensures c.number_by_form.ensures) c.put_four.ensures
+    (entry_bytes (numbers_view c.args.numbers) c.args.known.now c.args.here c.args.target c.owner.result c.form_to-form.result c.at_or.result c.number_by_form.result c.owner.ensures
+    c.form_to-form.ensures.form c.at_or.ensures c.number_by_form.ensures) c.put_four.ensures

@@ -21,18 +21,18 @@ known_value-raw-requires c =
     name_readable c.args.known.now (holder_view c.args.holder) c.args.space c.in-Some.field-0.pairs.now c.loop-pair.pair-index no_pair c.loop-pair.cursor c.loop-pair.invariant.left
     c.loop-pair-test.true
 
-pub returns-then-pair-eq-NAME : goal.returns-then-pair-eq-NAME
-returns-then-pair-eq-NAME c = λ n.
+pub returns-then-pair-eq-DW_AT_NAME : goal.returns-then-pair-eq-DW_AT_NAME
+returns-then-pair-eq-DW_AT_NAME c = λ n.
     put_there c.put_as_name.result n c.args.out.now.items c.loop-pair.out.items c.put_as_name.new.out.items _ _ c.loop-pair.invariant.same
     (sym (name_found c.args.known.now (holder_view c.args.holder) c.args.space c.in-Some.field-0.pairs.now c.loop-pair.pair-index no_pair c.loop-pair.cursor c.loop-pair.invariant.left
     c.loop-pair-test.true c.known_value-raw.new.cursor
-    (raw_view c.known_value-raw.result) c.known_value-raw.ensures.value _ c.text_in.ensures c.if-pair-eq-NAME.true)) (c.put_as_name.ensures n c.known_value-raw.new.cursor.at)
+    (raw_view c.known_value-raw.result) c.known_value-raw.ensures.value _ c.text_in.ensures c.if-pair-eq-DW_AT_NAME.true)) (c.put_as_name.ensures n c.known_value-raw.new.cursor.at)
 
 pub loop-pair-preserved : goal.loop-pair-preserved
 loop-pair-preserved c = record {
   left = name_next c.args.known.now (holder_view c.args.holder) c.args.space c.in-Some.field-0.pairs.now c.loop-pair.pair-index no_pair c.loop-pair.cursor c.loop-pair.invariant.left
       c.loop-pair-test.true c.known_value-raw.new.cursor
-      (raw_view c.known_value-raw.result) c.known_value-raw.ensures.value c.if-pair-eq-NAME.false;
+      (raw_view c.known_value-raw.result) c.known_value-raw.ensures.value c.if-pair-eq-DW_AT_NAME.false;
   same = c.loop-pair.invariant.same;
 }
 

@@ -41,7 +41,7 @@ loop-pair-preserved c =
       numbers = λ row found. (
           let is = (next_read row.entry.at pairs j no_pair c.loop-pair.cursor c.known_value-raw.new.cursor value row.entry.attrs
           c.loop-pair-test.true (c.loop-pair.invariant.reads row found) c.known_value-raw.ensures.value).is in
-          items_more (number_read c.args.paths.now c.as_slice-tables.result.now c.line_of-line.result) row.entry.attrs j a
+          items_more (number_read c.args.paths.now c.as_slice-tables.result.now c.at_or-line.result) row.entry.attrs j a
           c.args.numbers.now.items c.loop-pair.numbers.items c.put_number.new.numbers.items is
           (c.loop-pair.invariant.numbers row found) c.in_ok-put_number.ensures);
     }
@@ -53,9 +53,9 @@ returns c = λ row found. (
     let count = reads_count row.entry.at pairs c.values-cursor.result.cursor row.entry.attrs (c.values-cursor.ensures.read row found) in
     let unit : c.entry-unit.result.unit ≡ row.unit =
     sym (shown_unit (units_of x.units) c.args.entry c.entry-unit.result row c.entry-unit.ensures.entry found) in
-    let line : c.line_of-line.result ≡ places.line_of x row.unit =
-    c.line_of-line.ensures ∙ (λ i. slice_index_or (c.as_slice.ensures.value i) (unit i) None) in
-    items_all (number_read c.args.paths.now c.as_slice-tables.result.now c.line_of-line.result) row.entry.attrs c.loop-pair.pair-index
+    let line : c.at_or-line.result ≡ places.line_of x row.unit =
+    c.at_or-line.ensures ∙ (λ i. slice_index_or (c.as_slice.ensures.value i) (unit i) None) in
+    items_all (number_read c.args.paths.now c.as_slice-tables.result.now c.at_or-line.result) row.entry.attrs c.loop-pair.pair-index
     c.args.numbers.now.items c.loop-pair.numbers.items
     (omega (arith, count, c.loop-pair-test.false)) (c.loop-pair.invariant.numbers row found)
     ∙ (λ i. c.args.numbers.now.items

@@ -48,7 +48,7 @@ loop-pair-preserved c =
           let is = (next_read row.entry.at pairs j no_pair c.loop-pair.cursor c.known_value-raw.new.cursor value row.entry.attrs
           c.loop-pair-test.true
           (c.loop-pair.invariant.reads row found) c.known_value-raw.ensures.value).is in
-          values_more (path_read c.as_slice-tables.result.now c.line_of-line.result) row.entry.attrs j a c.args.pool.now c.loop-pair.pool
+          values_more (path_read c.as_slice-tables.result.now c.at_or-line.result) row.entry.attrs j a c.args.pool.now c.loop-pair.pool
           c.put_value.new.pool is
           (c.loop-pair.invariant.paths row found) c.in_ok-put_value.ensures);
     }
@@ -60,9 +60,9 @@ returns c = λ row found. (
     let count = reads_count row.entry.at pairs c.values-cursor.result.cursor row.entry.attrs (c.values-cursor.ensures.read row found) in
     let unit : c.entry-unit.result.unit
     ≡ row.unit = sym (shown_unit (units_of x.units) c.args.entry c.entry-unit.result row c.entry-unit.ensures.entry found) in
-    let line : c.line_of-line.result ≡ line_of x row.unit =
-    c.line_of-line.ensures ∙ (λ i. slice_index_or (c.as_slice.ensures.value i) (unit i) None) in
-    values_all (path_read c.as_slice-tables.result.now c.line_of-line.result) row.entry.attrs c.loop-pair.pair-index c.args.pool.now
+    let line : c.at_or-line.result ≡ line_of x row.unit =
+    c.at_or-line.ensures ∙ (λ i. slice_index_or (c.as_slice.ensures.value i) (unit i) None) in
+    values_all (path_read c.as_slice-tables.result.now c.at_or-line.result) row.entry.attrs c.loop-pair.pair-index c.args.pool.now
     c.loop-pair.pool
     (omega (arith, count, c.loop-pair-test.false)) (c.loop-pair.invariant.paths row found)
     ∙ (λ i. with_all c.args.pool.now (flat_map (path_read (c.as_slice-tables.ensures.value i) (line i)) row.entry.attrs)))

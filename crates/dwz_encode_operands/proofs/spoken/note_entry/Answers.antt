@@ -11,7 +11,7 @@ use Rattle.dwz_graph.proofs.ValueSteps.{next_read, no_pair}
 use Rattle.dwz_unit.specs.Rows.{units_of}
 use Rattle.dwz_unit.proofs.ReadsLemmas.{reads_count, reads_next}
 use Rattle.dwz_encode_operands.proofs.spoken.note_entry.Goals as goal
-use Rattle.dwz_encode_operands.proofs.spoken.note_entry.Goals.{then-pair-ne-SIBLING+in_ok-left, else-pair-ne-SIBLING}
+use Rattle.dwz_encode_operands.proofs.spoken.note_entry.Goals.{then-pair-ne-DW_AT_SIBLING+in_ok-left, else-pair-ne-DW_AT_SIBLING}
 
 pub loop-pair-init : goal.loop-pair-init
 loop-pair-init c = record {
@@ -41,19 +41,19 @@ loop-pair-preserved c =
           let old = c.args.first.now in
           let values = row.entry.attrs in
           let h = c.loop-pair.invariant.left s row d after more plain found means is are in
-          elim c.if-pair-ne-SIBLING.branch [
-            | then-pair-ne-SIBLING+in_ok-left w ↦
-                subst (λ (r : List ℕ). ValuesLeft s after more old values (j + 1) c.if-pair-ne-SIBLING.first r) (sym (λ i. (w.left-is i).now))
+          elim c.if-pair-ne-DW_AT_SIBLING.branch [
+            | then-pair-ne-DW_AT_SIBLING+in_ok-left w ↦
+                subst (λ (r : List ℕ). ValuesLeft s after more old values (j + 1) c.if-pair-ne-DW_AT_SIBLING.first r) (sym (λ i. (w.left-is i).now))
                 (subst (λ (f : Option ℕ). ValuesLeft s after more old values (j + 1) f w.in_ok-left.left.now) (sym w.first-is)
-                (values_more s after more old values j a c.loop-pair.first c.loop-pair.left.now got h w.if-pair-ne-SIBLING.true w.note_value.new.first w.in_ok-left.left.now
+                (values_more s after more old values j a c.loop-pair.first c.loop-pair.left.now got h w.if-pair-ne-DW_AT_SIBLING.true w.note_value.new.first w.in_ok-left.left.now
                 (λ v others e t.
                 subst (λ (k : ℕ). NotesOperands after s.unit (operands_of_attr s (record { at = a.at; end = k; pair = a.pair; raw = a.raw })) c.loop-pair.first w.note_value.new.first others
                 w.in_ok-left.left.now) c.at-end.ensures
                 (w.in_ok-left.ensures s a.at v after others plain (subst (λ (k : ℕ). meaning s (record { at = a.at; end = k; pair = a.pair; raw = a.raw }) ≡ Ok v) (sym c.at-end.ensures) e) is t))))
-            | else-pair-ne-SIBLING w ↦
-                subst (λ (r : List ℕ). ValuesLeft s after more old values (j + 1) c.if-pair-ne-SIBLING.first r) (sym (λ i. (w.left-is i).now))
+            | else-pair-ne-DW_AT_SIBLING w ↦
+                subst (λ (r : List ℕ). ValuesLeft s after more old values (j + 1) c.if-pair-ne-DW_AT_SIBLING.first r) (sym (λ i. (w.left-is i).now))
                 (subst (λ (f : Option ℕ). ValuesLeft s after more old values (j + 1) f c.loop-pair.left.now) (sym w.first-is)
-                (values_sibling s after more old values j a c.loop-pair.first c.loop-pair.left.now got h w.if-pair-ne-SIBLING.false))
+                (values_sibling s after more old values j a c.loop-pair.first c.loop-pair.left.now got h w.if-pair-ne-DW_AT_SIBLING.false))
           ]);
     }
 

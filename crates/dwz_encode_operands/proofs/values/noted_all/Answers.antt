@@ -20,7 +20,7 @@ loop-k-preserved c = λ after at more is are. (
     let k = c.loop-k.k in
     let lt = c.loop-k-test.true in
     let o : Operand = get_or os k no_operand in
-    let target = c.target_at.ensures ∙ ap (λ (w : List ℕ). get_or w k 0) are ∙ beside (λ (p : Operand). after (led_to at p)) os more k no_operand lt in
+    let target = c.at_or.ensures ∙ ap (λ (w : List ℕ). get_or w k 0) are ∙ beside (λ (p : Operand). after (led_to at p)) os more k no_operand lt in
     let number = c.number_of-number.ensures ∙ (λ i. target i - base_place (is i) o.base) in
     let split = units_all at (drop k os) ∙ left_at (of_unit at) os k no_operand lt ∙ ap (λ (w : List ListOperand). of_unit at o ∷ w) (sym (units_all at (drop (k + 1) os))) in
     noted_more (number_by after) (of_unit at o) (all_of_unit at os) (all_of_unit at (drop k os)) (all_of_unit at (drop (k + 1) os)) c.args.first c.loop-k.so_far c.note-so_far.result split

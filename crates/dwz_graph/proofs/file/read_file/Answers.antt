@@ -100,7 +100,11 @@ returns c =
       info = ap (λ (x : Source). x.info) c.in_ok-units.ensures.source ∙ info;
       sections = same;
       aranges = ranges;
+      given = ap (λ (x : Source). x.kind) c.in_ok-units.ensures.source;
     }
+
+pub resolve-requires : goal.resolve-requires
+resolve-requires c = ap (λ (x : Source). x.kind) c.in_ok-units.ensures.source
 
 pub read-requires-2-clause-info : goal.read-requires-2-clause-info
 read-requires-2-clause-info c = content_short (limits_view c.args.left.now) c.args.bytes.now c.content-info.result.now _ c.content-info.ensures (sym c.is_too_long.ensures ∙ c.if-is_too_long.false)

@@ -19,5 +19,5 @@ offset_small form raw is h =
 
 pub overflow_cast-result : goal.overflow_cast-result
 overflow_cast-result c =
-    let small = offset_small c.args.attr.now.pair.form (raw_view c.args.attr.now.raw) c.if-attr-eq-SEC_OFFSET.true c.requires in
+    let small = offset_small c.args.attr.now.pair.form (raw_view c.args.attr.now.raw) c.if-attr-eq-DW_FORM_SEC_OFFSET.true c.requires in
     omega (arith, small, c.offset_of.ensures.value)

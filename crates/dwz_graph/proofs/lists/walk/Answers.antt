@@ -6,6 +6,7 @@ use Rattle.dwz_graph.specs.declared.operands.ListOperand.{ListOperand}
 use Rattle.dwz_graph.specs.declared.state.State.{State}
 use Rattle.dwz_graph.specs.Resolved.{scope_in}
 use Rattle.dwz_graph.proofs.ListStates.{state_more}
+use Rattle.dwz_graph.proofs.MapKeys.{found_eq}
 use Rattle.dwz_graph.proofs.ListSteps.{list_added, list_unnamed, list_was_read, walks_row}
 use Rattle.dwz_graph.proofs.OperandSteps.{has_memory}
 use Rattle.dwz_graph.proofs.lists.walk.Goals as goal
@@ -40,4 +41,4 @@ returns-clause-goes c = λ u before here k. (
     state_more raw s n before c.args.place read.list c.args.state.now new read.read refl refl refl
     (list_added raw c.args.state.now.file s c.args.place c.deref.result.now c.in_ok-end.end w c.args.state.now.lists new.lists read c.requires.place short kept refl refl
     (ap (λ (x : List ListOperand). length x) c.as_slice-first.ensures.value) (ap (λ (x : List ListOperand). length x) c.as_slice-last.ensures.value) c.in_ok-push.ensures.items refl)
-    c.in_ok-insert.ensures.updates.0 k)
+    (λ q. rw (← found_eq c.args.place q) (c.in_ok-insert.ensures.updates.0 q)) k)

@@ -2,15 +2,14 @@ use Rattle.std.proofs.Common.{◌+◌, ℕ, [], Result, sym, ap, subst, ◌∙�
 use Rattle.std.specs.Prelude.{slice_range}
 use Rattle.dwz_model.specs.declared.fault.Fault.{Fault}
 use Rattle.dwz_model.specs.declared.fault.Reason.TheVariants.{BadString}
+use Rattle.dwz_def_reading.specs.Classes.{Class}
 use Rattle.dwz_def_reading.specs.Entries.{RawAttr}
 use Rattle.dwz_def_reading.specs.Faults.{info_fault}
 use Rattle.dwz_def_reading.specs.Meanings.{MeaningContext, all_places}
 use Rattle.dwz_def_reading.specs.Meant.{as_class, entry_among}
 use Rattle.dwz_def_reading.specs.NamedLists.{lists_as}
-use Rattle.dwz_graph.specs.declared.class.Class.{Class}
 use Rattle.dwz_graph.specs.declared.state.State.{State}
 use Rattle.dwz_graph.proofs.StateLemmas.{with_found}
-use Rattle.dwz_graph.specs.Classes.{class_view}
 use Rattle.dwz_graph.specs.Named.{Found, found_in, map_ok}
 use Rattle.dwz_graph.specs.Resolved.{Goes, StateIn, places, scope_in, stored}
 use Rattle.dwz_unit.specs.Rows.{units_of}
@@ -23,7 +22,7 @@ use Rattle.dwz_graph.proofs.named.add_as.Goals as goal
 
 -- what a value of a class names
 abbrev named_as : MeaningContext ℕ → RawAttr → Class → Result Found Fault
-named_as s a k = map_ok (found_in (lists_as (class_view k) s a)) (as_class (class_view k) s a)
+named_as s a k = map_ok (found_in (lists_as k s a)) (as_class k s a)
 
 pub returns-in-Address-clause-goes : goal.returns-in-Address-clause-goes
 returns-in-Address-clause-goes c = λ u before here k. (

@@ -11,14 +11,14 @@ use Rattle.dwz_graph.proofs.NamedSteps.{added_none}
 use Rattle.dwz_unit.specs.Rows.{units_of}
 use Rattle.dwz_graph.proofs.named.add_attr.Goals as goal
 
-pub returns-then-pair-eq-SIBLING-clause-goes : goal.returns-then-pair-eq-SIBLING-clause-goes
-returns-then-pair-eq-SIBLING-clause-goes c = λ u before here k. (
+pub returns-then-pair-eq-DW_AT_SIBLING-clause-goes : goal.returns-then-pair-eq-DW_AT_SIBLING-clause-goes
+returns-then-pair-eq-DW_AT_SIBLING-clause-goes c = λ u before here k. (
     let raw = units_of c.args.units.now in
     let s = scope_in c.args.sections.now raw u in
     let a = stored c.args.at c.args.end c.args.pair.now c.args.raw.now in
     let K = StateIn c.args.sections.now raw u c.args.here.now in
     subst (λ (r : Result Found Fault). Goes {Y = Unit {0}} raw K before c.args.state.now c.args.state.now (Ok tt) r)
-    (sym (cond-true (a.pair.name == 0x01) (Ok nothing_found) (map_ok (found_in (list_of_attr s a)) (meaning s a)) (eq-eqb a.pair.name 0x01 c.if-pair-eq-SIBLING.true)))
+    (sym (cond-true (a.pair.name == 0x01) (Ok nothing_found) (map_ok (found_in (list_of_attr s a)) (meaning s a)) (eq-eqb a.pair.name 0x01 c.if-pair-eq-DW_AT_SIBLING.true)))
     (added_none raw K before c.args.state.now c.args.state.now refl k))
 
 pub returns-clause-goes : goal.returns-clause-goes
@@ -31,5 +31,5 @@ returns-clause-goes c = λ u before here k. (
     let added = c.add_as.ensures.goes u before here k in
     subst (λ (r : Result Found Fault). Goes raw K before c.args.state.now c.add_as.new.state c.add_as.result r)
     (ap (λ (k : Class). map_ok (found_in (lists_as k s a)) (as_class k s a)) c.class_of.ensures
-    ∙ sym (cond-false (a.pair.name == 0x01) (Ok nothing_found) (map_ok (found_in (list_of_attr s a)) (meaning s a)) (ne_eqb a.pair.name 0x01 c.if-pair-eq-SIBLING.false)))
+    ∙ sym (cond-false (a.pair.name == 0x01) (Ok nothing_found) (map_ok (found_in (list_of_attr s a)) (meaning s a)) (ne_eqb a.pair.name 0x01 c.if-pair-eq-DW_AT_SIBLING.false)))
     added)

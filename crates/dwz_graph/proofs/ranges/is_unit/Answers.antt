@@ -31,11 +31,11 @@ returns-then-at-place c =
     let many = starts_many raw in
     let to = c.loop-low.invariant.to in
     let at = unit_start raw _ c.unit-at.result c.unit-at.ensures in
-    sym (ap (has c.args.place) (all_whole c.args.units.now) ∙ has_there (starts raw) _ c.args.place (omega arith) (at ∙ c.if-at-place.true))
+    sym (ap (has c.args.place) (all_whole c.args.units.now c.requires) ∙ has_there (starts raw) _ c.args.place (omega arith) (at ∙ c.if-at-place.true))
 
 pub returns : goal.returns
 returns c =
     let raw = units_of c.args.units.now in
     let many = starts_many raw in
-    sym (ap (has c.args.place) (all_whole c.args.units.now) ∙ has_none (starts raw) c.args.place
+    sym (ap (has c.args.place) (all_whole c.args.units.now c.requires) ∙ has_none (starts raw) c.args.place
     (λ k l e. search_ends (starts raw) 0 (length raw) c.args.place c.loop-low.low c.loop-low.high c.loop-low-test.false c.loop-low.invariant k (omega arith) (omega arith) e))

@@ -5,12 +5,12 @@ use Rattle.dwz_graph.proofs.RowLemmas.{row_is}
 use Rattle.dwz_graph.proofs.SpaceLemmas.{by_name, no_space}
 use Rattle.dwz_graph.proofs.spaces.is_space.Goals as goal
 
-pub returns-then-entry-ne-NAMESPACE : goal.returns-then-entry-ne-NAMESPACE
-returns-then-entry-ne-NAMESPACE c = λ row found. (
+pub returns-then-entry-ne-DW_TAG_NAMESPACE : goal.returns-then-entry-ne-DW_TAG_NAMESPACE
+returns-then-entry-ne-DW_TAG_NAMESPACE c = λ row found. (
     let is = row_is (units_of c.args.units.now) c.args.entry c.entry.result row c.entry.ensures.entry found in
-    no_space row.entry c.entry.result.tag (ap (λ (e : EntryOfCode). e.tag) is) c.if-entry-ne-NAMESPACE.true)
+    no_space row.entry c.entry.result.tag (ap (λ (e : EntryOfCode). e.tag) is) c.if-entry-ne-DW_TAG_NAMESPACE.true)
 
 pub returns : goal.returns
 returns c = λ row found. (
     let is = row_is (units_of c.args.units.now) c.args.entry c.entry.result row c.entry.ensures.entry found in
-    c.has_text_name.ensures row found ∙ by_name row.entry c.entry.result.tag (ap (λ (e : EntryOfCode). e.tag) is) c.if-entry-ne-NAMESPACE.false)
+    c.has_text_name.ensures row found ∙ by_name row.entry c.entry.result.tag (ap (λ (e : EntryOfCode). e.tag) is) c.if-entry-ne-DW_TAG_NAMESPACE.false)

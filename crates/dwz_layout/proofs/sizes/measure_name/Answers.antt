@@ -40,25 +40,25 @@ measure_as_name-requires-clause-empty c = c.loop-pair.invariant.none
 pub measure_as_name-requires-clause-plain : goal.measure_as_name-requires-clause-plain
 measure_as_name-requires-clause-plain c = c.in-Some.ensures.plain c.loop-pair.pair-index no_pair c.loop-pair-test.true
 
-pub returns-then-pair-eq-NAME-clause-pairs : goal.returns-then-pair-eq-NAME-clause-pairs
-returns-then-pair-eq-NAME-clause-pairs c =
+pub returns-then-pair-eq-DW_AT_NAME-clause-pairs : goal.returns-then-pair-eq-DW_AT_NAME-clause-pairs
+returns-then-pair-eq-DW_AT_NAME-clause-pairs c =
     space_ok c.measure_as_name.result c.measure_as_name.new.room.pairs.items _ _
     (name_found c.args.known.now (holder_view c.args.holder) c.args.space c.in-Some.field-0.pairs.now c.loop-pair.pair-index no_pair c.loop-pair.cursor c.loop-pair.invariant.left c.loop-pair-test.true
     c.known_value-raw.new.cursor
-    (raw_view c.known_value-raw.result) c.known_value-raw.ensures.value _ c.text_in.ensures c.if-pair-eq-NAME.true) (c.measure_as_name.ensures.pairs c.known_value-raw.new.cursor.at)
+    (raw_view c.known_value-raw.result) c.known_value-raw.ensures.value _ c.text_in.ensures c.if-pair-eq-DW_AT_NAME.true) (c.measure_as_name.ensures.pairs c.known_value-raw.new.cursor.at)
 
-pub returns-then-pair-eq-NAME-clause-size : goal.returns-then-pair-eq-NAME-clause-size
-returns-then-pair-eq-NAME-clause-size c =
+pub returns-then-pair-eq-DW_AT_NAME-clause-size : goal.returns-then-pair-eq-DW_AT_NAME-clause-size
+returns-then-pair-eq-DW_AT_NAME-clause-size c =
     space_named c.measure_as_name.result _ _
     (name_found c.args.known.now (holder_view c.args.holder) c.args.space c.in-Some.field-0.pairs.now c.loop-pair.pair-index no_pair c.loop-pair.cursor c.loop-pair.invariant.left c.loop-pair-test.true
     c.known_value-raw.new.cursor
-    (raw_view c.known_value-raw.result) c.known_value-raw.ensures.value _ c.text_in.ensures c.if-pair-eq-NAME.true) (c.measure_as_name.ensures.size c.known_value-raw.new.cursor.at)
+    (raw_view c.known_value-raw.result) c.known_value-raw.ensures.value _ c.text_in.ensures c.if-pair-eq-DW_AT_NAME.true) (c.measure_as_name.ensures.size c.known_value-raw.new.cursor.at)
 
 pub loop-pair-preserved : goal.loop-pair-preserved
 loop-pair-preserved c = record {
   left = name_next c.args.known.now (holder_view c.args.holder) c.args.space c.in-Some.field-0.pairs.now c.loop-pair.pair-index no_pair c.loop-pair.cursor c.loop-pair.invariant.left
       c.loop-pair-test.true c.known_value-raw.new.cursor
-      (raw_view c.known_value-raw.result) c.known_value-raw.ensures.value c.if-pair-eq-NAME.false;
+      (raw_view c.known_value-raw.result) c.known_value-raw.ensures.value c.if-pair-eq-DW_AT_NAME.false;
   none = c.loop-pair.invariant.none;
 }
 

@@ -14,22 +14,22 @@ use Rattle.dwz_layout_order.specs.Outline.{outers_in}
 use Rattle.dwz_layout_order.proofs.UnitKinds.{end_within, is_compile, next_stays, not_compile, on_named, on_shown, on_true, whole_kept}
 use Rattle.dwz_layout_order.proofs.kept.put_unit.Goals as goal
 
-pub returns-then-unit-ne-COMPILE_UNIT-clause-items : goal.returns-then-unit-ne-COMPILE_UNIT-clause-items
-returns-then-unit-ne-COMPILE_UNIT-clause-items c = λ u found. (
+pub returns-then-unit-ne-DW_UT_COMPILE-clause-items : goal.returns-then-unit-ne-DW_UT_COMPILE-clause-items
+returns-then-unit-ne-DW_UT_COMPILE-clause-items c = λ u found. (
     let raw = units_of c.args.units.now in
     let x = c.args.unit.now in
     let old = c.args.items.now.items in
     let new = c.put_whole.new.order.items in
-    let other = not_compile raw c.args.n x u c.requires.shown found c.if-unit-ne-COMPILE_UNIT.true in
+    let other = not_compile raw c.args.n x u c.requires.shown found c.if-unit-ne-DW_UT_COMPILE.true in
     on_ok c.put_whole.result (IsWhole old new) (IsKept c.args.marks.now u.kind u.below c.args.next.now c.args.imports.now old new)
     (whole_kept c.args.marks.now u c.args.next.now c.args.imports.now old new other)
     (on_named c.put_whole.result (λ n. order_lines n new ≡ order_lines n old ++ (line 1 n.root ∷ lines 2 n.whole)) c.put_whole.ensures))
 
-pub returns-then-unit-ne-COMPILE_UNIT-clause-next : goal.returns-then-unit-ne-COMPILE_UNIT-clause-next
-returns-then-unit-ne-COMPILE_UNIT-clause-next c = λ u found. (
+pub returns-then-unit-ne-DW_UT_COMPILE-clause-next : goal.returns-then-unit-ne-DW_UT_COMPILE-clause-next
+returns-then-unit-ne-DW_UT_COMPILE-clause-next c = λ u found. (
     let raw = units_of c.args.units.now in
     let next = c.args.next.now in
-    let same = next_stays u next (not_compile raw c.args.n c.args.unit.now u c.requires.shown found c.if-unit-ne-COMPILE_UNIT.true) in
+    let same = next_stays u next (not_compile raw c.args.n c.args.unit.now u c.requires.shown found c.if-unit-ne-DW_UT_COMPILE.true) in
     on_ok c.put_whole.result (Unit {0}) (next ≡ behind_unit u next) (λ _. same) (on_true c.put_whole.result))
 
 pub entry-end-requires : goal.entry-end-requires
@@ -69,7 +69,7 @@ returns-clause-items c = λ u found. (
     let parts = c.args.imports.now in
     let old = c.args.items.now.items in
     let new = c.put_kept.new.order.items in
-    let kind = is_compile raw c.args.n x u c.requires.shown found c.if-unit-ne-COMPILE_UNIT.false in
+    let kind = is_compile raw c.args.n x u c.requires.shown found c.if-unit-ne-DW_UT_COMPILE.false in
     let list = unit_list raw c.args.n x c.entry-end.result u c.requires.shown c.entry-end.ensures.entry found in
     let outers : c.as_slice.result.now ≡ outers_in stored_space m next u.below =
     c.as_slice.ensures.value ∙ c.in_ok-put_list.ensures.outers u.below list ∙ ap (λ (w : List Outer). w ++ outers_in stored_space m next u.below) c.clear.ensures.items in
@@ -83,7 +83,7 @@ returns-clause-next c = λ u found. (
     let raw = units_of c.args.units.now in
     let x = c.args.unit.now in
     let next = c.args.next.now in
-    let kind = is_compile raw c.args.n x u c.requires.shown found c.if-unit-ne-COMPILE_UNIT.false in
+    let kind = is_compile raw c.args.n x u c.requires.shown found c.if-unit-ne-DW_UT_COMPILE.false in
     let list = unit_list raw c.args.n x c.entry-end.result u c.requires.shown c.entry-end.ensures.entry found in
     let same : c.put_list.new.next ≡ behind_unit u next = c.in_ok-put_list.ensures.next u.below list ∙ ap (λ (k : RawKind). behind_kind k u.below next) (sym kind) in
     on_ok c.put_kept.result (Unit {0}) (c.put_list.new.next ≡ behind_unit u next) (λ _. same) (on_true c.put_kept.result))

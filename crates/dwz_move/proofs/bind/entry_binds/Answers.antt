@@ -13,9 +13,9 @@ use Rattle.dwz_move.proofs.BindLemmas.{value_counts}
 use Rattle.dwz_move.proofs.BindSteps.{bind_all, bind_here, bind_more, bind_next, bind_none, bind_sibling, by_attrs, by_tag}
 use Rattle.dwz_move.proofs.bind.entry_binds.Goals as goal
 
-pub returns-then-entry-eq-IMPORTED_UNIT : goal.returns-then-entry-eq-IMPORTED_UNIT
-returns-then-entry-eq-IMPORTED_UNIT c = λ s numbers row d tops unit name has m into. by_tag s tops unit name (units_of c.args.units.now) c.args.i numbers row d m c.entry.result c.entry.ensures.entry
-    c.if-entry-eq-IMPORTED_UNIT.true
+pub returns-then-entry-eq-DW_TAG_IMPORTED_UNIT : goal.returns-then-entry-eq-DW_TAG_IMPORTED_UNIT
+returns-then-entry-eq-DW_TAG_IMPORTED_UNIT c = λ s numbers row d tops unit name has m into. by_tag s tops unit name (units_of c.args.units.now) c.args.i numbers row d m c.entry.result c.entry.ensures.entry
+    c.if-entry-eq-DW_TAG_IMPORTED_UNIT.true
 
 pub loop-pair-init : goal.loop-pair-init
 loop-pair-init c = record {
@@ -31,8 +31,8 @@ known_value-raw-requires c =
     let x = reads_next r.0.entry.at pairs c.loop-pair.pair-index no_pair c.loop-pair.cursor r.0.entry.attrs c.loop-pair-test.true (c.loop-pair.invariant.reads r.0 r.1) in
     subst IsOk (sym x.value) refl
 
-pub loop-pair-preserved-then-pair-eq-SIBLING : goal.loop-pair-preserved-then-pair-eq-SIBLING
-loop-pair-preserved-then-pair-eq-SIBLING c =
+pub loop-pair-preserved-then-pair-eq-DW_AT_SIBLING : goal.loop-pair-preserved-then-pair-eq-DW_AT_SIBLING
+loop-pair-preserved-then-pair-eq-DW_AT_SIBLING c =
     let raw = units_of c.args.units.now in
     let pairs = c.values-cursor.result.pairs.now in
     let j = c.loop-pair.pair-index in
@@ -45,7 +45,7 @@ loop-pair-preserved-then-pair-eq-SIBLING c =
       left = λ s numbers row d tops unit name has m into. (
           let is = (next_read row.entry.at pairs j no_pair c.loop-pair.cursor c.known_value-raw.new.cursor value row.entry.attrs c.loop-pair-test.true (c.loop-pair.invariant.reads row m.found)
           c.known_value-raw.ensures.value).is in
-          bind_sibling raw s tops unit name c.args.into.now row.entry.attrs j c.loop-pair.next a (any_attr (attr_binds tops unit) (node_map name d)) is c.if-pair-eq-SIBLING.true
+          bind_sibling raw s tops unit name c.args.into.now row.entry.attrs j c.loop-pair.next a (any_attr (attr_binds tops unit) (node_map name d)) is c.if-pair-eq-DW_AT_SIBLING.true
           (c.loop-pair.invariant.left s numbers row d tops unit name has m into));
     }
 
@@ -59,11 +59,11 @@ returns-then-branch c = λ s numbers row d tops unit name has m into. (
     let all = any_attr (attr_binds tops unit) (node_map name d) in
     let is = (next_read row.entry.at pairs j no_pair c.loop-pair.cursor c.known_value-raw.new.cursor value row.entry.attrs c.loop-pair-test.true (c.loop-pair.invariant.reads row m.found)
     c.known_value-raw.ensures.value).is in
-    let n = bind_next raw s tops unit name c.args.into.now row.entry.attrs j c.loop-pair.next a all is c.if-pair-eq-SIBLING.false
+    let n = bind_next raw s tops unit name c.args.into.now row.entry.attrs j c.loop-pair.next a all is c.if-pair-eq-DW_AT_SIBLING.false
     (c.loop-pair.invariant.left s numbers row d tops unit name has m into) in
     let says : c.in_ok-value_binds.field-0 ≡ attr_binds tops unit (attr_map name (attr_with a n.v)) = c.in_ok-value_binds.ensures s a.at n.v tops unit name has
     (subst (λ (e : ℕ). meaning s (record { at = c.loop-pair.cursor.at; end = e; pair = get_or pairs j no_pair; raw = value }) ≡ Ok n.v) (sym c.at-end.ensures) n.means) n.first in
-    by_attrs s tops unit name raw c.args.i numbers row d m c.entry.result c.entry.ensures.entry true c.if-entry-eq-IMPORTED_UNIT.false
+    by_attrs s tops unit name raw c.args.i numbers row d m c.entry.result c.entry.ensures.entry true c.if-entry-eq-DW_TAG_IMPORTED_UNIT.false
     (bind_here raw s tops unit name c.args.into.now row.entry.attrs j c.loop-pair.next a all n (sym c.if-branch.true ∙ says)))
 
 pub loop-pair-preserved : goal.loop-pair-preserved
@@ -81,7 +81,7 @@ loop-pair-preserved c =
           let all = any_attr (attr_binds tops unit) (node_map name d) in
           let is = (next_read row.entry.at pairs j no_pair c.loop-pair.cursor c.known_value-raw.new.cursor value row.entry.attrs c.loop-pair-test.true (c.loop-pair.invariant.reads row m.found)
           c.known_value-raw.ensures.value).is in
-          let n = bind_next raw s tops unit name c.args.into.now row.entry.attrs j c.loop-pair.next a all is c.if-pair-eq-SIBLING.false
+          let n = bind_next raw s tops unit name c.args.into.now row.entry.attrs j c.loop-pair.next a all is c.if-pair-eq-DW_AT_SIBLING.false
           (c.loop-pair.invariant.left s numbers row d tops unit name has m into) in
           let says : c.in_ok-value_binds.field-0 ≡ attr_binds tops unit (attr_map name (attr_with a n.v)) = c.in_ok-value_binds.ensures s a.at n.v tops unit name has
           (subst (λ (e : ℕ). meaning s (record { at = c.loop-pair.cursor.at; end = e; pair = get_or pairs j no_pair; raw = value }) ≡ Ok n.v) (sym c.at-end.ensures) n.means) n.first in
@@ -94,6 +94,6 @@ pub returns : goal.returns
 returns c = λ s numbers row d tops unit name has m into. (
     let pairs = c.values-cursor.result.pairs.now in
     let count = reads_count row.entry.at pairs c.values-cursor.result.cursor row.entry.attrs (c.values-cursor.ensures.read row m.found) in
-    by_attrs s tops unit name (units_of c.args.units.now) c.args.i numbers row d m c.entry.result c.entry.ensures.entry false c.if-entry-eq-IMPORTED_UNIT.false
+    by_attrs s tops unit name (units_of c.args.units.now) c.args.i numbers row d m c.entry.result c.entry.ensures.entry false c.if-entry-eq-DW_TAG_IMPORTED_UNIT.false
     (bind_none (units_of c.args.units.now) s tops unit name c.args.into.now row.entry.attrs c.loop-pair.pair-index c.loop-pair.next (any_attr (attr_binds tops unit) (node_map name d))
     (omega (arith, count, c.loop-pair-test.false)) (c.loop-pair.invariant.left s numbers row d tops unit name has m into)))

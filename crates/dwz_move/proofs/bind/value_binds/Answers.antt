@@ -19,7 +19,7 @@ returns-then-is_entry c = λ s at v tops unit name has' e into. (
     let yes : is_entry (class_of c.args.pair.now.form) ≡ true = ap is_entry (sym c.class_of-class.ensures) ∙ sym c.is_entry.ensures ∙ c.if-is_entry.true in
     let o = (value_says s a v free e).0 yes in
     let one = first_into name c.args.into.now c.args.next o.0 [] (subst (λ (w : Value ℕ). AreInto name (drop c.args.next c.args.into.now) (value_refs w)) o.1 into) in
-    c.leaves.ensures tops unit (name o.0) has' (c.top_at.ensures ∙ one) ∙ binds_entry tops unit name a v o.0 free o.1)
+    c.leaves.ensures tops unit (name o.0) has' (c.at_or.ensures ∙ one) ∙ binds_entry tops unit name a v o.0 free o.1)
 
 pub returns-then-address : goal.returns-then-address
 returns-then-address c = λ s at v tops unit name has' e into. (

@@ -11,7 +11,7 @@ use Rattle.dwz_move.specs.Marked.{MarksIf, expression_names, expression_pins}
 use Rattle.dwz_move.proofs.MarkSteps.{MarkLeft, mark_all, mark_more, mark_sibling}
 use Rattle.dwz_move.proofs.OtherValues.{mark_others, names_expressions, next_in_front, pins_expressions, value_in_front}
 use Rattle.dwz_move.proofs.marks.mark_entry.Goals as goal
-use Rattle.dwz_move.proofs.marks.mark_entry.Goals.{then-pair-ne-SIBLING+in_ok-rest, else-pair-ne-SIBLING}
+use Rattle.dwz_move.proofs.marks.mark_entry.Goals.{then-pair-ne-DW_AT_SIBLING+in_ok-rest, else-pair-ne-DW_AT_SIBLING}
 
 pub loop-pair-init : goal.loop-pair-init
 loop-pair-init c = record {
@@ -46,20 +46,20 @@ loop-pair-preserved c =
           let all : ℕ → Bool = λ n. any_attr (expression_names n) (node_map name d) in
           let old : List Bool = c.args.named.now.by_any.items in
           let now : List Bool = c.loop-pair.named.by_any.items in
-          let new : List Bool = c.if-pair-ne-SIBLING.named.by_any.items in
-          let rest : List (Option ℕ) = c.if-pair-ne-SIBLING.rest.now in
+          let new : List Bool = c.if-pair-ne-DW_AT_SIBLING.named.by_any.items in
+          let rest : List (Option ℕ) = c.if-pair-ne-DW_AT_SIBLING.rest.now in
           let h = c.loop-pair.invariant.any s numbers row d name m into in
-          elim c.if-pair-ne-SIBLING.branch [
-            | then-pair-ne-SIBLING+in_ok-rest w ↦
-                mark_more expression_names raw s name row.entry.attrs j a c.loop-pair.rest.now rest old now new all is w.if-pair-ne-SIBLING.true
+          elim c.if-pair-ne-DW_AT_SIBLING.branch [
+            | then-pair-ne-DW_AT_SIBLING+in_ok-rest w ↦
+                mark_more expression_names raw s name row.entry.attrs j a c.loop-pair.rest.now rest old now new all is w.if-pair-ne-DW_AT_SIBLING.true
                 (λ v e t. subst (λ (b : List Bool). MarksIf (λ n. expression_names n (attr_map name (attr_with a v)) ≡ true) now b) (sym (λ i. (w.named-is i).by_any.items))
                 (w.in_ok-rest.ensures.any s a.at v name (subst (λ (k : ℕ). meaning s (record { at = a.at; end = k; pair = a.pair; raw = a.raw }) ≡ Ok v) (sym c.at-end.ensures) e) t))
                 (λ v e. (λ i. (w.rest-is i).now) ∙ w.in_ok-rest.ensures.rest s a.at v
                 (subst (λ (k : ℕ). meaning s (record { at = a.at; end = k; pair = a.pair; raw = a.raw }) ≡ Ok v) (sym c.at-end.ensures) e)) h
-            | else-pair-ne-SIBLING w ↦
+            | else-pair-ne-DW_AT_SIBLING w ↦
                 subst (λ (r : List (Option ℕ)). MarkLeft expression_names raw s name (drop (j + 1) row.entry.attrs) r old new all) (sym (λ i. (w.rest-is i).now))
                 (subst (λ (b : List Bool). MarkLeft expression_names raw s name (drop (j + 1) row.entry.attrs) c.loop-pair.rest.now old b all) (sym (λ i. (w.named-is i).by_any.items))
-                (mark_sibling expression_names raw s name row.entry.attrs j a c.loop-pair.rest.now old now all is w.if-pair-ne-SIBLING.false h))
+                (mark_sibling expression_names raw s name row.entry.attrs j a c.loop-pair.rest.now old now all is w.if-pair-ne-DW_AT_SIBLING.false h))
           ]);
       uleb = λ s numbers row d name m into. (
           let is = (next_in_front row.entry.at front j c.loop-pair.cursor row.entry.attrs (c.loop-pair.invariant.reads row m.found) c.loop-pair-test.true c.known_value-raw.new.cursor value
@@ -67,20 +67,20 @@ loop-pair-preserved c =
           let all : ℕ → Bool = λ n. any_attr (expression_pins n) (node_map name d) in
           let old : List Bool = c.args.named.now.by_uleb.items in
           let now : List Bool = c.loop-pair.named.by_uleb.items in
-          let new : List Bool = c.if-pair-ne-SIBLING.named.by_uleb.items in
-          let rest : List (Option ℕ) = c.if-pair-ne-SIBLING.rest.now in
+          let new : List Bool = c.if-pair-ne-DW_AT_SIBLING.named.by_uleb.items in
+          let rest : List (Option ℕ) = c.if-pair-ne-DW_AT_SIBLING.rest.now in
           let h = c.loop-pair.invariant.uleb s numbers row d name m into in
-          elim c.if-pair-ne-SIBLING.branch [
-            | then-pair-ne-SIBLING+in_ok-rest w ↦
-                mark_more expression_pins raw s name row.entry.attrs j a c.loop-pair.rest.now rest old now new all is w.if-pair-ne-SIBLING.true
+          elim c.if-pair-ne-DW_AT_SIBLING.branch [
+            | then-pair-ne-DW_AT_SIBLING+in_ok-rest w ↦
+                mark_more expression_pins raw s name row.entry.attrs j a c.loop-pair.rest.now rest old now new all is w.if-pair-ne-DW_AT_SIBLING.true
                 (λ v e t. subst (λ (b : List Bool). MarksIf (λ n. expression_pins n (attr_map name (attr_with a v)) ≡ true) now b) (sym (λ i. (w.named-is i).by_uleb.items))
                 (w.in_ok-rest.ensures.uleb s a.at v name (subst (λ (k : ℕ). meaning s (record { at = a.at; end = k; pair = a.pair; raw = a.raw }) ≡ Ok v) (sym c.at-end.ensures) e) t))
                 (λ v e. (λ i. (w.rest-is i).now) ∙ w.in_ok-rest.ensures.rest s a.at v
                 (subst (λ (k : ℕ). meaning s (record { at = a.at; end = k; pair = a.pair; raw = a.raw }) ≡ Ok v) (sym c.at-end.ensures) e)) h
-            | else-pair-ne-SIBLING w ↦
+            | else-pair-ne-DW_AT_SIBLING w ↦
                 subst (λ (r : List (Option ℕ)). MarkLeft expression_pins raw s name (drop (j + 1) row.entry.attrs) r old new all) (sym (λ i. (w.rest-is i).now))
                 (subst (λ (b : List Bool). MarkLeft expression_pins raw s name (drop (j + 1) row.entry.attrs) c.loop-pair.rest.now old b all) (sym (λ i. (w.named-is i).by_uleb.items))
-                (mark_sibling expression_pins raw s name row.entry.attrs j a c.loop-pair.rest.now old now all is w.if-pair-ne-SIBLING.false h))
+                (mark_sibling expression_pins raw s name row.entry.attrs j a c.loop-pair.rest.now old now all is w.if-pair-ne-DW_AT_SIBLING.false h))
           ]);
     }
 

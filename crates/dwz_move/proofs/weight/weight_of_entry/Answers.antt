@@ -12,7 +12,7 @@ use Rattle.dwz_move.specs.Weights.{node_weight}
 use Rattle.dwz_move.proofs.RowSteps.{shown_row}
 use Rattle.dwz_move.proofs.WeightSteps.{AreLeft, left_all, left_more, left_none, left_sibling, own_low}
 use Rattle.dwz_move.proofs.weight.weight_of_entry.Goals as goal
-use Rattle.dwz_move.proofs.weight.weight_of_entry.Goals.{then-pair-ne-SIBLING, else-pair-ne-SIBLING}
+use Rattle.dwz_move.proofs.weight.weight_of_entry.Goals.{then-pair-ne-DW_AT_SIBLING, else-pair-ne-DW_AT_SIBLING}
 
 pub loop-pair-init : goal.loop-pair-init
 loop-pair-init c = record {
@@ -48,13 +48,13 @@ loop-pair-preserved c =
           c.known_value-raw.ensures.value).is in
           let all = node_weight (nat_lt (c.args.i + 1) row.end) (node_map name d) in
           let h = c.loop-pair.invariant.left s numbers row d name m in
-          elim c.if-pair-ne-SIBLING.branch [
-            | then-pair-ne-SIBLING w ↦
-                left_more raw s name row.entry.attrs j a c.loop-pair.weight w.weight_of_value.result c.if-pair-ne-SIBLING.weight all is w.if-pair-ne-SIBLING.true
+          elim c.if-pair-ne-DW_AT_SIBLING.branch [
+            | then-pair-ne-DW_AT_SIBLING w ↦
+                left_more raw s name row.entry.attrs j a c.loop-pair.weight w.weight_of_value.result c.if-pair-ne-DW_AT_SIBLING.weight all is w.if-pair-ne-DW_AT_SIBLING.true
                 (λ v e. w.weight_of_value.ensures s a.at a.end v e) (w.weight-is ∙ w.add_weights-weight.ensures) h
-            | else-pair-ne-SIBLING w ↦
+            | else-pair-ne-DW_AT_SIBLING w ↦
                 subst (λ (n : ℕ). AreLeft raw s name (drop (j + 1) row.entry.attrs) n all) (sym w.weight-is)
-                (left_sibling raw s name row.entry.attrs j a c.loop-pair.weight all is w.if-pair-ne-SIBLING.false h)
+                (left_sibling raw s name row.entry.attrs j a c.loop-pair.weight all is w.if-pair-ne-DW_AT_SIBLING.false h)
           ]);
     }
 

@@ -20,11 +20,11 @@ offset_is form raw is h =
 
 pub overflow_cast-result : goal.overflow_cast-result
 overflow_cast-result c =
-    let small = (offset_is c.args.attr.now.pair.form (raw_view c.args.attr.now.raw) c.if-attr-eq-SEC_OFFSET.true c.requires).1 in
+    let small = (offset_is c.args.attr.now.pair.form (raw_view c.args.attr.now.raw) c.if-attr-eq-DW_FORM_SEC_OFFSET.true c.requires).1 in
     omega (arith, small, c.offset_of.ensures.value)
 
-pub returns-then-attr-eq-SEC_OFFSET : goal.returns-then-attr-eq-SEC_OFFSET
-returns-then-attr-eq-SEC_OFFSET c = (
-  c.if-attr-eq-SEC_OFFSET.true,
-  (offset_is c.args.attr.now.pair.form (raw_view c.args.attr.now.raw) c.if-attr-eq-SEC_OFFSET.true c.requires).0 ∙ ap (λ (n : ℕ). pos n) (sym c.offset_of.ensures.value),
+pub returns-then-attr-eq-DW_FORM_SEC_OFFSET : goal.returns-then-attr-eq-DW_FORM_SEC_OFFSET
+returns-then-attr-eq-DW_FORM_SEC_OFFSET c = (
+  c.if-attr-eq-DW_FORM_SEC_OFFSET.true,
+  (offset_is c.args.attr.now.pair.form (raw_view c.args.attr.now.raw) c.if-attr-eq-DW_FORM_SEC_OFFSET.true c.requires).0 ∙ ap (λ (n : ℕ). pos n) (sym c.offset_of.ensures.value),
 )

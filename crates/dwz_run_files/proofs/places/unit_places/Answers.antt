@@ -8,7 +8,7 @@ loop-n-init c = c.in_ok-out.ensures.items ∙ no_places c.args.start c.args.plac
 
 pub loop-n-preserved : goal.loop-n-preserved
 loop-n-preserved c = places_more c.args.start c.args.places.now (units_of c.args.units.now) c.loop-n.n c.unit-unit.result c.loop-n.out.items
-    c.push.new.self.items c.place_of-root.result c.before_root.result c.unit-unit.ensures c.loop-n.invariant c.place_of-root.ensures
+    c.push.new.self.items c.at_or-root.result c.before_root.result c.unit-unit.ensures c.loop-n.invariant c.at_or-root.ensures
     c.before_root.ensures c.in_ok-push.ensures.items
 
 pub returns-clause-are : goal.returns-clause-are

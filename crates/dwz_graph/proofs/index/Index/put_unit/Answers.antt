@@ -38,8 +38,8 @@ overflow_add-root-2 c =
     let room = c.requires.room.units in
     omega arith
 
-pub returns-then-unit-ne-COMPILE_UNIT : goal.returns-then-unit-ne-COMPILE_UNIT
-returns-then-unit-ne-COMPILE_UNIT c = λ u found. (
+pub returns-then-unit-ne-DW_UT_COMPILE : goal.returns-then-unit-ne-DW_UT_COMPILE
+returns-then-unit-ne-DW_UT_COMPILE c = λ u found. (
     let raw = units_of c.args.units.now in
     let x = c.args.unit.now in
     let w = c.self.inside in
@@ -47,7 +47,7 @@ returns-then-unit-ne-COMPILE_UNIT c = λ u found. (
     let s = step x.first 0 0 in
     with_more c.args.self.now w.steps.items w.tops.items w.spaces.items w.starts c.self.view_is c.push.new.self.items c.put_below.new.steps.items s (steps_below 0 x.first 0 (x.first + 1) u.below)
     c.in_ok-push.ensures.items (c.in_ok-put_below.ensures u.below list)
-    ∙ below_type raw c.args.number x u (c.args.self.now.starts.unit + c.args.number) (with_steps (s ∷ []) c.args.self.now) c.requires.shown found c.if-unit-ne-COMPILE_UNIT.true)
+    ∙ below_type raw c.args.number x u (c.args.self.now.starts.unit + c.args.number) (with_steps (s ∷ []) c.args.self.now) c.requires.shown found c.if-unit-ne-DW_UT_COMPILE.true)
 
 pub returns : goal.returns
 returns c = λ u found. (
@@ -60,4 +60,4 @@ returns c = λ u found. (
     let same = ap (λ (w : Index). unit_start w) c.self.view_is in
     c.in_ok-put_list.ensures u.below list
     ∙ (λ k. with_list (same k + c.args.number) 0 x.first 0 (x.first + 1) u.below (pushed k))
-    ∙ below_compile raw c.args.number x u (c.args.self.now.starts.unit + c.args.number) (with_steps (s ∷ []) c.args.self.now) c.requires.shown found c.if-unit-ne-COMPILE_UNIT.false)
+    ∙ below_compile raw c.args.number x u (c.args.self.now.starts.unit + c.args.number) (with_steps (s ∷ []) c.args.self.now) c.requires.shown found c.if-unit-ne-DW_UT_COMPILE.false)

@@ -27,7 +27,7 @@ returns-clause-len c =
     omega arith
 
 pub returns-clause-names : goal.returns-clause-names
-returns-clause-names c = λ around said means. is_index around c.args.starts.now (units_of c.args.units.now) said c.put_units.new.self (all_whole c.args.units.now)
+returns-clause-names c = λ alone around said means. is_index around c.args.starts.now (units_of c.args.units.now) said c.put_units.new.self (all_whole c.args.units.now alone)
     (((units_agree around (units_of c.args.units.now)).ok said).0 means)
     (from_nothing c.put_units.new.self c.args.starts.now (units_of c.args.units.now) c.in_ok-steps.steps.items c.new.result.items c.new-2.result.items c.in_ok-put_units.ensures
     c.in_ok-steps.ensures.items c.new.ensures.items c.new-2.ensures.items)

@@ -1,0 +1,5 @@
+mod LinkLemmas
+mod NodeLooks
+mod PairLemmas
+mod SearchLemmas
+mod WayLemmas

@@ -1,0 +1,3 @@
+pub mod LeastWays
+pub mod Links
+pub mod Course

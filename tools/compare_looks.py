@@ -81,7 +81,7 @@ def main():
     parser.add_argument("--sets", type=int, default=4000)
     parser.add_argument("--changes", type=int, default=1)
     parser.add_argument("--first", type=int, default=0)
-    options = parser.parse_args()
+    options = parser.parse_intermixed_args()
     if not os.path.isdir(os.path.join(options.model, "dwzref")):
         print("no model in %s: nothing was compared" % options.model)
         return 0

@@ -151,7 +151,7 @@ def main():
     parser.add_argument("program", nargs="?", default=os.path.join(os.path.dirname(__file__), "../crates/dwz_show_entries/out/dwz_show_entries"))
     parser.add_argument("--files", type=int, default=20000)
     parser.add_argument("--first", type=int, default=0)
-    options = parser.parse_args()
+    options = parser.parse_intermixed_args()
     if not os.path.isdir(os.path.join(options.model, "dwzref")):
         print("no model in %s: nothing was compared" % options.model)
         return 0

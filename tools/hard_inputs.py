@@ -3,7 +3,8 @@
 abbreviation table (in ascending, descending and random order of offset), units over each byte of a table at which a table is
 spelled, 4,000 units over tables that begin inside one declaration, and 40,000 abbreviations whose shapes have one hash, beside as
 many that haven't. Others ask again and again for what is behind many things: for attributes of a root or of a namespace that come behind
-thousands, of many units, or for many tops; and for location lists, that are named by many units, or whose suffixes are lists as well.
+thousands, of many units, or for many tops; for location lists, that are named by many units, or whose suffixes are lists as well; and
+for files of line tables, whose paths are long, or whose rows are those of other tables as well.
 
     tools/hard_inputs.py [--program PROGRAM] [--times N]
 
@@ -19,7 +20,7 @@ import tempfile
 from bench_runs import best_of
 from many_units import elf
 
-SIBLING, LOCATION, NAME, BYTE_SIZE, ENCODING, FIRST_USER_NAME = 0x01, 0x02, 0x03, 0x0B, 0x3E, 0x2000
+SIBLING, LOCATION, NAME, BYTE_SIZE, STMT_LIST, DECL_FILE, ENCODING, FIRST_USER_NAME = 0x01, 0x02, 0x03, 0x0B, 0x10, 0x3A, 0x3E, 0x2000
 ADDR, STRING, DATA1, SEC_OFFSET, FLAG_PRESENT, IMPLICIT_CONST = 0x01, 0x08, 0x0B, 0x17, 0x19, 0x21
 COMPILE_UNIT, BASE_TYPE, VARIABLE, NAMESPACE, TYPE_UNIT, FIRST_USER_TAG = 0x11, 0x24, 0x34, 0x39, 0x41, 0x4080
 
@@ -127,6 +128,49 @@ def listed_units(count):
     return elf(unit(0, b"\x01\x02" + struct.pack("<I", 12) + b"\0") * count, LISTED, lists_of(DEFAULT * count))
 
 
+# The rows of directories and files are texts that stand there.
+TEXTS = b"\x01\x01" + bytes([STRING])
+
+
+def line_table(folder, count, rows):
+    """A line table of one folder and so many files, with these rows, up to the end of the section (DWARF 5, 6.2.4)."""
+    tables = TEXTS + b"\x01" + folder + b"\0" + TEXTS + bytes([count & 127 | 128, count >> 7 & 127 | 128, count >> 14]) + rows
+    header = bytes([1, 1, 1, 0, 1, 1]) + tables
+    content = struct.pack("<HBBI", 5, 8, 0, len(header)) + header
+    return struct.pack("<I", len(content)) + content
+
+
+NUMBERED = declaration(1, COMPILE_UNIT, 1, [(STMT_LIST, SEC_OFFSET)]) + declaration(
+    2, BASE_TYPE, 0, [(NAME, STRING), (BYTE_SIZE, DATA1), (ENCODING, DATA1), (DECL_FILE, DATA1)]
+) + b"\0"
+
+
+def numbering(place, numbers):
+    """A unit whose line table stands there, with a type for each of these numbers of files."""
+    return unit(0, b"\x01" + struct.pack("<I", place) + b"".join(INT + bytes([number]) for number in numbers) + b"\0")
+
+
+def long_folder(length, count):
+    """Two units of one line table, that has so many files in one folder, whose path is that long."""
+    return elf(numbering(0, (0, 1)) * 2, NUMBERED, lines=line_table(b"d" * length, count, b"f\0" * count))
+
+
+def tables_inside(count, rows, numbers):
+    """So many units of a line table each, whose rows are all those that stand behind it, so many besides those of the other tables."""
+    lines, at, size = bytes(rows), [], len(line_table(b"d", 0, b""))
+    for number in range(count):
+        lines = line_table(b"d", lines.count(0), lines)
+        at.append(size * (count - number - 1))
+    return elf(b"".join(numbering(place, numbers) for place in at), NUMBERED, lines=lines)
+
+
+def listed_suffixes_of_units(count, arrange):
+    """So many units, in that order, with a variable each, which names its own suffix of one list."""
+    places = [12 + len(DEFAULT) * number for number in range(count)]
+    arrange(places)
+    return elf(b"".join(unit(0, b"\x01\x02" + struct.pack("<I", place) + b"\0") for place in places), LISTED, lists_of(DEFAULT * count))
+
+
 def suffixes(count, arrange):
     """Units of one entry each, in that order; each has its own suffix of one table."""
     table, starts = b"", []
@@ -225,9 +269,16 @@ def main():
         ("2,500 tops in a namespace that has 2,500 attributes before its name", named_late(2500)),
         ("5,000 variables over suffixes of one location list, ascending", listed_suffixes(5000, DEFAULT, lambda places: None)),
         ("the same, descending", listed_suffixes(5000, DEFAULT, list.reverse)),
+        ("the same, shuffled", listed_suffixes(5000, DEFAULT, random.Random(1).shuffle)),
         ("4,000 variables over suffixes of a location list of operands, ascending", listed_suffixes(4000, CONVERT, lambda places: None)),
         ("the same, descending", listed_suffixes(4000, CONVERT, list.reverse)),
+        ("40,000 of these, shuffled", listed_suffixes(40000, CONVERT, random.Random(1).shuffle)),
         ("4,000 units that name one location list", listed_units(4000)),
+        ("30,000 files in a folder whose path has 60,000 bytes", long_folder(60000, 30000)),
+        ("1,000 units over line tables inside one another's rows", tables_inside(1000, 50000, (0, 1))),
+        ("100 units with 100 numbers of files each, over the same", tables_inside(100, 50000, range(100))),
+        ("4,000 units over suffixes of one location list, ascending", listed_suffixes_of_units(4000, lambda places: None)),
+        ("the same, descending", listed_suffixes_of_units(4000, list.reverse)),
         ("40,000 shapes of one hash", many_shapes(40000, True)),
         ("40,000 shapes of different hashes", many_shapes(40000, False)),
     )

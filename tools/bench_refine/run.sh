@@ -6,7 +6,7 @@ top=$(cd "$here/../.." && pwd)
 copy=${1:-$(mktemp -d)}
 mkdir -p "$copy/crates"
 cp "$top/HANDLES" "$copy/"
-for crate in dwz_model dwz_nodes dwz_bucket dwz_core dwz_table dwz_gate dwz_rounds; do
+for crate in dwz_model dwz_nodes dwz_core dwz_table dwz_gate dwz_rounds; do
     (cd "$top/crates" && tar cf - --exclude=out "$crate") | tar xf - -C "$copy/crates"
     grep "^$crate[ :]" "$top/crates.txt"
 done > "$copy/crates.txt"

@@ -6,7 +6,7 @@ use Rattle.std.specs.Option.{option_and_then, option_map}
 use Rattle.std.specs.Ordering.{nat_cmp}
 use Rattle.std.specs.BTreeMap.{BTreeMap, get}
 use Rattle.std.proofs.lemmas.Bool.{eq-eqb, eqb-true, ltb-true, ltb-false, ne_eqb}
-use Rattle.std.proofs.lemmas.Option.{get_or_from_slice_get, slice_get_within}
+use Rattle.std.proofs.lemmas.Option.{get_or_from_slice_get, slice_get-map, slice_get_within}
 use Rattle.dwz_def_reading.specs.Abbrevs.{Declaration, find_decl}
 use Rattle.dwz_def_reading.proofs.FitLemmas.{none_found}
 use Rattle.dwz_def_reading.proofs.ListFacts.{got_map}
@@ -51,6 +51,11 @@ chosen_is (Some e) code d is = go (eqb e.code code) refl is where
   go : (test : Bool) → eqb e.code code ≡ test → cond test (Some e) None ≡ Some d → (Some e ≡ Some d) × (d.code ≡ code)
   go true has same = (same, (let one : e ≡ d = cc in ap (λ (f : Decl). f.code) (sym one)) ∙ eqb-true e.code code has)
   go false has same = absurd cc
+
+-- a place leads to what is seen of the declaration there
+pub place_view : (rows : List Decl) (place : Option ℕ) (o : Option Decl) → option_and_then (slice_get rows) place ≡ o → option_and_then (slice_get (views rows)) place ≡ option_map decl_view o
+place_view rows None o is = ap (option_map decl_view) is
+place_view rows (Some i) o is = slice_get-map decl_view rows i ∙ ap (option_map decl_view) is
 
 module _ (rows : List Decl) (places : BTreeMap ℕ ℕ) (skip code : ℕ) (index : IsIndexed rows places) (different : AllPairs Differ (views rows)) where
   pub at_place : (i : ℕ) (d : Decl) → slice_get rows i ≡ Some d → d.code ≡ code → skip ≤ i → Some (decl_view d) ≡ find_decl (drop skip (views rows)) code

@@ -3,9 +3,9 @@
 //! A declaration stands at the place that is its code less 1, counted from 0, or a map has its place: so the map is empty for the tables
 //! that compilers write. Whatever is found is compared by its code, so a place that a failed call left in the map does no harm.
 
-ghost use Rattle.std.specs.Prelude.{◌≡◌, ◌<◌, ◌^◌, ◌++◌, ◌∷◌, [], None, AllPairs, OnErr, OnOk, drop, length};
+ghost use Rattle.std.specs.Prelude.{◌≡◌, ◌<◌, ◌^◌, ◌++◌, ◌∷◌, [], None, AllPairs, IfSome, OnErr, OnOk, drop, length, slice_get};
 ghost use Rattle.std.specs.BTreeMap.{IsUnchanged};
-ghost use Rattle.std.specs.Option.{option_copied, option_map};
+ghost use Rattle.std.specs.Option.{option_and_then, option_copied, option_map};
 ghost use Rattle.dwz_def_reading.specs.Abbrevs.{find_decl};
 ghost use Rattle.dwz_abbrev.specs.Views.{decl_view, views};
 ghost use Rattle.dwz_abbrev.specs.Places.{Stores, or_else, stored_decl, stored_decl_behind};
@@ -59,21 +59,25 @@ fn find_stored<'a>(decls: &'a [Decl], places: &BTreeMap<u64, usize>, code: u64) 
     decl_with_code(decls.get(place), code)
 }
 
-// The same, of those behind the first so many.
+// The place that is stored for a code, if it isn't one of the first so many, and the declaration there has the code.
 #[inline(never)]
-fn find_stored_behind<'a>(
-    decls: &'a [Decl],
+fn stored_place_behind(
+    decls: &[Decl],
     places: &BTreeMap<u64, usize>,
     skip: usize,
     code: u64,
-) -> Option<&'a Decl>
-    ensures { option_copied result ≡ stored_decl_behind decls.now places.now skip code }
+) -> Option<usize>
+    ensures decl { option_and_then (slice_get decls.now) result ≡ stored_decl_behind decls.now places.now skip code }
+    ensures within { IfSome result (λ place. place < length decls.now) }
 {
     let place = *places.get(&code)?;
     if place < skip {
         return None;
     }
-    decl_with_code(decls.get(place), code)
+    match decls.get(place) {
+        Some(decl) if decl.code == code => Some(place),
+        _ => None,
+    }
 }
 
 // Stores the place of a declaration with a code, unless it follows from the code.
@@ -113,20 +117,21 @@ impl Rows {
         find_stored(decls, &self.places, code)
     }
 
-    // The declaration with a code, if one has it of those behind the first so many.
+    // The place of the declaration with a code, if one has it of those behind the first so many.
     #[inline(always)]
-    pub(crate) fn decl_behind(&self, skip: usize, code: u64) -> Option<&Decl>
+    pub(crate) fn place_behind(&self, skip: usize, code: u64) -> Option<usize>
         requires { AllPairs Differ self.now }
-        ensures { option_map decl_view (option_copied result) ≡ find_decl (drop skip self.now) code }
+        ensures decl { option_and_then (slice_get self.now) result ≡ find_decl (drop skip self.now) code }
+        ensures within { IfSome result (λ place. place < length self.now) }
     {
         let decls = self.decls.as_slice();
         let place = code.saturating_sub(1) as usize;
         if let Some(decl) = decls.get(place) {
             if decl.code == code {
-                return if place < skip { None } else { Some(decl) };
+                return if place < skip { None } else { Some(place) };
             }
         }
-        find_stored_behind(decls, &self.places, skip, code)
+        stored_place_behind(decls, &self.places, skip, code)
     }
 
     // Appends a declaration with a code of its own.
@@ -147,6 +152,14 @@ impl Rows {
         ensures small { result < 2 ^ 63 }
     {
         self.decls.len()
+    }
+
+    // The same, as one list.
+    pub(crate) fn into_decls(self) -> Vec<Decl>
+        ensures { views result.items ≡ self }
+    {
+        let Rows { decls, places: _ } = self;
+        decls
     }
 
     // The declarations in their order.

@@ -18,7 +18,7 @@ map_twice {P} {Q} {R} f g (p ∷ ps) = ap (λ (w : List R). g (f p) ∷ w) (map_
 
 module _ {K L : Type 0} (from : From) (origin : Bases) (f : K → L) where
   attr_twice : (name : ℕ → K) (b : Attr ℕ) → attr_map f (attr_map name b) ≡ attr_map (λ p. f (name p)) b
-  attr_twice name b = ap (λ (w : List L). record { name = b.name; form = b.form; raw = b.raw; value = record { plain = b.value.plain; refs = w } }) (map_twice name f b.value.refs)
+  attr_twice name b = ap (λ (w : List L). record { name = b.name; form = b.form; raw = b.raw; value = record { plain = b.value.plain; refs = w; address = b.value.address } }) (map_twice name f b.value.refs)
 
   came_map : (a : Attr K) → CameFrom from origin a → CameFrom from origin (attr_map f a)
   came_map a came =

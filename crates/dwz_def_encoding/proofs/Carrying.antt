@@ -103,6 +103,7 @@ pub record Computed {K : Type 0} (a : Attr K) : Type 0 where
   pub bytes : List ℕ
   pub spelled : SpellsExpr context expression start bytes
   pub plain : a.value.plain ≡ Expr (parts_of expression)
+  pub address : a.value.address ≡ expression.address
   pub class : class_of a.form ≡ OfExpression
   pub sound : SoundAttr a
 
@@ -325,6 +326,7 @@ module _ {K : Type 0} (from : From) (origin : Bases) (a : Attr K) (came : CameFr
     bytes = bytes_of old.raw;
     spelled = m.spelled;
     plain = plain_is_expr m;
+    address = ap (λ (v : Value K). v.address) same_value ∙ ap (λ (v : Value ℕ). v.address) m.value;
     class = e;
     sound = other_sound (subst (λ (d : Class). StoresAs d a) (sym e) (record { form = expression_form a.form e; short = short_expr e m }));
   })))))

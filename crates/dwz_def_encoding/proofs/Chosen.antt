@@ -103,7 +103,7 @@ module _ {K : Type 0} (f : KeyedForms K) (is : IsSame f.same) (from : From) (t :
       record {
         sound = subst SoundAttr (sym stays) k.sound;
         says = subst (AttrSays t own) (sym stays) (subst (λ (c : Class). SaysAs c t own a) (sym k.class)
-            (record { context = k.context; expression = k.expression; start = k.start; bytes = k.bytes; spelled = k.spelled; plain = k.plain; operands = operands }));
+            (record { context = k.context; expression = k.expression; start = k.start; bytes = k.bytes; spelled = k.spelled; plain = k.plain; address = k.address; operands = operands }));
       }
 
   list_good : (a : Attr K) → Listed a → AttrOperands t own a → Good t own (fit_attr x a)

@@ -22,6 +22,7 @@ expr_means {K} {P} n g unit t own s is a at end fits says =
     let fit = subst (λ (p : Plain). ExprFits n unit p a.value.refs) says.plain fits in
     let lead = parts_lead n g unit t own s is parts a.value.refs fit says.operands in
     let written = ap (λ (p : Plain). expr_bytes n unit p a.value.refs) says.plain ∙ parts_filled n unit parts a.value.refs in
-    let are : AreParts parts = record { context = says.context; expression = says.expression; start = says.start; bytes = says.bytes; spelled = says.spelled; are = refl } in
-    subst (λ (p : Plain). IsExpression s raw (record { plain = p; refs = map g a.value.refs })) (sym says.plain)
-    (patched_value s raw parts (numbers_of n unit parts a.value.refs) (map g a.value.refs) are lead written)
+    let are : AreParts parts a.value.address =
+    record { context = says.context; expression = says.expression; start = says.start; bytes = says.bytes; spelled = says.spelled; are = refl; addressed = says.address } in
+    subst (λ (p : Plain). IsExpression s raw (record { plain = p; refs = map g a.value.refs; address = a.value.address })) (sym says.plain)
+    (patched_value s raw parts (numbers_of n unit parts a.value.refs) (map g a.value.refs) a.value.address are lead written)

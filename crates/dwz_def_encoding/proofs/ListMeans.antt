@@ -1,5 +1,5 @@
 -- A location list whose operands have new numbers means the same expressions, with the entries that these name.
-use Rattle.std.proofs.Common.{◌≡◌, ℕ, ◌-◌, ◌<◌, true, List, [], ◌∷◌, ◌++◌, map, refl, sym, ap, subst, ◌∙◌, arith, inl, inr}
+use Rattle.std.proofs.Common.{◌≡◌, ℕ, ◌-◌, ◌<◌, Bool, true, List, [], ◌∷◌, ◌++◌, map, refl, sym, ap, subst, ◌∙◌, arith, inl, inr}
 use Rattle.std.proofs.lemmas.List.{map-append}
 use Rattle.dwz_def_reading.specs.Spelling.{reach}
 use Rattle.dwz_def_reading.specs.Entries.{RawAttr}
@@ -11,7 +11,7 @@ use Rattle.dwz_model.specs.declared.place.Base.TheVariants.{Unit as FromUnit, In
 use Rattle.dwz_def_reading.specs.declared.exprs.Operand.{Operand}
 use Rattle.dwz_def_reading.specs.Documents.{Attr, Loc, Part, Plain, value_map}
 use Rattle.dwz_def_reading.specs.Exprs.{AreNamed, Expression, parts_from, parts_of}
-use Rattle.dwz_def_reading.specs.Meanings.{MeaningContext, MeansValue, entries_for, expr_context, leads_to, number_of, targets}
+use Rattle.dwz_def_reading.specs.Meanings.{MeaningContext, MeansValue, any_with_address, entries_for, expr_context, leads_to, number_of, targets}
 use Rattle.dwz_def_reading.specs.Classes.{OfListIndex, OfOffset}
 use Rattle.dwz_def_reading.specs.Classes.{Class, class_of}
 use Rattle.dwz_def_reading.specs.NamedLists.{NamesAs, NamesList}
@@ -152,8 +152,9 @@ module _ {K P : Type 0} (n : Numbering K) (g : K → P) (unit : ℕ) (t : Tells 
       let can : CanHave (expr_context s 7) number l = record { fit = fit_in (own_operands l) lead; named = named_in (own_operands l) lead } in
       let named = names_again t.named number says.scope s says.old b l is.none_shared says.there patched can alike says.names in
       let refs = same_refs (own_operands l) lead ∙ ap (map g) (sym says.refs) in
-      let same : list_value s number l ≡ value_map g a.value = ap (λ (w : List P). record { plain = Loc (map parts_of exprs); refs = w }) refs
-      ∙ ap (λ (p : Plain). record { plain = p; refs = map g a.value.refs }) (sym says.plain) in
+      let same : list_value s number l ≡ value_map g a.value = ap (λ (w : List P). record { plain = Loc (map parts_of exprs); refs = w; address = any_with_address exprs }) refs
+      ∙ ap (λ (p : Plain). record { plain = p; refs = map g a.value.refs; address = any_with_address exprs }) (sym says.plain)
+      ∙ ap (λ (b : Bool). record { plain = a.value.plain; refs = map g a.value.refs; address = b }) (sym says.address) in
       (named.0, subst (MeansValue s b) same named.1)
 
   pub list_means : ListFits n unit a.value.plain a.value.refs → (b : RawAttr) → b.pair.form ≡ a.form → b.pair.name ≡ a.name → number_of b.raw ≡ a.raw → MeansValue s b (value_map g a.value)

@@ -72,6 +72,7 @@ module _ {K : Type 0} (t : Tells K) (strs offsets : List ℕ) (own : Own K) wher
     bytes = h.bytes;
     spelled = h.spelled;
     plain = h.plain;
+    address = h.address;
     operands = operands_after (parts_of h.expression) a.value.refs h.operands;
   }
 
@@ -89,6 +90,7 @@ module _ {K : Type 0} (t : Tells K) (strs offsets : List ℕ) (own : Own K) wher
     there = h.there;
     names = h.names;
     plain = h.plain;
+    address = h.address;
     refs = h.refs;
     operands = operands_after (joined_parts (map parts_of h.list.list.exprs)) a.value.refs h.operands;
   }

@@ -14,7 +14,7 @@ use Rattle.dwz_def_reading.specs.Trees.{End, Entry, IfChildren, Position, Spells
 use Rattle.dwz_def_reading.specs.Values.{Bytes, Number, Raw, SpellsShape, SpellsValue, shape_of, value_bytes, written_rows}
 use Rattle.dwz_def_reading.proofs.WrittenLemmas.{value_written}
 use Rattle.dwz_def_reading.specs.Lists.{Each}
-use Rattle.dwz_def_encoding.specs.Fitting.{AttrFits, EntriesFit, FitsAs, FitsInfo, FitsUnit, NodeFits, back_forms, depth}
+use Rattle.dwz_def_encoding.specs.Fitting.{AttrFits, EntriesFit, FitsAs, FitsInfo, FitsUnit, NodeFits, all_forms, depth}
 use Rattle.dwz_def_encoding.specs.Placing.{Stands, zeros}
 use Rattle.dwz_def_encoding.specs.Sound.{HasBytes, SoundAttr, SoundEntries, SoundNode, StoresAs}
 use Rattle.dwz_def_encoding.specs.Writing.{DeclarationShape as TableShape, Numbering, any, attrs_bytes, code_bytes, code_in, coded, declaration_of, expr_bytes, first_place, if_any, node_bytes}
@@ -96,7 +96,7 @@ code_spelled table s h few =
     let fits : h.code < 2 ^ 64 = omega (arith, b.1, few) in
     rw h.is (record { code = h.code; spelled = uleb_spells h.code fits; some_code = omega (arith, b.0); declared = code_found 1 table s h.code h.is })
 
-module _ {K : Type 0} (n : Numbering K) (unit : ℕ) (table : List TableShape) (root_tag end : ℕ) (mode : Mode) (forms : mode.forms ≡ back_forms) where
+module _ {K : Type 0} (n : Numbering K) (unit : ℕ) (table : List TableShape) (root_tag end : ℕ) (mode : Mode) (forms : mode.forms ≡ all_forms) where
   pub entry_spelled : (e : Node K) (children : Entries K) (p : Position) (start : ℕ) (h : Has table (entry_shape e children)) → length table < 2 ^ 63 → SoundNode e → NodeFits n unit e
       → n.place e.at ≡ start
       → (p.depth ≡ 1 → e.tag ≡ root_tag) → p.depth ≤ mode.depth → p.before < mode.entries

@@ -99,7 +99,7 @@ map_same [] = refl
 map_same (p ∷ ps) = ap (λ (w : List ℕ). p ∷ w) (map_same ps)
 
 attr_same : (b : Attr ℕ) → b ≡ attr_map (λ p. p) b
-attr_same b = ap (λ (w : List ℕ). record { name = b.name; form = b.form; raw = b.raw; value = record { plain = b.value.plain; refs = w } }) (map_same b.value.refs)
+attr_same b = ap (λ (w : List ℕ). record { name = b.name; form = b.form; raw = b.raw; value = record { plain = b.value.plain; refs = w; address = b.value.address } }) (map_same b.value.refs)
 
 module _ (from : From) (origin : Bases) (s : MeaningContext ℕ) (same : (a : RawAttr) → from s a) (unit : bases_of s ≡ origin) where
   attrs_carried : (raw : List RawAttr) (attrs : List (Attr ℕ)) → MeanAttrs s raw attrs → Each IsStored raw → Each BuiltAttr attrs → Each (CarriedAttr from origin) attrs

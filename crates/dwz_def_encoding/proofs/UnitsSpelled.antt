@@ -8,7 +8,7 @@ use Rattle.dwz_def_reading.specs.Entries.{Mode, SpellsFront, UnitContext, root_p
 use Rattle.dwz_def_reading.specs.Trees.{End, Entry, SpellsForest, first_below, size}
 use Rattle.dwz_def_reading.specs.Units.{SpellsHeader, SpellsTree, SpellsUnit, SpellsUnits, entry_count, root_tag}
 use Rattle.dwz_def_reading.specs.Lists.{Each}
-use Rattle.dwz_def_encoding.specs.Fitting.{UnitFits, back_forms, depth, entry_total}
+use Rattle.dwz_def_encoding.specs.Fitting.{UnitFits, all_forms, depth, entry_total}
 use Rattle.dwz_def_encoding.specs.Placing.{UnitStands, UnitsStand}
 use Rattle.dwz_def_encoding.specs.Sound.{SoundKind, SoundUnit}
 use Rattle.dwz_def_encoding.specs.Writing.{DeclarationShape, Numbering, abbrevs_of, attrs_bytes, declaration_shape, if_any, joined, node_bytes, spelled, table_of, table_offset, tree_bytes, unit_bytes}
@@ -75,7 +75,7 @@ pub record Writes {K : Type 0} (n : Numbering K) (tables : List (List ℕ)) (mod
   pub fits : UnitFits n u
   pub whole : mode.whole ≡ true
   pub partial : mode.partial ≡ true
-  pub forms : mode.forms ≡ back_forms
+  pub forms : mode.forms ≡ all_forms
   pub deep : suc (depth u.below) ≤ mode.depth
   pub room : before + (size u.below + 1) ≤ mode.entries
   pub small : written_unit_size n (n.place u.at) u < 2 ^ 32 - 16
@@ -167,7 +167,7 @@ units_len n tables (u ∷ units) =
 
 module _ {K : Type 0} (n : Numbering K) (tables : List (List ℕ)) (mode : Mode) where
   pub units_spelled : (units : List (DwUnit K)) (at before : ℕ) → UnitsStand n units at → Each SoundUnit units → Each (UnitFits n) units → HasTables tables units
-      → mode.whole ≡ true → mode.partial ≡ true → mode.forms ≡ back_forms → Each (λ u. suc (depth u.below) ≤ mode.depth) units → before + entry_total units ≤ mode.entries
+      → mode.whole ≡ true → mode.partial ≡ true → mode.forms ≡ all_forms → Each (λ u. suc (depth u.below) ≤ mode.depth) units → before + entry_total units ≤ mode.entries
       → units_size n units < 2 ^ 32 - 16 → length (joined tables) < 2 ^ 32
       → SpellsUnits (joined tables) mode before (raw_units n tables units) at (units_bytes n tables units)
   unfolding units_bytes raw_units units_size entry_total

@@ -126,18 +126,18 @@ deepest [] = 0
 deepest (u ∷ units) = max (suc (depth u.below)) (deepest units)
 
 -- the forms of what is read back: also those that lead to a supplementary file
-abbrev pub back_forms : ℕ → Bool → List RowView
-back_forms tag is_root = written_rows
+abbrev pub all_forms : ℕ → Bool → List RowView
+all_forms tag is_root = written_rows
 
 -- just as many and as deep entries as there are
 abbrev pub mode_for : {K : Type 0} → List (DwUnit K) → Mode
-mode_for units = record { entries = entry_total units; depth = deepest units; whole = true; partial = true; forms = back_forms }
+mode_for units = record { entries = entry_total units; depth = deepest units; whole = true; partial = true; forms = all_forms }
 
 -- units of all types and the forms of a supplementary file are read, and so many and so deep entries as there are
 pub record IsRoomy {K : Type 0} (units : List (DwUnit K)) (mode : Mode) : Type 0 where
   pub whole : mode.whole ≡ true
   pub partial : mode.partial ≡ true
-  pub forms : mode.forms ≡ back_forms
+  pub forms : mode.forms ≡ all_forms
   pub entries : entry_total units ≤ mode.entries
   pub depth : Each (λ u. suc (depth u.below) ≤ mode.depth) units
 

@@ -8,7 +8,7 @@ use Rattle.dwz_def_reading.specs.Meanings.{Around, Common, IfSo, MeanUnits, Mean
 use Rattle.dwz_def_reading.specs.Classes.{OfCommonEntry, OfCommonText, OfConstant}
 use Rattle.dwz_def_reading.specs.Classes.{Class}
 use Rattle.dwz_def_reading.specs.Classes.{OfExpression, OfInfoEntry, OfListIndex, OfOffset, OfTextBySlot, OfTextInLineStr, OfTextInStr}
-use Rattle.dwz_def_reading.specs.Meanings.{MeaningContext, all_places, loclists_base, number_of, path_by}
+use Rattle.dwz_def_reading.specs.Meanings.{MeaningContext, all_places, any_with_address, loclists_base, number_of, path_by}
 use Rattle.dwz_def_reading.specs.Classes.{OfUnitEntry}
 use Rattle.dwz_def_reading.specs.Classes.{class_of, names_file, names_list}
 use Rattle.dwz_model.specs.declared.place.Base.{Base}
@@ -142,7 +142,7 @@ OperandsIn t own (Same bytes ∷ parts) refs = OperandsIn t own parts refs
 OperandsIn t own (document.Operand width uleb base ∷ parts) (k ∷ refs) = OperandIn t own base k × OperandsIn t own parts refs
 OperandsIn t own _ _ = ⊥
 
--- the parts are those of an expression, and its operands name such entries
+-- the parts are those of an expression, the value has an address if that has, and its operands name such entries
 pub record ExprSays {K : Type 0} (t : Tells K) (own : Own K) (a : Attr K) : Type 0 where
   pub context : ExprContext
   pub expression : Expression
@@ -150,6 +150,7 @@ pub record ExprSays {K : Type 0} (t : Tells K) (own : Own K) (a : Attr K) : Type
   pub bytes : List ℕ
   pub spelled : SpellsExpr context expression start bytes
   pub plain : a.value.plain ≡ Expr (parts_of expression)
+  pub address : a.value.address ≡ expression.address
   pub operands : OperandsIn t own (parts_of expression) a.value.refs
 
 -- where a number led that was counted from the unit, or from the section
@@ -160,8 +161,8 @@ place_counted FromInfo unit number = number
 abbrev pub led_to : ℕ → Operand → ℕ
 led_to unit o = place_counted o.base unit o.number
 
--- It names a list that was read, which is one of those of the file; the list's operands name entries of the unit, or of any unit of the
--- file, as their numbers are counted: those that they named.
+-- It names a list that was read, which is one of those of the file, and has an address if that has; the list's operands name entries of
+-- the unit, or of any unit of the file, as their numbers are counted: those that they named.
 pub record ListSays {K : Type 0} (t : Tells K) (own : Own K) (a : Attr K) : Type 0 where
   pub scope : MeaningContext ℕ
   pub section : scope.around.sources.lists ≡ t.lists
@@ -175,6 +176,7 @@ pub record ListSays {K : Type 0} (t : Tells K) (own : Own K) (a : Attr K) : Type
   pub there : In list t.named
   pub names : NamesList scope old list
   pub plain : a.value.plain ≡ Loc (map parts_of list.list.exprs)
+  pub address : a.value.address ≡ any_with_address list.list.exprs
   pub refs : a.value.refs ≡ map (λ o. t.name (led_to list.unit o)) (own_operands list)
   pub operands : OperandsIn t own (joined_parts (map parts_of list.list.exprs)) a.value.refs
 

@@ -69,7 +69,7 @@ module _ (f : ℕ → EntryName) (g : EntryName → ℕ) (us : List (DwUnit ℕ)
   attrs_back : (attrs : List (Attr ℕ)) → Names (map named_value attrs) → map named_value attrs ≡ map (named_map g) (map named_value (map (attr_map f) attrs))
   attrs_back [] h = refl
   attrs_back (a ∷ attrs) h =
-      ap (λ (w : List ℕ). record { name = a.name; value = record { plain = a.value.plain; refs = w } } ∷ map named_value attrs) (refs_back a.value.refs (λ p is. h (named_value a) p (inl refl) is))
+      ap (λ (w : List ℕ). record { name = a.name; value = record { plain = a.value.plain; refs = w; address = a.value.address } } ∷ map named_value attrs) (refs_back a.value.refs (λ p is. h (named_value a) p (inl refl) is))
       ∙ ap (λ (w : List (Named ℕ)). named_map g (named_map f (named_value a)) ∷ w) (attrs_back attrs (λ b p is ref. h b p (inr is) ref))
 
   -- an entry stands at a known place, and names known places

@@ -211,7 +211,7 @@ names_by : {P Q R : Type 0} (g : P → Q) (h : P → R) (k : Q → R) → ((x : 
     → map named_value (map (attr_map h) attrs) ≡ map (named_map k) (map named_value (map (attr_map g) attrs))
 names_by g h k same [] = refl
 names_by {P} {Q} {R} g h k same (a ∷ attrs) =
-    ap (λ (w : List R). record { name = a.name; value = record { plain = a.value.plain; refs = w } } ∷ map named_value (map (attr_map h) attrs)) (refs_by a.value.refs)
+    ap (λ (w : List R). record { name = a.name; value = record { plain = a.value.plain; refs = w; address = a.value.address } } ∷ map named_value (map (attr_map h) attrs)) (refs_by a.value.refs)
     ∙ ap (λ (w : List (Named R)). named_map k (named_map g (named_value a)) ∷ w) (names_by g h k same attrs)
   where
     refs_by : (xs : List P) → map h xs ≡ map k (map g xs)

@@ -9,7 +9,7 @@ use Rattle.dwz_def_reading.specs.Trees.{End, Entry}
 use Rattle.dwz_def_reading.specs.Values.{value_bytes}
 use Rattle.dwz_def_tops.specs.Seen.{seen}
 use Rattle.dwz_def_tops.specs.Spaces.{space_text, tops_under}
-use Rattle.dwz_def_tops.specs.Alike.{Apart, TopScope, Together, any_entry, is_addressed, unit_in}
+use Rattle.dwz_def_tops.specs.Alike.{Apart, TopScope, Together, any_entry, unit_in}
 use Rattle.dwz_def_tops.specs.Deciding.{alike_test, bound_test, look_test, same_by, same_entries, same_int, same_part, same_plain, top_in}
 use Rattle.dwz_def_tops.specs.Spots.{EntryName, FileUnit, Import, InChain, PartialOf, SpaceAt, UnitOf, Within, entry_spots, named_files, row_from, row_in, row_tops, same_numbers, same_spot, spot_in}
 use Rattle.dwz_def_tops.specs.Spots.{spots_from, top_spots, tops_among, tops_from}
@@ -34,7 +34,7 @@ shown units = map {B = EntryName × List EntryName} (λ v. (v.at, map (λ e. e.a
 -- the units of a file, and of the common one
 after : TopScope → List (FileUnit EntryName) → ℕ → List (EntryName × List EntryName)
 unfolding entries_map first_named has any_entry unit_in alike_test bound_test look_test same_by same_entries same_int same_part same_plain top_in entry_spots named_files tops_under space_text
-    same_numbers same_spot spot_in spots_from top_spots tops_among tops_from row_from row_in row_tops is_addressed candidate file_of first_alike home numbers_from users attrs_weight bare_bytes
+    same_numbers same_spot spot_in spots_from top_spots tops_among tops_from row_from row_in row_tops candidate file_of first_alike home numbers_from users attrs_weight bare_bytes
     entries_weight gain_test gains_test group_weight weights value_bytes form_rows le_bytes padded groups_in seen line_attrs part_at root_of beside chain_down chains distinct imports is_pinned
     is_pinned_at joined_parts leading local_partials partials partials_at representatives row_part row_pinned row_staying stand_in top_row uleb_targets changes common_units kept_units out_units
     partial_units tree

@@ -151,7 +151,7 @@ module _ (f : EntryName → EntryName) (g : ℕ → EntryName) (fixed : (x : ℕ
   attrs_fixed : (attrs : List (Attr ℕ)) → map (attr_map f) (map (attr_map g) attrs) ≡ map (attr_map g) attrs
   attrs_fixed [] = refl
   attrs_fixed (a ∷ attrs) =
-      ap (λ (w : List EntryName). record { name = a.name; form = a.form; raw = a.raw; value = record { plain = a.value.plain; refs = w } } ∷ map (attr_map f) (map (attr_map g) attrs))
+      ap (λ (w : List EntryName). record { name = a.name; form = a.form; raw = a.raw; value = record { plain = a.value.plain; refs = w; address = a.value.address } } ∷ map (attr_map f) (map (attr_map g) attrs))
       (refs_fixed a.value.refs)
       ∙ ap (λ (w : List (Attr EntryName)). attr_map g a ∷ w) (attrs_fixed attrs)
 

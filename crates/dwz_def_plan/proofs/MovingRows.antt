@@ -7,7 +7,7 @@ use Rattle.dwz_def_reading.specs.Documents.{Block, Expr, File, Flag, Num, Plain,
 use Rattle.dwz_def_reading.specs.Rows.{has}
 use Rattle.dwz_def_reading.specs.Values.{value_bytes}
 use Rattle.dwz_def_tops.specs.Spaces.{space_text, tops_under}
-use Rattle.dwz_def_tops.specs.Alike.{Apart, Together, TopScope, any_entry, is_addressed, unit_in}
+use Rattle.dwz_def_tops.specs.Alike.{Apart, Together, TopScope, any_entry, unit_in}
 use Rattle.dwz_def_tops.specs.Deciding.{alike_test, bound_test, look_test, same_by, same_entries, same_int, same_part, same_plain, top_in}
 use Rattle.dwz_def_tops.specs.Spots.{EntryName, FileUnit, entry_spots, named_files, row_in, row_tops, same_numbers, spot_in, spots_from, top_spots, tops_among, tops_from, tops_of}
 use Rattle.dwz_def_plan.specs.Gain.{attrs_weight, bare_bytes, entries_weight, gain_rule, gain_test, gains_test, group_weight, top_weight, value_weight, weights}
@@ -29,7 +29,7 @@ gained_in scope units = gain_rule (alike_test scope units) units
 -- which tops move
 moving : Rule → List (FileUnit EntryName) → List Bool
 unfolding entries_map first_named has any_entry unit_in alike_test bound_test look_test same_by same_entries same_int same_part same_plain top_in entry_spots named_files tops_under space_text
-    same_numbers spot_in spots_from top_spots tops_among tops_from row_in row_tops is_addressed candidate file_of first_alike home numbers_from users attrs_weight bare_bytes entries_weight gain_test
+    same_numbers spot_in spots_from top_spots tops_among tops_from row_in row_tops candidate file_of first_alike home numbers_from users attrs_weight bare_bytes entries_weight gain_test
     gains_test group_weight weights value_bytes form_rows le_bytes padded groups_in
 moving rule units = map (λ t. moves rule units t.number) (tops_of units)
 

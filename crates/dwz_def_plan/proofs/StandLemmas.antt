@@ -8,7 +8,7 @@ use Rattle.dwz_def_plan.specs.Homes.{IsChoice, Rule, candidate, is_home, moves, 
 use Rattle.dwz_def_plan.specs.Plan.{image_by, stand_in}
 use Rattle.dwz_def_tops.proofs.AlikePer.{alike_per, alike_step}
 use Rattle.dwz_def_tops.proofs.Relations.{step_top, tells_top}
-use Rattle.dwz_def_tops.proofs.Targets.{Inside, RefsOfTop, inside, refers_one, targets_by}
+use Rattle.dwz_def_tops.proofs.Targets.{Inside, RefsOfTop, inside, no_address, refers_one, targets_by}
 use Rattle.dwz_def_plan.proofs.ImageLemmas.{seen_top, top_same}
 use Rattle.dwz_def_plan.proofs.UserLemmas.{Fair, chosen_moves, moves_other, stands_same, two_candidate, used, used_by}
 
@@ -81,7 +81,8 @@ module _ (scope : TopScope) (units : List (FileUnit EntryName)) (rule : Rule) (i
       let stands = step_top (Moves a.unit) (Inside units r.unit) (λ m n. rule.alike m n ≡ true) (λ m n. stand m ≡ stand n)
       (λ m n u v same. stands_same units rule fair m n u.0.stands.top u.0.stands.there u.0.stands.number same u.1)
       a r (targets_move a x mv) within (alike_step scope units rule.alike is a r x y e) in
-      top_same stand (Inside units r.unit) a r (stands_same units rule fair a.number r.number a x refl e mv) (labelled a x) (labelled r y) within stands
+      top_same stand (Inside units r.unit) a r (stands_same units rule fair a.number r.number a x refl e mv) (labelled a x) (labelled r y) (no_address units a x d.first)
+      (no_address units r y d.second) within stands
 
   -- a reference of what moves
   pub target_moves : (t : Top) → In t (tops_of units) → moves rule units t.number ≡ true → (m : ℕ) → refers_to m t ≡ true

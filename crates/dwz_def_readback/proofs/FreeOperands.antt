@@ -17,7 +17,7 @@ use Rattle.dwz_def_reading.specs.Classes.{OfTextInStr, OfUnitEntry}
 use Rattle.dwz_def_reading.specs.Classes.{class_in, class_of, class_rows, names_file, names_list}
 use Rattle.dwz_def_tops.specs.Lists.{Nth}
 use Rattle.dwz_def_tops.proofs.Members.{each_in, each_more, each_of}
-use Rattle.dwz_def_tops.specs.Alike.{IsAlike, Movable, TopScope, binding_forms, has_address, has_operand, holds_place, is_named, is_operand, leaves}
+use Rattle.dwz_def_tops.specs.Alike.{IsAlike, Movable, TopScope, binding_forms, has_operand, holds_place, is_named, is_operand, leaves}
 use Rattle.dwz_def_tops.specs.Spots.{EntryName, FileUnit, PartialOf, Top, tops_of}
 use Rattle.dwz_def_tops.proofs.Targets.{free_attr, not_named}
 use Rattle.dwz_def_plan.specs.Homes.{Common, Home, IsChoice, Local, Rule, Stay, is_home, moves}
@@ -253,10 +253,10 @@ module _ (scope : TopScope) (units : List (FileUnit EntryName)) (rule : Rule) (i
   unfolding has
   top_free t there e d x a a_in =
       let one = free_attr units t there (moving_free t.number e) d x a a_in in
-      let form = or_left (has a.form binding_forms) (holds_place a.value.plain || list_any (leaves (tops_of units) t.unit) a.value.refs) one in
-      let rest = or_right (has a.form binding_forms) (holds_place a.value.plain || list_any (leaves (tops_of units) t.unit) a.value.refs) one in
+      let form = or_left (has a.form binding_forms) (holds_place a.value || list_any (leaves (tops_of units) t.unit) a.value.refs) one in
+      let rest = or_right (has a.form binding_forms) (holds_place a.value || list_any (leaves (tops_of units) t.unit) a.value.refs) one in
       record {
-        expression = λ c. or_left (has_operand a.value.plain) (has_address a.value.plain) (or_left (holds_place a.value.plain) (list_any (leaves (tops_of units) t.unit) a.value.refs) rest);
+        expression = λ c. or_left (has_operand a.value.plain) a.value.address (or_left (holds_place a.value) (list_any (leaves (tops_of units) t.unit) a.value.refs) rest);
         offset = λ c. absurd (bound a.form 0x17 (offset_form a.form c) refl form);
         index = λ c. absurd (bound a.form 0x22 (list_form a.form c) refl form);
       }

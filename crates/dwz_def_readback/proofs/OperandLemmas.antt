@@ -73,6 +73,7 @@ module _ {K L : Type 0} (f : K → L) (t : Tells K) (own : Own K) (t' : Tells L)
         there = subst (In h.list) (sym follows.named) h.there;
         names = h.names;
         plain = h.plain;
+        address = h.address;
         refs = ap (map f) h.refs ∙ names_follow h.list.unit (own_operands h.list);
         operands = parts_to (joined_parts exprs) a.value.refs (λ base k there some is. go base k there (ap has_operand h.plain ∙ any_joined exprs some) is) h.operands;
       }

@@ -9,11 +9,11 @@ use Rattle.dwz_def_reading.specs.Trees.{End, Entry, Forest, IfChildren, Position
 use Rattle.dwz_def_reading.specs.Units.{RawUnit, SpellsTree, SpellsUnit, SpellsUnits, is_read, unit_type}
 use Rattle.dwz_def_reading.specs.Values.{constant_of, written_rows}
 use Rattle.dwz_def_reading.proofs.WrittenLemmas.{same_shape}
-use Rattle.dwz_def_encoding.specs.Fitting.{back_forms}
+use Rattle.dwz_def_encoding.specs.Fitting.{all_forms}
 
 -- the same limits
 abbrev pub wider : Mode → Mode
-wider mode = record { entries = mode.entries; depth = mode.depth; whole = mode.whole; partial = true; forms = back_forms }
+wider mode = record { entries = mode.entries; depth = mode.depth; whole = mode.whole; partial = true; forms = all_forms }
 
 abbrev again : UnitContext → UnitContext
 again c = record c { mode = wider c.mode }

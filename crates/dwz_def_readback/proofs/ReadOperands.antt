@@ -110,6 +110,7 @@ module _ (t : Tells ℕ) (w : Own ℕ) (s : MeaningContext ℕ) (knows : Knows t
     there = there;
     names = names;
     plain = ap (λ (v : Value ℕ). v.plain) value;
+    address = ap (λ (v : Value ℕ). v.address) value;
     refs = ap (λ (v : Value ℕ). v.refs) value ∙ refs_same l.unit unit (own_operands l);
     operands = subst (OperandsIn t w (joined_parts (map parts_of l.list.exprs))) (sym (ap (λ (v : Value ℕ). v.refs) value)) (exprs_read l.list.exprs named);
   }

@@ -15,7 +15,7 @@ use Rattle.dwz_def_reading.specs.Meanings.{Around, Common, IfSo, IsExpression, I
 use Rattle.dwz_def_reading.specs.Classes.{OfAddress, OfBlock}
 use Rattle.dwz_def_reading.specs.Classes.{Class}
 use Rattle.dwz_def_reading.specs.Classes.{OfCommonEntry, OfCommonText, OfConstant, OfExpression, OfFlag, OfIndex, OfInfoEntry, OfListIndex, OfOffset, OfSignature, OfText, OfTextBySlot, OfTextInLineStr}
-use Rattle.dwz_def_reading.specs.Meanings.{MeaningContext, block_begins, bytes_of, constant_value, entries_for, expr_context, leads_to, number_of}
+use Rattle.dwz_def_reading.specs.Meanings.{MeaningContext, any_with_address, block_begins, bytes_of, constant_value, entries_for, expr_context, leads_to, number_of}
 use Rattle.dwz_def_reading.specs.Classes.{OfTextInStr, OfUnitEntry, Unread}
 use Rattle.dwz_def_reading.specs.Classes.{class_of, names_file, names_list}
 use Rattle.dwz_def_reading.specs.Meanings.{offset_of, scope_of, stmt_list, target_of, targets, without_siblings}
@@ -54,7 +54,7 @@ module _ {P Q : Type 0} (f : P → Q) (common : Option (Common Q)) (s : MeaningC
       record {
         expression = h.expression;
         spelled = subst (λ (c : ExprContext). SpellsExpr c h.expression (block_begins a) (bytes_of a.raw)) (same_context 1) h.spelled;
-        value = ap (λ (w : Value P). value_map f w) h.value ∙ sym (ap (λ (w : List Q). record { plain = plain; refs = w }) (same_targets h.expression.operands));
+        value = ap (λ (w : Value P). value_map f w) h.value ∙ sym (ap (λ (w : List Q). record { plain = plain; refs = w; address = h.expression.address }) (same_targets h.expression.operands));
       }
 
   list_there : (place : ℕ) (v : Value P) → IsLocList s place v → IsLocList there place (value_map f v)
@@ -64,7 +64,7 @@ module _ {P Q : Type 0} (f : P → Q) (common : Option (Common Q)) (s : MeaningC
         list = h.list;
         within = h.within;
         stands = subst (λ (c : ExprContext). StandsFrom (SpellsList c) s.around.sources.lists place h.list) (same_context 7) h.stands;
-        value = ap (λ (w : Value P). value_map f w) h.value ∙ sym (ap (λ (w : List Q). record { plain = plain; refs = w }) (same_targets (operands_of h.list.exprs)));
+        value = ap (λ (w : Value P). value_map f w) h.value ∙ sym (ap (λ (w : List Q). record { plain = plain; refs = w; address = any_with_address h.list.exprs }) (same_targets (operands_of h.list.exprs)));
       }
 
   text_there : (section : List ℕ) (offset : ℕ) (v : Value P) → IsTextIn section offset v → IsTextIn section offset (value_map f v)

@@ -36,7 +36,7 @@ module _ {P Q : Type 0} (f g : P → Q) (us : List (DwUnit P)) (same : (k : P) �
   attrs_as : (attrs : List (Named P)) → Names attrs → map (named_map f) attrs ≡ map (named_map g) attrs
   attrs_as [] h = refl
   attrs_as (a ∷ attrs) h =
-      ap (λ (w : List Q). record { name = a.name; value = record { plain = a.value.plain; refs = w } } ∷ map (named_map f) attrs) (refs_as a.value.refs (λ p is. h a p (inl refl) is))
+      ap (λ (w : List Q). record { name = a.name; value = record { plain = a.value.plain; refs = w; address = a.value.address } } ∷ map (named_map f) attrs) (refs_as a.value.refs (λ p is. h a p (inl refl) is))
       ∙ ap (λ (w : List (Named Q)). named_map g a ∷ w) (attrs_as attrs (λ b p is ref. h b p (inr is) ref))
 
   abbrev Good : Seen P → Type 0

@@ -22,7 +22,7 @@ use Rattle.dwz_def_images.specs.Images.{IsAlone, OneImage}
 use Rattle.dwz_def_images.specs.Units.{all_units, changes, common_units, out_units}
 use Rattle.dwz_def_encoding.specs.Bases.{bases_in}
 use Rattle.dwz_def_encoding.specs.Carried.{BasesStand, CarriedUnit, ClosedIn, From, OfAny, OfFile, OperandsStand}
-use Rattle.dwz_def_encoding.specs.Fitting.{UnitHasRoom, back_forms}
+use Rattle.dwz_def_encoding.specs.Fitting.{UnitHasRoom, all_forms}
 use Rattle.dwz_def_encoding.specs.Meant.{Tells, all_entry_keys, placed_units}
 use Rattle.dwz_def_encoding.specs.Placing.{FitsSections, Forms, fit_units}
 use Rattle.dwz_def_encoding.specs.Writing.{Numbering}
@@ -55,7 +55,7 @@ pub record SaysUnits (common : Option (Common Place)) (number : ℕ) (bytes : Li
   pub mode : Mode
   pub whole : mode.whole ≡ true
   pub partial : mode.partial ≡ true
-  pub forms : mode.forms ≡ back_forms
+  pub forms : mode.forms ≡ all_forms
   pub spelled : SpellsUnits (debug_abbrev bytes) mode 0 raw 0 (debug_info bytes)
   pub means : MeanUnits (around_in common number bytes raw) raw units
   pub ranges : HaveGoodRanges bytes raw

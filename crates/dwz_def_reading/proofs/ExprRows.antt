@@ -1,5 +1,5 @@
 -- What small expressions, lists, line tables and sets say, by the definitions.
-use Rattle.std.proofs.Common.{◌≡◌, ℕ, pos, ◌+◌, true, false, List, [], ◌∷◌, ◌++◌, Some, None, Result, Ok, Err, refl}
+use Rattle.std.proofs.Common.{◌≡◌, ℕ, pos, ◌+◌, Bool, true, false, List, [], ◌∷◌, ◌++◌, Some, None, Result, Ok, Err, map, refl}
 use Rattle.std.specs.Prelude.{codes}
 use Rattle.dwz_model.specs.declared.fault.Fault.{Fault}
 use Rattle.dwz_model.specs.declared.fault.Reason.{Reason}
@@ -77,7 +77,7 @@ unfolding means
 frame = refl
 
 -- convert 2a, padded to two bytes; and call_ref 0x50, an entry of another unit
-convert : exprloc (0xa8 ∷ 0xaa ∷ 0 ∷ 0x9f ∷ []) ≡ Ok (record { plain = Expr (Same (0xa8 ∷ []) ∷ document.Operand 2 true FromUnit ∷ Same (0x9f ∷ []) ∷ []); refs = 0x2a ∷ [] })
+convert : exprloc (0xa8 ∷ 0xaa ∷ 0 ∷ 0x9f ∷ []) ≡ Ok (record { plain = Expr (Same (0xa8 ∷ []) ∷ document.Operand 2 true FromUnit ∷ Same (0x9f ∷ []) ∷ []); refs = 0x2a ∷ []; address = false })
 unfolding means
 convert = refl
 
@@ -85,7 +85,7 @@ generic : exprloc (0xa8 ∷ 0 ∷ []) ≡ Ok (only (Expr (Same (0xa8 ∷ 0 ∷ [
 unfolding means
 generic = refl
 
-call_ref : exprloc (0x9a ∷ 0x50 ∷ 0 ∷ 0 ∷ 0 ∷ []) ≡ Ok (record { plain = Expr (Same (0x9a ∷ []) ∷ document.Operand 4 false FromInfo ∷ Same [] ∷ []); refs = 0x50 ∷ [] })
+call_ref : exprloc (0x9a ∷ 0x50 ∷ 0 ∷ 0 ∷ 0 ∷ []) ≡ Ok (record { plain = Expr (Same (0x9a ∷ []) ∷ document.Operand 4 false FromInfo ∷ Same [] ∷ []); refs = 0x50 ∷ []; address = false })
 unfolding means
 call_ref = refl
 
@@ -103,13 +103,36 @@ unfolding means
 cut_off = refl
 
 -- in an entry_value, an operand; and one inside that isn't whole
-inside : exprloc (0xa3 ∷ 2 ∷ 0xa8 ∷ 0x2a ∷ 0x9f ∷ []) ≡ Ok (record { plain = Expr (Same (0xa3 ∷ 2 ∷ 0xa8 ∷ []) ∷ document.Operand 1 true FromUnit ∷ Same (0x9f ∷ []) ∷ []); refs = 0x2a ∷ [] })
+inside : exprloc (0xa3 ∷ 2 ∷ 0xa8 ∷ 0x2a ∷ 0x9f ∷ []) ≡ Ok (record { plain = Expr (Same (0xa3 ∷ 2 ∷ 0xa8 ∷ []) ∷ document.Operand 1 true FromUnit ∷ Same (0x9f ∷ []) ∷ []); refs = 0x2a ∷ []; address = false })
 unfolding means
 inside = refl
 
 cut_inside : exprloc (0xa3 ∷ 1 ∷ 0xa8 ∷ 0x2a ∷ []) ≡ fault 1 0x43 BadExpr
 unfolding means
 cut_inside = refl
+
+-- ---- addresses
+
+abbrev said_address : Result (Value ℕ) Fault → Bool
+said_address (Ok v) = v.address
+said_address (Err f) = false
+
+-- fbreg -20 and none at all; const1u, whose byte is the code of addr; addr, addrx, constx, and an addrx in an entry_value behind
+-- another operator
+addresses : map (λ bytes. said_address (exprloc bytes)) (
+    (0x91 ∷ 0x6c ∷ []) ∷ [] ∷ (0x08 ∷ 0x03 ∷ [])
+    ∷ (0x03 ∷ 0 ∷ 0x40 ∷ 0x40 ∷ 0 ∷ 0 ∷ 0 ∷ 0 ∷ 0 ∷ []) ∷ (0xa1 ∷ 0 ∷ []) ∷ (0xa2 ∷ 0 ∷ 0x9f ∷ []) ∷ (0x50 ∷ 0xa3 ∷ 2 ∷ 0xa1 ∷ 5 ∷ []) ∷ []
+    )
+    ≡ false ∷ false ∷ false ∷ true ∷ true ∷ true ∷ true ∷ []
+unfolding means
+addresses = refl
+
+-- the whole value
+with_address : exprloc (0x03 ∷ 0 ∷ 0x10 ∷ 0 ∷ 0 ∷ 0 ∷ 0 ∷ 0 ∷ 0 ∷ []) ≡ Ok (record { plain = Expr (Same (0x03 ∷ 0 ∷ 0x10 ∷ 0 ∷ 0 ∷ 0 ∷ 0 ∷ 0 ∷ 0 ∷ []) ∷ []); refs = []; address = true })
+unfolding means
+with_address = refl
+
+-- ---- inside one another
 
 -- eight inside one another, and nine
 eight : exprloc (0xa3 ∷ 14 ∷ 0xa3 ∷ 12 ∷ 0xa3 ∷ 10 ∷ 0xa3 ∷ 8 ∷ 0xa3 ∷ 6 ∷ 0xa3 ∷ 4 ∷ 0xa3 ∷ 2 ∷ 0xa3 ∷ 0 ∷ [])
@@ -123,7 +146,7 @@ nine = refl
 
 -- ---- lists
 
-list : means [] (stored 0x44 0x02 0x17 (number 0x0c)) ≡ Ok (record { plain = Loc ((Same (0x70 ∷ 0 ∷ 0xa8 ∷ []) ∷ document.Operand 1 true FromUnit ∷ Same (0x9f ∷ []) ∷ []) ∷ []); refs = 0x2a ∷ [] })
+list : means [] (stored 0x44 0x02 0x17 (number 0x0c)) ≡ Ok (record { plain = Loc ((Same (0x70 ∷ 0 ∷ 0xa8 ∷ []) ∷ document.Operand 1 true FromUnit ∷ Same (0x9f ∷ []) ∷ []) ∷ []); refs = 0x2a ∷ []; address = false })
 unfolding means
 list = refl
 

@@ -15,7 +15,7 @@ use Rattle.dwz_def_reading.specs.NamedLists.{IsNamedAt, IsNamedBySlot, NamesAs, 
 use Rattle.dwz_def_reading.specs.PatchedLists.{CanHave, IsPatched, NamesAlike, list_value, list_with, named_with, with_number}
 use Rattle.dwz_def_reading.specs.Sequences.{StandsFrom}
 use Rattle.dwz_def_reading.specs.Shared.{Clashes, IsInSlot, IsShared, ListOperand, NamedList, NoneShared, ReadsInside, of_unit, operands_in_lists, own_operands}
-use Rattle.dwz_def_reading.proofs.PatchedListLemmas.{list_operands, list_parts, list_stands, slot_stays}
+use Rattle.dwz_def_reading.proofs.PatchedListLemmas.{list_addresses, list_operands, list_parts, list_stands, slot_stays}
 
 module _ {P Q : Type 0} (lists : List NamedList) (number : ℕ → ℕ) (s : MeaningContext P) (d : MeaningContext Q) (a b : RawAttr) (l : NamedList) (none : NoneShared lists) (there : In l lists)
     (patched : IsPatched lists number s.around.sources.lists d.around.sources.lists) (can : CanHave (expr_context d 7) number l) (alike : NamesAlike s d a b) where
@@ -32,9 +32,10 @@ module _ {P Q : Type 0} (lists : List NamedList) (number : ℕ → ℕ) (s : Mea
       subst (λ (p : ℕ). StandsFrom (SpellsList (expr_context d 7)) d.around.sources.lists p (list_with number l.list)) from new in
       let within : other < length d.around.sources.lists = omega (arith, same, n.within, patched.len) in
       let parts = list_parts number (expr_context s 7) l.from stands.front l.list stands.spelled in
-      let operands = list_operands number l.list.exprs in (
+      let operands = list_operands number l.list.exprs in
+      let addresses = list_addresses number l.list.exprs in (
         record { unit = refl; from = from; slot_is = n.slot_is; within = within; stands = moved },
-        record { list = list_with number l.list; within = within; stands = moved; value = λ i. record { plain = Loc (sym parts i); refs = targets d (sym operands i) } },
+        record { list = list_with number l.list; within = within; stands = moved; value = λ i. record { plain = Loc (sym parts i); refs = targets d (sym operands i); address = sym addresses i } },
       )
 
   by_slot : (index other : ℕ) → other ≡ index → IsNamedBySlot s index l → IsNamedBySlot d other again × IsListBySlot d other (list_value d number l)

@@ -1,5 +1,5 @@
 -- An expression with other numbers in its operands is spelled, and means the same parts with other entries.
-use Rattle.std.proofs.Common.{◌≡◌, ℕ, suc, ◌+◌, ◌-◌, List, [], ◌∷◌, length, drop, map, refl, sym, ap, subst, ◌∙◌, arith}
+use Rattle.std.proofs.Common.{◌≡◌, ℕ, suc, ◌+◌, ◌-◌, Bool, List, [], ◌∷◌, length, drop, map, refl, sym, ap, subst, ◌∙◌, arith}
 use Rattle.std.proofs.lemmas.List.{length-map}
 use Rattle.dwz_def_reading.specs.Entries.{RawAttr}
 use Rattle.dwz_def_reading.specs.Values.{AreBytes}
@@ -111,10 +111,10 @@ module _ {P : Type 0} (d : MeaningContext P) (section from to : ℕ) where
         refs_are = (λ i. sym h.2 i ∷ rest.refs_are i);
       }
 
-pub patched_value : {P : Type 0} (d : MeaningContext P) (b : RawAttr) (parts : List Part) (numbers : List ℕ) (refs : List P) → AreParts parts → LeadTo d parts numbers refs
-    → bytes_of b.raw ≡ filled parts numbers
-    → IsExpression d b (record { plain = Expr parts; refs = refs })
-patched_value d b parts numbers refs is lead bytes =
+pub patched_value : {P : Type 0} (d : MeaningContext P) (b : RawAttr) (parts : List Part) (numbers : List ℕ) (refs : List P) (address : Bool) → AreParts parts address
+    → LeadTo d parts numbers refs → bytes_of b.raw ≡ filled parts numbers
+    → IsExpression d b (record { plain = Expr parts; refs = refs; address = address })
+patched_value d b parts numbers refs address is lead bytes =
     let e = is.expression in
     let at = block_begins b in
     let leads = all_lead d 1 e.at at e.at e.bytes e.operands numbers refs (subst (λ (w : List Part). LeadTo d w numbers refs) is.are lead) in
@@ -126,11 +126,21 @@ patched_value d b parts numbers refs is lead bytes =
     record {
       expression = patched_expr at e numbers;
       spelled = subst (λ (w : List ℕ). SpellsExpr (expr_context d 1) (patched_expr at e numbers) at w) written spelled;
-      value = λ i. record { plain = Expr (shown i); refs = sym leads.refs_are i };
+      value = λ i. record { plain = Expr (shown i); refs = sym leads.refs_are i; address = is.addressed i };
     }
 
 -- the parts of a value are those of an expression
-pub given_parts : {P : Type 0} (s : MeaningContext P) (a : RawAttr) (v : Value P) (parts : List Part) → IsExpression s a v → v.plain ≡ Expr parts → AreParts parts
+pub given_parts : {P : Type 0} (s : MeaningContext P) (a : RawAttr) (v : Value P) (parts : List Part) → IsExpression s a v → v.plain ≡ Expr parts
+    → AreParts parts v.address
 given_parts {P} s a v parts is plain =
     let same : Expr parts ≡ Expr (parts_of is.expression) = sym plain ∙ ap (λ (w : Value P). w.plain) is.value in
-    record { context = expr_context s 1; expression = is.expression; start = block_begins a; bytes = bytes_of a.raw; spelled = is.spelled; are = cc }
+    let shown : parts ≡ parts_of is.expression = cc in
+    record {
+      context = expr_context s 1;
+      expression = is.expression;
+      start = block_begins a;
+      bytes = bytes_of a.raw;
+      spelled = is.spelled;
+      are = shown;
+      addressed = ap (λ (w : Value P). w.address) is.value;
+    }

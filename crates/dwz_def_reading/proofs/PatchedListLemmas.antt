@@ -1,5 +1,5 @@
 -- Where lists share nothing, each list of the section with other numbers is the old one with these numbers, and slots hold what they held.
-use Rattle.std.proofs.Common.{◌≡◌, ℕ, suc, ◌+◌, ◌-◌, ◌<◌, ◌≤◌, List, [], ◌∷◌, ◌++◌, length, take, drop, get_or, map, Some, refl, sym, ap, subst, ◌∙◌, inl, inr, arith}
+use Rattle.std.proofs.Common.{◌≡◌, ℕ, suc, ◌+◌, ◌-◌, ◌<◌, ◌≤◌, ◌||◌, Bool, List, [], ◌∷◌, ◌++◌, length, take, drop, get_or, map, Some, refl, sym, ap, subst, ◌∙◌, inl, inr, arith}
 use Rattle.std.proofs.lemmas.List.{drop-drop, length-append, length-map, length-take-le, map-append, take-append-drop}
 use Rattle.std.proofs.Math.Seq.{drop-append_seam, take-append_seam}
 use Rattle.dwz_bytes.specs.Spelling.{SpellsFixed}
@@ -8,6 +8,7 @@ use Rattle.dwz_def_reading.specs.Texts.{IsSlot, slot_place}
 use Rattle.dwz_def_reading.specs.declared.exprs.Operand.{Operand}
 use Rattle.dwz_def_reading.specs.Exprs.{AreNamed, ExprContext, Expression, FieldItem, SpellsExpr, expressions_in, joined_items, most_inside, operands_in, parts_from, parts_of}
 use Rattle.dwz_def_reading.specs.LocLists.{EndsList, LocList, SpellsList, SpellsListEntry}
+use Rattle.dwz_def_reading.specs.Meanings.{any_with_address}
 use Rattle.dwz_def_reading.specs.PatchedLists.{CanHave, IsPatched, expr_with, list_with, with_number}
 use Rattle.dwz_def_reading.specs.Patching.{AllFit, filled, renumbered}
 use Rattle.dwz_def_reading.specs.Sequences.{SpellsRow, StandsFrom}
@@ -66,6 +67,10 @@ unfolding operands_of
 list_operands number [] = refl
 list_operands number (e ∷ exprs) = ap (λ (w : List Operand). map (with_number number) e.operands ++ w) (list_operands number exprs)
     ∙ sym (map-append (with_number number) e.operands (operands_of exprs))
+
+pub list_addresses : (number : ℕ → ℕ) (exprs : List Expression) → any_with_address (map (expr_with number) exprs) ≡ any_with_address exprs
+list_addresses number [] = refl
+list_addresses number (e ∷ exprs) = ap (λ (b : Bool). e.address || b) (list_addresses number exprs)
 
 -- ---- a list in its place
 

@@ -1,6 +1,6 @@
 -- Documents: what the debug information of a file says, whichever bytes say it. Places are of any type: offsets where bytes were
 -- read, names where nothing is placed yet.
-use Rattle.std.specs.Prelude.{ℕ, ℤ, Bool, List, [], ◌∷◌, map, Option, Some, None, ◌==◌, if◌then◌else◌}
+use Rattle.std.specs.Prelude.{ℕ, ℤ, Bool, false, List, [], ◌∷◌, map, Option, Some, None, ◌==◌, if◌then◌else◌}
 use Rattle.dwz_model.specs.declared.place.Base.{Base}
 use Rattle.dwz_def_reading.specs.Trees.{End, Entry, Forest}
 
@@ -28,17 +28,19 @@ pub data Plain : Type 0 where
   Expr : List Part → Plain
   Loc : List (List Part) → Plain
 
--- the value of an attribute: its plain part, and the entries that it names, in order
+-- the value of an attribute: its plain part, the entries that it names, in order, and whether an expression of it has an address: by
+-- itself (DW_OP_addr; DWARF 5, 2.5.1.1), by its index (DW_OP_addrx, DW_OP_constx), or in an expression inside it
 pub record Value (P : Type 0) : Type 0 where
   pub plain : Plain
   pub refs : List P
+  pub address : Bool
 
--- a value that names no entry, and one that is an entry
+-- a value that names no entry, and one that is an entry: no expression
 abbrev pub only : {P : Type 0} → Plain → Value P
-only plain = record { plain = plain; refs = [] }
+only plain = record { plain = plain; refs = []; address = false }
 
 abbrev pub ref : {P : Type 0} → P → Value P
-ref p = record { plain = Ref; refs = p ∷ [] }
+ref p = record { plain = Ref; refs = p ∷ []; address = false }
 
 -- an attribute (2.2): its name, its form, the number that the form stores (0 where it stores none), and its value
 pub record Attr (P : Type 0) : Type 0 where
@@ -97,7 +99,7 @@ language u = number_of_attr (first_named 0x13 u.root.attrs)
 -- ---- the same with other places
 
 abbrev pub value_map : {P Q : Type 0} → (P → Q) → Value P → Value Q
-value_map f v = record { plain = v.plain; refs = map f v.refs }
+value_map f v = record { plain = v.plain; refs = map f v.refs; address = v.address }
 
 abbrev pub attr_map : {P Q : Type 0} → (P → Q) → Attr P → Attr Q
 attr_map f a = record { name = a.name; form = a.form; raw = a.raw; value = value_map f a.value }

@@ -1,5 +1,5 @@
 -- The first that holds, of two and of a list: what it is that holds, and what is computed.
-use Rattle.std.specs.Prelude.{◌≡◌, ◌⊎◌, List, [], ◌∷◌, Option, Some, None}
+use Rattle.std.specs.Prelude.{◌⊎◌, List, [], ◌∷◌, Option, Some, None}
 
 -- ---- what holds
 

@@ -94,19 +94,20 @@ SpellsTables = Both SpellsPathTable (λ _. SpellsPathTable) tables_with
 
 -- ---- what rows say
 
--- the text of a value, by its form: one that stands there, one in `.debug_str`, one in `.debug_line_str`
+-- the text of a value: one that stands there, or at an offset, in `.debug_str` with DW_FORM_strp, else in `.debug_line_str`
 abbrev pub IsValueText : TextSections → ℕ → Raw → List ℕ → Type 0
 IsValueText s form (Bytes bytes) text = text ≡ bytes
 IsValueText s form (Number z) text = IsTextAt (if form == 0x0e then s.strs else s.line_strs) (reach z) text
 
--- a value of the form DW_FORM_strp or DW_FORM_line_strp is the offset of a text (7.5.5), whatever its content type
+-- the form is DW_FORM_strp or DW_FORM_line_strp: the value is the offset of a text (7.5.5), whatever its content type
 abbrev pub is_text_offset : ℕ → Bool
 is_text_offset form = form == 0x0e || form == 0x1f
 
+-- a text stands at such an offset
 abbrev pub HasItsText : TextSections → Pair → Raw → Type 0
 HasItsText s pair raw = is_text_offset pair.form ≡ true → (text : List ℕ) × IsValueText s pair.form raw text
 
--- of each value of a row, with its format
+-- so it is with each value of a row, with its format
 abbrev pub HaveTheirTexts : TextSections → List Pair → List Raw → Type 0
 HaveTheirTexts s (pair ∷ pairs) (raw ∷ raws) = HasItsText s pair raw × HaveTheirTexts s pairs raws
 HaveTheirTexts s _ _ = Unit {0}

@@ -1,6 +1,7 @@
 -- What stored values mean (DWARF 5, 7.5.4 to 7.5.6): the relation, the function, and why a value means nothing.
 use Rattle.std.specs.Prelude.{◌≡◌, ℕ, ℤ, pos, negsuc, ◌+◌, ◌-◌, ◌<◌, Bool, true, false, List, [], ◌∷◌, ◌++◌}
 use Rattle.std.specs.Prelude.{length, map, Option, Some, None, ◌==◌, ◌||◌, not, if◌then◌else◌}
+use Rattle.std.specs.List.{list_any}
 use Rattle.dwz_model.specs.declared.place.Base.{Base}
 use Rattle.dwz_model.specs.declared.place.Base.TheVariants.{Unit as FromUnit, Info as FromInfo}
 use Rattle.dwz_bytes.specs.Spelling.{reach}
@@ -171,16 +172,21 @@ abbrev pub block_begins : RawAttr → ℕ
 block_begins a = a.end - length (bytes_of a.raw)
 
 abbrev pub expr_value : {P : Type 0} → MeaningContext P → Expression → Value P
-expr_value s e = record { plain = Expr (parts_of e); refs = targets s e.operands }
+expr_value s e = record { plain = Expr (parts_of e); refs = targets s e.operands; address = e.address }
 
 pub record IsExpression {P : Type 0} (s : MeaningContext P) (a : RawAttr) (v : Value P) : Type 0 where
   pub expression : Expression
   pub spelled : SpellsExpr (expr_context s 1) expression (block_begins a) (bytes_of a.raw)
   pub value : v ≡ expr_value s expression
 
+-- one of them has an address
+abbrev pub any_with_address : List Expression → Bool
+any_with_address exprs = list_any (λ e. e.address) exprs
+
 -- the expressions of a list, in order
 abbrev pub loc_value : {P : Type 0} → MeaningContext P → LocList → Value P
-loc_value s l = record { plain = Loc (map parts_of l.exprs); refs = targets s (operands_of l.exprs) }
+loc_value s l =
+    record { plain = Loc (map parts_of l.exprs); refs = targets s (operands_of l.exprs); address = any_with_address l.exprs }
 
 -- the list at a place of `.debug_loclists`
 pub record IsLocList {P : Type 0} (s : MeaningContext P) (place : ℕ) (v : Value P) : Type 0 where

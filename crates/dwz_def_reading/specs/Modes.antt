@@ -16,15 +16,15 @@ abbrev pub free_forms : List RowView → List RowView
 free_forms rows = filter (λ row. not (has row.code binding_forms)) rows
 
 -- those that lead to a supplementary file are read where one is at hand
-abbrev pub forms_with : Bool → List RowView
+abbrev pub forms_with : (sup : Bool) → List RowView
 forms_with true = written_rows
 forms_with false = form_rows
 
--- DW_TAG_partial_unit is 3c
-abbrev pub forms_of_back : Bool → ℕ → Bool → List RowView
+-- the forms of a unit whose root has that tag, of the root or below it; DW_TAG_partial_unit is 3c
+abbrev pub forms_of_back : (sup : Bool) → (tag : ℕ) → (is_root : Bool) → List RowView
 forms_of_back sup tag true = forms_with sup
 forms_of_back sup tag false = if tag == 0x3c then free_forms (forms_with sup) else forms_with sup
 
 -- a file that is read back, beside a supplementary file or without one: units of all types
-abbrev pub of_back : Bool → ℕ → Mode
+abbrev pub of_back : (sup : Bool) → (entries : ℕ) → Mode
 of_back sup entries = record { entries = entries; depth = 256; whole = true; partial = true; forms = forms_of_back sup }

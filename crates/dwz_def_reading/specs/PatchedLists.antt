@@ -6,7 +6,7 @@ use Rattle.dwz_def_reading.specs.declared.exprs.Operand.{Operand}
 use Rattle.dwz_def_reading.specs.Documents.{Loc, Value}
 use Rattle.dwz_def_reading.specs.Exprs.{AreNamed, ExprContext, Expression, parts_of}
 use Rattle.dwz_def_reading.specs.LocLists.{LocList}
-use Rattle.dwz_def_reading.specs.Meanings.{MeaningContext, loclists_base, offset_of, targets}
+use Rattle.dwz_def_reading.specs.Meanings.{MeaningContext, any_with_address, loclists_base, offset_of, targets}
 use Rattle.dwz_def_reading.specs.Patching.{AllFit, filled, number_in_width, written_at}
 use Rattle.dwz_def_reading.specs.Shared.{HasByte, ListOperand, NamedList, operands_in_lists, own_operands}
 
@@ -73,6 +73,11 @@ pub record NamesAlike {P Q : Type 0} (s : MeaningContext P) (d : MeaningContext 
   pub offset : offset_of b ≡ offset_of a
   pub base : loclists_base d ≡ loclists_base s
 
--- what such an attribute says: the same parts, and the entries that the numbers name
+-- what such an attribute says: the same parts, the entries that the numbers name, and an address where there was one
 abbrev pub list_value : {P : Type 0} → MeaningContext P → (ℕ → ℕ) → NamedList → Value P
-list_value d number l = record { plain = Loc (map parts_of l.list.exprs); refs = targets d (map (with_number number) (own_operands l)) }
+list_value d number l =
+    record {
+      plain = Loc (map parts_of l.list.exprs);
+      refs = targets d (map (with_number number) (own_operands l));
+      address = any_with_address l.list.exprs;
+    }

@@ -62,14 +62,15 @@ pub record CanPatch (c : ExprContext) (at : ℕ) (e : Expression) (numbers : Lis
 
 -- ---- values
 
--- an expression that is spelled somewhere has these parts
-pub record AreParts (parts : List Part) : Type 0 where
+-- an expression that is spelled somewhere has these parts, and an address or none
+pub record AreParts (parts : List Part) (address : Bool) : Type 0 where
   pub context : ExprContext
   pub expression : Expression
   pub start : ℕ
   pub bytes : List ℕ
   pub spelled : SpellsExpr context expression start bytes
   pub are : parts ≡ parts_of expression
+  pub addressed : address ≡ expression.address
 
 -- each operand of the parts has a number that fits and leads to an entry; these entries, in order
 abbrev pub LeadTo : {P : Type 0} → MeaningContext P → List Part → List ℕ → List P → Type 0

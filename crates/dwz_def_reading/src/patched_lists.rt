@@ -7,7 +7,7 @@ ghost use Rattle.dwz_def_reading.specs.Texts.{IsSlot, slot_place};
 ghost use Rattle.dwz_def_reading.specs.Units.{RawUnit};
 ghost use Rattle.dwz_def_reading.specs.Exprs.{ExprContext, parts_of};
 ghost use Rattle.dwz_def_reading.specs.LocLists.{LocList, SpellsList};
-ghost use Rattle.dwz_def_reading.specs.Meanings.{Around, MeaningContext, MeansValue, expr_context};
+ghost use Rattle.dwz_def_reading.specs.Meanings.{Around, MeaningContext, MeansValue, any_with_address, expr_context};
 ghost use Rattle.dwz_def_reading.specs.NamedLists.{NamesList, lists_of_units};
 ghost use Rattle.dwz_def_reading.specs.PatchedLists.{CanHave, EndWithin, IsPatched, NamesAlike, list_value, list_with, named_with};
 ghost use Rattle.dwz_def_reading.specs.PatchedLists.{number_for_place};
@@ -17,9 +17,10 @@ ghost use Rattle.dwz_def_reading.specs.Sequences.{StandsFrom};
 ghost use Rattle.dwz_def_reading.specs.Shared.{AreRows, ListOperand, NamedList, NoneShared, StandApart, operands_in_lists, operands_of};
 
 /// Location lists that share nothing, in a section in which numbers that fit and name entries were written into their operands, by
-/// place: each list stands in its place with these numbers, has the parts that it had, and ends where it did; each slot that names
-/// one holds what it held; and the lists share nothing again, whichever units stand for theirs. So an attribute of another unit
-/// that names the list in the same way means these parts, and the entries that the numbers name.
+/// place: each list stands in its place with these numbers, has the parts that it had, an address if it had one, and ends where it
+/// did; each slot that names one holds what it held; and the lists share nothing again, whichever units stand for theirs. So an
+/// attribute of another unit that names the list in the same way means these parts, the entries that the numbers name, and an address
+/// if it had one.
 ///
 /// Such a section is what is left where the numbers are written one by one, over the operands in order of place. The operands of the
 /// lists that units name end within the section.
@@ -32,6 +33,7 @@ pub fn patched_list_laws()
         → StandsFrom (SpellsList c) section place l → map parts_of (list_with number l).exprs ≡ map parts_of l.exprs }
     ensures operands { (number : ℕ → ℕ) (l : LocList) → operands_of (list_with number l).exprs
         ≡ map (with_number number) (operands_of l.exprs) }
+    ensures addresses { (number : ℕ → ℕ) (l : LocList) → any_with_address (list_with number l).exprs ≡ any_with_address l.exprs }
     ensures slots { (lists : List NamedList) (number : ℕ → ℕ) (section new : List ℕ) → NoneShared lists → IsPatched lists number section new
         → (l : NamedList) (base index offset : ℕ) → In l lists → l.slot ≡ Some (slot_place base index) → IsSlot section base index offset
         → IsSlot new base index offset }

@@ -8,7 +8,7 @@ use Rattle.dwz_def_reading.specs.Rows.{has}
 use Rattle.dwz_def_reading.specs.Trees.{End}
 use Rattle.dwz_def_reading.specs.Values.{value_bytes}
 use Rattle.dwz_def_tops.specs.Spaces.{space_text, tops_under}
-use Rattle.dwz_def_tops.specs.Alike.{any_entry, is_addressed, unit_in}
+use Rattle.dwz_def_tops.specs.Alike.{any_entry, unit_in}
 use Rattle.dwz_def_tops.specs.Deciding.{alike_test, bound_test, look_test, same_by, same_entries, same_int, same_part, same_plain, top_in}
 use Rattle.dwz_def_tops.specs.Spots.{entry_spots, file_numbers, named_files, row_from, row_in, row_tops, same_numbers, same_spot, spot_in, spots_from, top_spots, tops_among, tops_from}
 use Rattle.dwz_def_tops.proofs.SmallDocs.{int_type, short_type, then, unit, unspecified}
@@ -32,7 +32,7 @@ options common out files = record { quiet = false; common = common; name = None;
 -- what comes of contents that read as these documents; whatever unfolds this unfolds all by which it is found
 come : Options → List (List ℕ) → List (Doc ℕ) → Output
 unfolding entries_map first_named has any_entry unit_in alike_test bound_test look_test same_by same_entries same_int same_part same_plain top_in entry_spots named_files tops_under
-    space_text same_numbers same_spot spot_in spots_from top_spots tops_among tops_from row_from row_in row_tops is_addressed candidate file_of first_alike home numbers_from users
+    space_text same_numbers same_spot spot_in spots_from top_spots tops_among tops_from row_from row_in row_tops candidate file_of first_alike home numbers_from users
     attrs_weight bare_bytes entries_weight gain_test gains_test group_weight weights value_bytes form_rows le_bytes padded groups_in distinct joined_parts local_partials partials partials_at
     representatives stand_in changes imports_common has_common files_puts_by summary_lines_by file_numbers
 come o contents docs = output_of o (run_for o contents docs (map (λ doc. false) docs))

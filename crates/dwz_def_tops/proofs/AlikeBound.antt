@@ -172,7 +172,7 @@ binds_here : (units : List (FileUnit EntryName)) (s : EntryName) (e : Node Entry
 binds_here units s e a t (i, j, l) h =
     let tops = tops_of units in
     let leaving = any_true (leaves tops t.unit) s a.value.refs l h in
-    let attr : attr_binds tops t.unit a ≡ true = or_right (has a.form binding_forms) _ (or_right (holds_place a.value.plain) _ leaving) in
+    let attr : attr_binds tops t.unit a ≡ true = or_right (has a.form binding_forms) _ (or_right (holds_place a.value) _ leaving) in
     or_left _ (is_named units t.number) (top_any (entry_binds tops t.unit) t e i (or_right (e.tag == 0x3d) _ (any_true (attr_binds tops t.unit) a e.attrs j attr)))
 
 number_is : (o : Option ℕ) (n : ℕ) → is_number o n ≡ true → o ≡ Some n

@@ -1,14 +1,10 @@
 -- Small documents: what is movable and alike in them, by computing.
 use Rattle.std.proofs.Common.{◌≡◌, ℕ, ◌+◌, Bool, true, false, List, [], ◌∷◌, map, refl}
 use Rattle.std.specs.Prelude.{codes}
-use Rattle.dwz_def_reading.specs.Reading.{groups_at, sleb_at, uleb_at}
-use Rattle.dwz_def_reading.specs.Operators.{operator_rows}
 use Rattle.dwz_def_reading.specs.Documents.{Attr, DwUnit, Entries, entries_map, first_named}
-use Rattle.dwz_def_reading.specs.Exprs.{any_address, expr_within, fields_at, first_unnamed, joined_items, most_inside, op_at, operands_in}
-use Rattle.dwz_def_reading.specs.Sequences.{all_at, all_from}
 use Rattle.dwz_def_reading.specs.Rows.{has}
 use Rattle.dwz_def_reading.specs.Trees.{End, Entry}
-use Rattle.dwz_def_tops.specs.Alike.{Apart, TopScope, Together, any_entry, is_addressed, unit_in}
+use Rattle.dwz_def_tops.specs.Alike.{Apart, TopScope, Together, any_entry, unit_in}
 use Rattle.dwz_def_tops.specs.Deciding.{alike_test, bound_test, is_movable, look_test, same_by, same_entries, same_int, same_part, same_plain, top_in}
 use Rattle.dwz_def_tops.specs.Spots.{EntryName, FileUnit, entry_spots, named_files, row_in, row_tops, same_numbers, spot_in, spots_from, top_spots, tops_among, tops_from, tops_of}
 use Rattle.dwz_def_tops.specs.Spaces.{space_text, tops_under}
@@ -25,17 +21,13 @@ table test numbers = map (row test numbers) numbers
 -- which of the tops with these numbers are alike, to which
 alike_in : TopScope → List (FileUnit EntryName) → List ℕ → List (List Bool)
 unfolding entries_map first_named has any_entry unit_in alike_test bound_test look_test same_by same_entries same_int same_part same_plain top_in entry_spots named_files tops_under space_text
-    same_numbers spot_in spots_from top_spots tops_among tops_from row_in row_tops is_addressed expr_within most_inside fields_at op_at first_unnamed operands_in any_address joined_items all_at
-    all_from
-    operator_rows uleb_at sleb_at groups_at
+    same_numbers spot_in spots_from top_spots tops_among tops_from row_in row_tops
 alike_in scope units numbers = table (alike_test scope units) numbers
 
 -- which may move
 movable_in : List (FileUnit EntryName) → List Bool
 unfolding entries_map first_named has any_entry unit_in alike_test bound_test look_test same_by same_entries same_int same_part same_plain top_in entry_spots named_files tops_under space_text
-    same_numbers spot_in spots_from top_spots tops_among tops_from row_in row_tops is_addressed expr_within most_inside fields_at op_at first_unnamed operands_in any_address joined_items all_at
-    all_from
-    operator_rows uleb_at sleb_at groups_at
+    same_numbers spot_in spots_from top_spots tops_among tops_from row_in row_tops
 movable_in units = map (is_movable units) (tops_of units)
 
 -- ---- structures and pointers to them that name each other
@@ -193,8 +185,8 @@ by_a_list = refl
 
 -- fbreg -20 and none at all; addr, addrx, constx, and an addrx in an entry_value behind another operator
 by_an_address : movable_in (expressions (
-    (0x91 ∷ 0x6c ∷ []) ∷ []
-    ∷ (0x03 ∷ 0 ∷ 0x40 ∷ 0x40 ∷ 0 ∷ 0 ∷ 0 ∷ 0 ∷ 0 ∷ []) ∷ (0xa1 ∷ 0 ∷ []) ∷ (0xa2 ∷ 0 ∷ 0x9f ∷ []) ∷ (0x50 ∷ 0xa3 ∷ 2 ∷ 0xa1 ∷ 5 ∷ []) ∷ []
+    (false, 0x91 ∷ 0x6c ∷ []) ∷ (false, [])
+    ∷ (true, 0x03 ∷ 0 ∷ 0x40 ∷ 0x40 ∷ 0 ∷ 0 ∷ 0 ∷ 0 ∷ 0 ∷ []) ∷ (true, 0xa1 ∷ 0 ∷ []) ∷ (true, 0xa2 ∷ 0 ∷ 0x9f ∷ []) ∷ (true, 0x50 ∷ 0xa3 ∷ 2 ∷ 0xa1 ∷ 5 ∷ []) ∷ []
     ))
     ≡ true ∷ true ∷ false ∷ false ∷ false ∷ false ∷ []
 unfolding movable_in

@@ -5,7 +5,6 @@ pub mod SeenLemmas
 pub mod ShownLemmas
 pub mod ShownUnits
 pub mod MainLemmas
-pub mod AddressLemmas
 pub mod RowLemmas
 pub mod TopNumbers
 pub mod AlikeTests

@@ -1,5 +1,5 @@
 -- What holds of units by names holds of them by places: imports, where one place is of one name, and whole units.
-use Rattle.std.proofs.Common.{◌≡◌, ℕ, List, [], ◌∷◌, map, refl, sym, ap, subst, ◌∙◌, inl, inr}
+use Rattle.std.proofs.Common.{◌≡◌, ℕ, Bool, false, List, [], ◌∷◌, map, refl, sym, ap, subst, ◌∙◌, inl, inr}
 use Rattle.dwz_def_reading.specs.Documents.{Compile, DwUnit, Entries, Kind, Node, OfType, Partial, Plain, Ref, kind_map, ref}
 use Rattle.dwz_model.specs.Lists.{In}
 use Rattle.dwz_model.proofs.ListFacts.{in_map}
@@ -37,9 +37,11 @@ single {K} {P} g a name q p e h =
     let n : a.name ≡ name = ap (λ (w : Named P). w.name) e in
     let v : a.value.plain ≡ Ref = ap (λ (w : Named P). w.value.plain) e in
     let r = single_refs g a.value.refs q p (ap (λ (w : Named P). w.value.refs) e) h in
+    let none : a.value.address ≡ false = ap (λ (w : Named P). w.value.address) e in
     ap (λ (w : ℕ). record { name = w; value = a.value }) n
-    ∙ ap (λ (w : Plain). record { name = name; value = record { plain = w; refs = a.value.refs } }) v
-    ∙ ap (λ (w : List K). record { name = name; value = record { plain = Ref; refs = w } }) r
+    ∙ ap (λ (w : Plain). record { name = name; value = record { plain = w; refs = a.value.refs; address = a.value.address } }) v
+    ∙ ap (λ (w : List K). record { name = name; value = record { plain = Ref; refs = w; address = a.value.address } }) r
+    ∙ ap (λ (w : Bool). record { name = name; value = record { plain = Ref; refs = p ∷ []; address = w } }) none
 
 module _ {K P : Type 0} (g : K → P) (units : List (DwUnit K)) (placed : List (DwUnit P)) (shown : UnitsShown g units placed) where
   import_to : (e : Node K) (d : Node P) → IsShown g e d → (w : DwUnit K) (v : DwUnit P) → In v placed → IsShownUnit g w v → IsImport units e w → IsImport placed d v

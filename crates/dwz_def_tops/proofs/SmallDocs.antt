@@ -1,5 +1,5 @@
 -- Small documents, spelled by hand: entries at places of one or more files, from which rows compute what is said of them.
-use Rattle.std.proofs.Common.{ℕ, ◌+◌, pos, true, List, [], ◌∷◌, map}
+use Rattle.std.proofs.Common.{ℕ, ◌+◌, pos, Bool, true, false, List, [], ◌∷◌, map}
 use Rattle.std.specs.Prelude.{codes}
 use Rattle.dwz_model.specs.declared.place.Base.TheVariants.{Unit as FromUnit}
 use Rattle.dwz_def_reading.specs.Documents.{Addr, Attr, Compile, Doc, DwUnit, Entries, Expr, Loc, Node, Num, Operand, Same, Text, only, ref}
@@ -34,9 +34,10 @@ typed place = referring 0x49 place
 abbrev pub located : ℕ → Attr ℕ
 located address = record { name = 0x11; form = 0x01; raw = pos address; value = only (Addr address) }
 
--- DW_AT_location, an expression that names no entry
-abbrev pub computed : List ℕ → Attr ℕ
-computed bytes = record { name = 0x02; form = 0x18; raw = pos 0; value = only (Expr (Same bytes ∷ [])) }
+-- DW_AT_location, an expression that names no entry, and has an address or none
+abbrev pub computed : (address : Bool) → List ℕ → Attr ℕ
+computed address bytes =
+    record { name = 0x02; form = 0x18; raw = pos 0; value = record { plain = Expr (Same bytes ∷ []); refs = []; address = address } }
 
 -- the same, of a list with one expression: breg0 0, converted to the type at a place, stack_value
 abbrev pub listed : ℕ → Attr ℕ
@@ -44,8 +45,11 @@ listed place = record {
   name = 0x02;
   form = 0x17;
   raw = pos 0x0c;
-  value =
-      record { plain = Loc ((Same (0x70 ∷ 0 ∷ 0xa8 ∷ []) ∷ Operand 1 true FromUnit ∷ Same (0x9f ∷ []) ∷ []) ∷ []); refs = place ∷ [] };
+  value = record {
+    plain = Loc ((Same (0x70 ∷ 0 ∷ 0xa8 ∷ []) ∷ Operand 1 true FromUnit ∷ Same (0x9f ∷ []) ∷ []) ∷ []);
+    refs = place ∷ [];
+    address = false;
+  };
 }
 
 -- ---- entries and units
@@ -164,10 +168,10 @@ spaces text other = one (
     ∷ []
     )
 
--- variables with these expressions as their locations
-abbrev variables : ℕ → List (List ℕ) → Entries ℕ
+-- variables with these expressions as their locations, each with whether it has an address
+abbrev variables : ℕ → List (Bool × List ℕ) → Entries ℕ
 variables place [] = End
-variables place (bytes ∷ more) = then (entry place 0x34 (computed bytes ∷ [])) (variables (place + 1) more)
+variables place (expr ∷ more) = then (entry place 0x34 (computed expr.0 expr.1 ∷ [])) (variables (place + 1) more)
 
-abbrev pub expressions : List (List ℕ) → List (FileUnit EntryName)
+abbrev pub expressions : List (Bool × List ℕ) → List (FileUnit EntryName)
 expressions exprs = one (unit 0 [] (variables 0x0d exprs) ∷ [])

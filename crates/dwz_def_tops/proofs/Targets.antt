@@ -7,7 +7,7 @@ use Rattle.dwz_model.specs.Lists.{Each, In}
 use Rattle.dwz_def_reading.specs.Rows.{has}
 use Rattle.dwz_def_reading.specs.Trees.{End, Entry}
 use Rattle.dwz_def_reading.proofs.CaseFacts.{or_left, or_right}
-use Rattle.dwz_def_tops.specs.Alike.{Bound, Movable, any_attr, any_entry, any_in, attr_binds, binding_forms, binds_itself, entry_binds, holds_place, is_in, is_named, is_number, leaves, refers_to}
+use Rattle.dwz_def_tops.specs.Alike.{Bound, Movable, any_attr, any_entry, any_in, attr_binds, binding_forms, binds_itself, entry_binds, has_operand, holds_place, is_in, is_named, is_number, leaves, refers_to}
 use Rattle.dwz_def_tops.specs.Alike.{unit_in}
 use Rattle.dwz_def_tops.specs.Spots.{EntryName, FileUnit, Top, Within, tops_of}
 use Rattle.dwz_model.proofs.Members.{any_false, any_from, any_true, each_in, each_of}
@@ -149,8 +149,8 @@ stays_in : (units : List (FileUnit EntryName)) (t : Top) → In t (tops_of units
     → RefTo (StandsIn (tops_of units) t.unit) s
 stays_in units t is m e node a attr s ref =
     let tops = tops_of units in
-    let rest = or_right (has a.form binding_forms) (holds_place a.value.plain || list_any (leaves tops t.unit) a.value.refs) (free_attr units t is m e node a attr) in
-    let refs = or_right (holds_place a.value.plain) (list_any (leaves tops t.unit) a.value.refs) rest in
+    let rest = or_right (has a.form binding_forms) (holds_place a.value || list_any (leaves tops t.unit) a.value.refs) (free_attr units t is m e node a attr) in
+    let refs = or_right (holds_place a.value) (list_any (leaves tops t.unit) a.value.refs) rest in
     inside_spot tops t.unit s (any_false (leaves tops t.unit) s a.value.refs ref refs)
 
 refers_in : (t : Top) (e : Node EntryName) → NodeOf e t → (a : Attr EntryName) → In a e.attrs → (n : ℕ) (path : List ℕ) → In (Within n path) a.value.refs → refers_to n t ≡ true
@@ -177,6 +177,31 @@ inside_one units t is m _ stands refers = absurd stands
 pub inside : (units : List (FileUnit EntryName)) (t : Top) → In t (tops_of units) → Movable units t.number → RefsOfTop (Inside units t.unit) t
 inside units t is m = refs_of_top (Inside units t.unit) t (λ e node. each_of (RefsOfAttr (Inside units t.unit)) e.attrs (λ a attr. each_of (RefTo (Inside units t.unit)) a.value.refs (λ s ref.
     inside_one units t is m s (stays_in units t is m e node a attr s ref) (λ n path same. refers_in t e node a attr n path (subst (λ (w : EntryName). In w a.value.refs) same ref)))))
+
+-- ---- no expression of a movable top has an address
+
+abbrev pub NoAddress : Attr EntryName → Type 0
+NoAddress a = a.value.address ≡ false
+
+abbrev pub NoAddressIn : Entries EntryName → Type 0
+NoAddressIn End = Unit {0}
+NoAddressIn (Entry e f g) = Each NoAddress e.attrs × NoAddressIn f × NoAddressIn g
+
+abbrev pub NoAddressOf : Top → Type 0
+NoAddressOf t = Each NoAddress t.node.attrs × NoAddressIn t.below
+
+none_in : (f : Entries EntryName) → ((e : Node EntryName) → NodeIn e f → Each NoAddress e.attrs) → NoAddressIn f
+none_in End h = tt
+none_in (Entry e f g) h = (h e (inl refl), none_in f (λ d is. h d (inr (inl is))), none_in g (λ d is. h d (inr (inr is))))
+
+pub no_address : (units : List (FileUnit EntryName)) (t : Top) → In t (tops_of units) → Movable units t.number → NoAddressOf t
+no_address units t is m = (one t.node (inl refl), none_in t.below (λ e node. one e (inr node))) where
+  one : (e : Node EntryName) → NodeOf e t → Each NoAddress e.attrs
+  one e node = each_of NoAddress e.attrs
+      (λ a attr.
+      let leaving = list_any (leaves (tops_of units) t.unit) a.value.refs in
+      let rest = or_right (has a.form binding_forms) (holds_place a.value || leaving) (free_attr units t is m e node a attr) in
+      or_right (has_operand a.value.plain) a.value.address (or_left (holds_place a.value) leaving rest))
 
 -- ---- from all targets to one
 

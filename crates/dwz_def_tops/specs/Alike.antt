@@ -1,10 +1,8 @@
 -- Which tops may move, and which are alike.
-use Rattle.std.specs.Prelude.{◌⊎◌, ◌≡◌, ℕ, zero, suc, Bool, true, false, List, [], ◌∷◌, ◌++◌, Option, Some, None, Result, Ok, Err, ◌==◌}
+use Rattle.std.specs.Prelude.{◌⊎◌, ◌≡◌, ℕ, zero, suc, Bool, true, false, List, [], ◌∷◌, ◌++◌, Option, Some, None, ◌==◌}
 use Rattle.std.specs.Prelude.{◌&&◌, ◌||◌, not}
 use Rattle.std.specs.List.{list_any}
-use Rattle.dwz_model.specs.declared.fault.Fault.{Fault}
 use Rattle.dwz_def_reading.specs.Documents.{Attr, Entries, Expr, Loc, Node, Operand, Part, Plain, Same, Value}
-use Rattle.dwz_def_reading.specs.Exprs.{Expression, any_operands, expr_at}
 pub use Rattle.dwz_def_reading.specs.Modes.{binding_forms}
 use Rattle.dwz_model.specs.Lists.{In}
 use Rattle.dwz_def_reading.specs.Rows.{has}
@@ -42,29 +40,9 @@ unfoldable pub joined_parts : List (List Part) → List Part
 joined_parts [] = []
 joined_parts (parts ∷ exprs) = parts ++ joined_parts exprs
 
--- what is read has an address
-abbrev pub says_address : Result Expression Fault → Bool
-says_address (Ok e) = e.address
-says_address (Err f) = false
-
--- The bytes are an expression that has an address, or names one by its index, or holds an expression that does (DW_OP_addr is 03,
--- DW_OP_addrx a1, DW_OP_constx a2; DWARF 5, 2.5.1.1). Where they stand makes no difference.
-unfoldable pub is_addressed : List ℕ → Bool
-is_addressed bytes = says_address (expr_at (any_operands 1) (record { at = 0; rest = bytes }))
-
--- An expression that names no entry is one part. One that names an entry has more, and holds a place by that.
-abbrev pub parts_addressed : List Part → Bool
-parts_addressed (Same bytes ∷ []) = is_addressed bytes
-parts_addressed _ = false
-
-abbrev pub has_address : Plain → Bool
-has_address (Expr parts) = parts_addressed parts
-has_address (Loc exprs) = list_any parts_addressed exprs
-has_address _ = false
-
 -- an expression that means something else in another unit or at another place: it names an entry, or has an address
-abbrev pub holds_place : Plain → Bool
-holds_place plain = has_operand plain || has_address plain
+abbrev pub holds_place : {P : Type 0} → Value P → Bool
+holds_place v = has_operand v.plain || v.address
 
 -- the number of the unit that a top stands in
 unfoldable pub unit_in : List Top → ℕ → Option ℕ
@@ -82,7 +60,7 @@ leaves tops unit _ = true
 
 abbrev pub attr_binds : List Top → ℕ → Attr EntryName → Bool
 attr_binds tops unit a =
-    has a.form binding_forms || (holds_place a.value.plain || list_any (leaves tops unit) a.value.refs)
+    has a.form binding_forms || (holds_place a.value || list_any (leaves tops unit) a.value.refs)
 
 -- DW_TAG_imported_unit is 3d
 abbrev pub entry_binds : List Top → ℕ → Node EntryName → Bool

@@ -7,4 +7,3 @@ pub mod SpotLaws
 pub mod Alike
 pub mod Deciding
 pub mod Targets
-pub mod AlikeLaws

@@ -185,8 +185,8 @@ pub data Row : Type 0 where
   ATop : Top → (next : Row) → Row
   ASpace : Node EntryName → (inner next : Row) → Row
 
--- rows of a unit, by the numbers of its file and of itself, and its language; known is the names of the spaces that an entry stands in
-abbrev pub row_numbering : ℕ → ℕ → Option ℤ → TopNumbering EntryName (List SpaceName) Row
+-- rows of a unit, by the numbers of its file and of itself, and its language; of an entry the spaces that it stands in are known
+abbrev pub row_numbering : (file unit : ℕ) → (language : Option ℤ) → TopNumbering EntryName (List SpaceName) Row
 row_numbering file unit language = record {
   none = Nothing;
   top = λ spaces n e below behind. ATop

@@ -3,13 +3,11 @@
 ghost use Rattle.std.specs.Prelude.{◌≡◌, ◌↔◌, ℕ, true, List, length};
 ghost use Rattle.dwz_model.specs.Lists.{In};
 ghost use Rattle.dwz_def_tops.specs.Alike.{Alike, Bound, IsAlike, Look, Movable, TopScope, refers_to};
-ghost use Rattle.dwz_def_tops.specs.AlikeLaws.{AddressLaw};
 ghost use Rattle.dwz_def_tops.specs.Deciding.{alike_test, bound_test, is_movable, look_test};
 ghost use Rattle.dwz_def_tops.specs.Spots.{EntryName, FileUnit, Top, tops_of};
 ghost use Rattle.dwz_def_tops.specs.Targets.{targets_of};
 
-/// An expression holds a place, and so binds the top that it stands in, exactly if it has an address, an index of one, or an
-/// operand that names an entry. The targets of a top are just the tops that it refers to.
+/// The targets of a top are just the tops that it refers to.
 ///
 /// Laws on the tops of any units; n is how many tops there are. A top that some chain of references binds is bound by one of n
 /// references at most. So the test of such chains says which tops are bound, and which are movable. Of two movable tops the
@@ -18,7 +16,6 @@ ghost use Rattle.dwz_def_tops.specs.Targets.{targets_of};
 /// that are alike. Being alike is an equivalence of movable tops: each is alike to itself, two that are alike are so in either
 /// order, and two that are alike to a third are alike.
 pub fn alike_laws()
-    ensures address { AddressLaw }
     ensures targets { (t : Top) (n : ℕ) → In n (targets_of t) ↔ (refers_to n t ≡ true) }
     ensures bound { (units : List (FileUnit EntryName)) (t : Top) → In t (tops_of units)
         → (bound_test units (length (tops_of units)) t ≡ true) ↔ ((k : ℕ) × Bound units k t.number) }

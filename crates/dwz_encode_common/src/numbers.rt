@@ -14,19 +14,19 @@ use crate::pool::Pool;
 use dwz_forms::Raw;
 use dwz_graph::File;
 use dwz_layout::behind;
-use dwz_lines::FileTable;
+use dwz_lines::TableRows;
 use dwz_model::{NoMemory, Pair, at_or};
 use dwz_unit::{Values, known_value};
 use std::alloc::Global;
 
 // The number of a path, counted from 1, and 0 where there is none.
-fn number_in(paths: &Pool, path: Option<&[u8]>) -> Result<u32, NoMemory>
-    ensures { IfOk result (λ n. n ≡ Specs.number_in paths.now (option_map (λ p. p.now) path.entry)) }
+fn number_in(paths: &Pool, path: Option<Vec<u8>>) -> Result<u32, NoMemory>
+    ensures { IfOk result (λ n. n ≡ Specs.number_in paths.now (option_map (λ p. p.items) path)) }
 {
     let Some(path) = path else {
         return Ok(0);
     };
-    match paths.find(path) {
+    match paths.find(&path) {
         None => Ok(0),
         Some(number) => behind(number, 1),
     }
@@ -34,9 +34,10 @@ fn number_in(paths: &Pool, path: Option<&[u8]>) -> Result<u32, NoMemory>
 
 // Appends that of a value, if it is the number of a file.
 fn put_number(
+    alloc: Global,
     numbers: &mut Vec<u32>,
     paths: &Pool,
-    tables: &[FileTable],
+    tables: &[TableRows],
     line: Option<usize>,
     pair: &Pair,
     raw: &Raw,
@@ -47,13 +48,20 @@ fn put_number(
     if !is_file(pair) {
         return Ok(());
     }
-    let number = number_in(paths, path_at(tables, line, number_of(raw)))?;
+    let path = path_at(alloc, tables, line, number_of(raw))?;
+    let number = number_in(paths, path)?;
     numbers.push(number)?;
     Ok(())
 }
 
 // Appends those of an entry of a file.
-fn put_row(numbers: &mut Vec<u32>, paths: &Pool, file: &File, entry: u32) -> Result<(), NoMemory>
+fn put_row(
+    alloc: Global,
+    numbers: &mut Vec<u32>,
+    paths: &Pool,
+    file: &File,
+    entry: u32,
+) -> Result<(), NoMemory>
     requires { entry < entries_in (units_of file.now.units) }
     ensures { (row : EntryRow) → slice_get (rows_of (units_of file.now.units)) entry ≡ Some row
         → OnOk result (numbers.new.items ≡ numbers.old.items ++ row_numbers paths.now file.now row) }
@@ -64,7 +72,7 @@ fn put_row(numbers: &mut Vec<u32>, paths: &Pool, file: &File, entry: u32) -> Res
     let Values { pairs, mut cursor } = file.units.values(entry);
     for pair in pairs {
         let raw = known_value(&mut cursor, pair);
-        put_number(numbers, paths, tables, line, pair, &raw)?;
+        put_number(alloc, numbers, paths, tables, line, pair, &raw)?;
     }
     Ok(())
 }
@@ -75,7 +83,7 @@ fn numbers_of_file(alloc: Global, paths: &Pool, file: &File) -> Result<Vec<u32>,
 {
     let mut numbers = Vec::new(alloc);
     for i in 0..file.units.entries() {
-        put_row(&mut numbers, paths, file, i)?;
+        put_row(alloc, &mut numbers, paths, file, i)?;
     }
     Ok(numbers)
 }

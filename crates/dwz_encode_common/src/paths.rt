@@ -22,7 +22,7 @@ use dwz_codes::{Class, class_of, names_file};
 use dwz_forms::Raw;
 use dwz_graph::File;
 use dwz_layout::{EntryTable, Origin, Row, UnitItems, Walk};
-use dwz_lines::FileTable;
+use dwz_lines::TableRows;
 use dwz_model::{NoMemory, Pair, at_or};
 use dwz_unit::{Values, known_value};
 use std::alloc::Global;
@@ -55,45 +55,51 @@ pub(crate) fn number_of(raw: &Raw) -> i128
 }
 
 // The path in the row with that number. No table has 2^64 rows.
-fn path_by(table: &FileTable, number: i128) -> Option<&[u8]>
-    ensures { option_map (λ p. p.now) result ≡ Meanings.path_by table.now number }
+fn path_by(alloc: Global, table: &TableRows, number: i128) -> Result<Option<Vec<u8>>, NoMemory>
+    ensures { IfOk result (λ path. option_map (λ p. p.items) path ≡ Meanings.path_by table.now number) }
 {
     if number < 0 {
-        return None;
+        return Ok(None);
     }
     if number > u64::MAX as i128 {
-        return table.path(u64::MAX);
+        return table.path(alloc, u64::MAX);
     }
-    table.path(number as u64)
+    table.path(alloc, number as u64)
 }
 
 // A path is used, if it is one.
-fn put_path(pool: &mut Pool, path: Option<&[u8]>) -> Result<(), NoMemory>
-    ensures { OnOk result (pool.new ≡ with_all pool.old (option_to_list (option_map (λ p. p.now) path.entry))) }
+fn put_path(pool: &mut Pool, path: Option<Vec<u8>>) -> Result<(), NoMemory>
+    ensures { OnOk result (pool.new ≡ with_all pool.old (option_to_list (option_map (λ p. p.items) path))) }
 {
     match path {
-        Some(path) => pool.put(path),
+        Some(path) => pool.put(&path),
         None => Ok(()),
     }
 }
 
 /// The path in the row with that number, of one of these tables.
-pub(crate) fn path_at(tables: &[FileTable], line: Option<usize>, number: i128) -> Option<&[u8]>
-    ensures { option_map (λ p. p.now) result ≡ Paths.path_in tables.now line number }
+pub(crate) fn path_at(
+    alloc: Global,
+    tables: &[TableRows],
+    line: Option<usize>,
+    number: i128,
+) -> Result<Option<Vec<u8>>, NoMemory>
+    ensures { IfOk result (λ path. option_map (λ p. p.items) path ≡ Paths.path_in tables.now line number) }
 {
     let Some(line) = line else {
-        return None;
+        return Ok(None);
     };
     match tables.get(line) {
-        Some(table) => path_by(table, number),
-        None => None,
+        Some(table) => path_by(alloc, table, number),
+        None => Ok(None),
     }
 }
 
 // The path of a value is used, if it is the number of a file.
 fn put_value(
+    alloc: Global,
     pool: &mut Pool,
-    tables: &[FileTable],
+    tables: &[TableRows],
     line: Option<usize>,
     pair: &Pair,
     raw: &Raw,
@@ -101,14 +107,15 @@ fn put_value(
     ensures { OnOk result (pool.new ≡ with_all pool.old (path_read tables.now line (value_read 0 pair.now (raw_view raw.now)))) }
 {
     if is_file(pair) {
-        put_path(pool, path_at(tables, line, number_of(raw)))
+        let path = path_at(alloc, tables, line, number_of(raw))?;
+        put_path(pool, path)
     } else {
         Ok(())
     }
 }
 
 // The paths of an entry of a file are used.
-fn put_row(pool: &mut Pool, file: &File, entry: u32) -> Result<(), NoMemory>
+fn put_row(alloc: Global, pool: &mut Pool, file: &File, entry: u32) -> Result<(), NoMemory>
     requires { entry < entries_in (units_of file.now.units) }
     ensures { (row : EntryRow) → slice_get (rows_of (units_of file.now.units)) entry ≡ Some row
         → OnOk result (pool.new ≡ with_all pool.old (row_paths file.now row)) }
@@ -119,13 +126,13 @@ fn put_row(pool: &mut Pool, file: &File, entry: u32) -> Result<(), NoMemory>
     let Values { pairs, mut cursor } = file.units.values(entry);
     for pair in pairs {
         let raw = known_value(&mut cursor, pair);
-        put_value(pool, tables, line, pair, &raw)?;
+        put_value(alloc, pool, tables, line, pair, &raw)?;
     }
     Ok(())
 }
 
 // The paths of an entry of these files are used, if it is there.
-fn put_row_at(pool: &mut Pool, files: &[File], row: Row) -> Result<(), NoMemory>
+fn put_row_at(alloc: Global, pool: &mut Pool, files: &[File], row: Row) -> Result<(), NoMemory>
     ensures { OnOk result (pool.new ≡ with_all pool.old (paths_at files.now row)) }
 {
     let Some(file) = files.get(row.file as usize) else {
@@ -134,15 +141,15 @@ fn put_row_at(pool: &mut Pool, files: &[File], row: Row) -> Result<(), NoMemory>
     if row.entry >= file.units.entries() {
         return Ok(());
     }
-    put_row(pool, file, row.entry)
+    put_row(alloc, pool, file, row.entry)
 }
 
 // The paths of an entry that is written are used.
-fn put_entry(pool: &mut Pool, files: &[File], origin: Origin) -> Result<(), NoMemory>
+fn put_entry(alloc: Global, pool: &mut Pool, files: &[File], origin: Origin) -> Result<(), NoMemory>
     ensures { OnOk result (pool.new ≡ with_all pool.old (origin_paths files.now origin)) }
 {
     match origin {
-        Origin::Read(row) => put_row_at(pool, files, row),
+        Origin::Read(row) => put_row_at(alloc, pool, files, row),
         Origin::OwnRoot(_) => Ok(()),
         Origin::Chained { .. } => Ok(()),
         Origin::Imported(_) => Ok(()),
@@ -151,6 +158,7 @@ fn put_entry(pool: &mut Pool, files: &[File], origin: Origin) -> Result<(), NoMe
 
 // The paths of the entries of a unit are used.
 fn put_unit(
+    alloc: Global,
     pool: &mut Pool,
     files: &[File],
     known: &EntryTable,
@@ -160,7 +168,7 @@ fn put_unit(
 {
     let mut walk = Walk::new(known, items);
     while let Some(entry) = walk.next() {
-        put_entry(pool, files, entry.origin)?;
+        put_entry(alloc, pool, files, entry.origin)?;
     }
     Ok(())
 }
@@ -180,7 +188,7 @@ pub fn common_paths(
 {
     let mut pool = Pool::new(alloc);
     for items in order {
-        put_unit(&mut pool, files, known, items)?;
+        put_unit(alloc, &mut pool, files, known, items)?;
     }
     Ok(pool)
 }

@@ -2,7 +2,7 @@
 use Rattle.std.proofs.Common.{◌≡◌, ℕ, zero, suc, ◌<◌, ◌≤◌, ◌^◌, Bool, true, false, cond, List, [], ◌∷◌, ◌++◌, length, Option, Some, None, Result, Ok, Err, pos, negsuc, slice_get, nat_eq, refl, sym}
 use Rattle.std.proofs.Common.{ap, subst, ◌∙◌, inl, inr, arith}
 use Rattle.std.specs.Prelude.{ℤ}
-use Rattle.std.specs.Option.{is_some, option_map}
+use Rattle.std.specs.Option.{is_some}
 use lib.Signed.{lt_z}
 use Rattle.dwz_graph.specs.declared.files.Files.{Files}
 use Rattle.std.proofs.lemmas.Bool.{cases_Bool, cond-false, cond-true, eqb-true, false≢true, ltb-true}
@@ -30,17 +30,13 @@ none_behind [] n le = refl
 none_behind (p ∷ paths) zero le = absurd (omega arith)
 none_behind (p ∷ paths) (suc n) le = none_behind paths n (omega arith)
 
-is_none : {X : Type 0} (f : X → List ℕ) (o : Option X) → option_map f o ≡ None → is_some o ≡ false
-is_none f None e = refl
-is_none f (Some x) e = absurd cc
-
 -- no table has as many files
-pub past_all : {X : Type 0} (t : FileTable) (z : ℤ) (f : X → List ℕ) (o : Option X) → lt_z (pos 18446744073709551615) z ≡ true → length t.paths < 2 ^ 63
-    → option_map f o ≡ nth_path t.paths 18446744073709551615 → is_some o ≡ is_some (path_by t z)
-past_all t (pos n) f o above few is =
+pub past_all : (t : FileTable) (z : ℤ) (there : Bool) → lt_z (pos 18446744073709551615) z ≡ true → length t.paths < 2 ^ 63
+    → there ≡ is_some (nth_path t.paths 18446744073709551615) → there ≡ is_some (path_by t z)
+past_all t (pos n) there above few is =
     let lt = ltb-true 18446744073709551615 n above in
-    is_none f o (is ∙ none_behind t.paths 18446744073709551615 (omega arith)) ∙ sym (ap (λ (o : Option (List ℕ)). is_some o) (none_behind t.paths n (omega arith)))
-past_all t (negsuc n) f o above few is = absurd (false≢true above)
+    is ∙ ap (λ (o : Option (List ℕ)). is_some o) (none_behind t.paths 18446744073709551615 (omega arith) ∙ sym (none_behind t.paths n (omega arith)))
+past_all t (negsuc n) there above few is = absurd (false≢true above)
 
 pub plain_number : (z y : ℤ) → y ≡ z → lt_z (pos 18446744073709551615) y ≡ true → lt_z (pos 18446744073709551615) z ≡ true
 plain_number z y e h = ap (λ (x : ℤ). lt_z (pos 18446744073709551615) x) (sym e) ∙ h

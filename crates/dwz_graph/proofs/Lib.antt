@@ -20,6 +20,9 @@ pub mod OperandSteps
 pub mod FileSteps
 pub mod ListSteps
 pub mod ConstantSteps
+pub mod MarkLemmas
+pub mod ListPasses
+pub mod ListKept
 pub mod ListStates
 pub mod ListGoes
 pub mod PartSteps

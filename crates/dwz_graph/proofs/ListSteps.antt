@@ -15,23 +15,18 @@ use Rattle.dwz_def_reading.specs.declared.exprs.Operand.{Operand}
 use Rattle.dwz_def_reading.specs.Exprs.{bad_operand, first_unnamed}
 use Rattle.dwz_def_reading.specs.Meanings.{MeaningContext, expr_context, leads_to, target_of}
 use Rattle.dwz_def_reading.specs.Meant.{list_read}
-use Rattle.dwz_def_reading.specs.LocLists.{LocList, list_at}
-use Rattle.dwz_def_reading.specs.Sequences.{read_from}
-use Rattle.dwz_def_reading.specs.Shared.{of_unit, operands_of}
+use Rattle.dwz_def_reading.specs.Shared.{of_unit}
 use Rattle.dwz_def_reading.specs.Faults.{Fails}
+use Rattle.dwz_def_reading.specs.Reading.{◌>>=◌}
 use Rattle.dwz_def_reading.proofs.ListFacts.{drop_here, in_cases, in_left, in_right}
 use Rattle.dwz_expr.specs.FirstFault.{unless_one}
-use Rattle.dwz_expr.specs.Gathering.{added}
-use Rattle.dwz_lists.specs.FirstFault.{AreAsked, WalksInto}
-use Rattle.dwz_lists.specs.Gathering.{in_lists}
+use Rattle.dwz_lists.specs.Entries.{with_before}
 use Rattle.dwz_graph.specs.declared.lists.ListRow.{ListRow}
-use Rattle.dwz_graph.specs.declared.lists.Lists.{Lists}
-use Rattle.dwz_graph.specs.ListSteps.{named_list}
-use Rattle.dwz_graph.proofs.ListStates.{IsAdded, rows_stand, small_stand, stands_here}
+use Rattle.dwz_graph.specs.declared.list_parts.Stop.{Stop}
+use Rattle.dwz_graph.specs.ListParts.{ReadsUp}
 use Rattle.dwz_graph.specs.declared.operands.ListOperand.{ListOperand}
-use Rattle.dwz_graph.specs.Apart.{Rows}
 use Rattle.dwz_graph.specs.ListRows.{IsOfFile, number_for, operand_view, start_of}
-use Rattle.dwz_graph.specs.ListSteps.{AreOperands, AreSmall, NamesRows}
+use Rattle.dwz_graph.specs.ListSteps.{AreOperands, NamesRows}
 use Rattle.dwz_graph.specs.Operands.{IsUnnamed, is_named}
 use Rattle.dwz_graph.specs.Places.{place_at}
 use Rattle.dwz_graph.proofs.OperandSteps.{first_of, one_named, one_unnamed}
@@ -104,67 +99,28 @@ kept_fail raw file s operands old new (Refused g) f is h = let same : g ≡ f = 
 
 -- ---- a list that is read
 
--- what stands there, and its operands
-pub record WasRead (s : MeaningContext ℕ) (place end : ℕ) (operands : List Operand) : Type 0 where
-  pub list : LocList
-  pub read : list_read s place ≡ Ok list
-  pub ends : list.end ≡ end
-  pub has : operands_of list.exprs ≡ operands
-
-module _ (raw : List RawUnit) (file : ℕ) (s : MeaningContext ℕ) (place : ℕ) (operands : List Operand) where
-  asks_list : (r : Result ℕ ReadErr) → (r ≡ Err NoMemory → ⊥) → WalksInto s.around.sources.lists place operands r → AreAsked s.around.sources.lists place operands
-  asks_list (Ok end) some w = w.1
-  asks_list (Err NoMemory) some w = absurd (some refl)
-  asks_list (Err (Refused f)) some w = w.1
-
-  all_asked : AreAsked s.around.sources.lists place operands → first_unnamed (is_named s) operands ≡ None → list_read s place ≡ read_from (list_at in_lists) s.around.sources.lists place
-  all_asked asks none = asks (expr_context s 7) refl ∙ ap (unless_one (expr_context s 7) (read_from (list_at in_lists) s.around.sources.lists place)) none
-
-  pub list_unnamed : (e : ReadErr) (r : Result ℕ ReadErr) (old new : List ListOperand) → (r ≡ Err NoMemory → ⊥) → WalksInto s.around.sources.lists place operands r
+module _ (raw : List RawUnit) (file : ℕ) (s : MeaningContext ℕ) (place : ℕ) (operands : List Operand) (rows : List ListRow) (marks : List ℕ) (n : ℕ) (places : List ℕ) where
+  -- where one of the operands names no entry
+  pub list_unnamed : (e : ReadErr) (r : Result Stop ReadErr) (old new : List ListOperand) → (r ≡ Err NoMemory → ⊥) → ReadsUp s.around.sources.lists rows marks n place operands places r
       → NamesRows {Y = Unit {0}} raw file s operands old new (Err e) → Fails e (list_read s place)
   list_unnamed NoMemory r old new some w h = tt
-  list_unnamed (Refused f) r old new some w h =
-      asks_list r some w (expr_context s 7) refl ∙ ap (unless_one (expr_context s 7) (read_from (list_at in_lists) s.around.sources.lists place)) h.first ∙ ap (λ (x : Fault). Err x) (sym h.placed)
+  list_unnamed (Refused f) (Ok x) old new some w h =
+      w.part.leads (expr_context s 7) refl ∙ ap (unless_one (expr_context s 7) (list_read s w.to >>= with_before w.part.exprs)) h.first ∙ ap (λ (x : Fault). Err x) (sym h.placed)
+  list_unnamed (Refused f) (Err NoMemory) old new some w h = absurd (some refl)
+  list_unnamed (Refused f) (Err (Refused g)) old new some w h = w (expr_context s 7) refl ∙ ap (unless_one (expr_context s 7) (Err g)) h.first ∙ ap (λ (x : Fault). Err x) (sym h.placed)
 
-  refused_by : (e : ReadErr) → WalksInto s.around.sources.lists place operands (Err e) → first_unnamed (is_named s) operands ≡ None → Fails e (list_read s place)
+  -- where each does
+  refused_by : (e : ReadErr) → ReadsUp s.around.sources.lists rows marks n place operands places (Err e) → first_unnamed (is_named s) operands ≡ None → Fails e (list_read s place)
   refused_by NoMemory w none = tt
-  refused_by (Refused f) w none = all_asked w.1 none ∙ w.0
+  refused_by (Refused f) w none = w (expr_context s 7) refl ∙ ap (unless_one (expr_context s 7) (Err f)) none
 
-  pub list_refused : (r : Result ℕ ReadErr) (e : ReadErr) → r ≡ Err e → WalksInto s.around.sources.lists place operands r → first_unnamed (is_named s) operands ≡ None → Fails e (list_read s place)
-  list_refused r e is w none = refused_by e (subst (λ (x : Result ℕ ReadErr). WalksInto s.around.sources.lists place operands x) is w) none
+  pub list_refused : (r : Result Stop ReadErr) (e : ReadErr) → r ≡ Err e → ReadsUp s.around.sources.lists rows marks n place operands places r → first_unnamed (is_named s) operands ≡ None
+      → Fails e (list_read s place)
+  list_refused r e is w none = refused_by e (subst (λ (x : Result Stop ReadErr). ReadsUp s.around.sources.lists rows marks n place operands places x) is w) none
 
-  read_by : (end : ℕ) → WalksInto s.around.sources.lists place operands (Ok end) → first_unnamed (is_named s) operands ≡ None → WasRead s place end operands
-  read_by end w none = record { list = w.0.list; read = all_asked w.1 none ∙ w.0.read; ends = w.0.ends; has = w.0.has }
-
-  pub list_was_read : (r : Result ℕ ReadErr) (end : ℕ) → r ≡ Ok end → WalksInto s.around.sources.lists place operands r → first_unnamed (is_named s) operands ≡ None → WasRead s place end operands
-  list_was_read r end is w none = read_by end (subst (λ (x : Result ℕ ReadErr). WalksInto s.around.sources.lists place operands x) is w) none
-
-  pub list_added : (end : ℕ) (w : ListRow) (old new : Lists) (h : WasRead s place end operands) → place < length s.around.sources.lists → length s.around.sources.lists < 2 ^ 32
-      → AreOperands raw file s operands old.operands.items new.operands.items → w.from ≡ place → w.end ≡ end → w.first ≡ length old.operands.items → w.last ≡ length new.operands.items
-      → new.rows.items ≡ old.rows.items ++ w ∷ [] → new.slots.items ≡ old.slots.items → IsAdded raw file (named_list s None place h.list) old new
-  list_added end w old new h lt short a from ends first last rows slots =
-      let here = stands_here s place h.list lt h.read in
-      let low = here.within in
-      let small : AreSmall operands = subst (λ (os : List Operand). AreSmall os) h.has (small_stand (operands_of h.list.exprs) (place + 1) h.list.end (omega arith) here.stand) in
-      let views : map (operand_view raw) a.more ≡ map (of_unit s.unit) (operands_of h.list.exprs) = a.views small ∙ ap (map (of_unit s.unit)) (sym h.has) in
-      record {
-        more = a.more;
-        w = w;
-        no_slot = refl;
-        from = from;
-        end = ends ∙ sym h.ends;
-        first = first;
-        last = last;
-        operands = a.added;
-        rows = rows;
-        slots = slots;
-        views = views;
-        of_file = a.of_file;
-        stand = subst (λ (p : ℕ). Rows (p + 1) a.more w.end) (sym from)
-            (subst (λ (p : ℕ). Rows (place + 1) a.more p) (h.ends ∙ sym ends) (rows_stand raw s.unit a.more (operands_of h.list.exprs) (place + 1) h.list.end views here.stand));
-      }
-
--- what the call on the code's own row says
-pub walks_row : (section : List ℕ) (place : ℕ) (cleared operands shown : List Operand) (r : Result ℕ ReadErr) → cleared ≡ [] → shown ≡ operands → WalksInto section place (added cleared operands) r
-    → WalksInto section place shown r
-walks_row section place cleared operands shown r none same w = subst (λ (os : List Operand). WalksInto section place os r) (ap (λ (x : List Operand). added x operands) none ∙ sym same) w
+-- what the call on the code's own rows says
+pub ups_row : (section : List ℕ) (n place : ℕ) (rows rows' : List ListRow) (marks marks' : List ℕ) (operands operands' : List Operand) (places : List ℕ) (r : Result Stop ReadErr) → rows' ≡ rows
+    → marks' ≡ marks → operands' ≡ operands → ReadsUp section rows' marks' n place operands places r → ReadsUp section rows marks n place operands' places r
+ups_row section n place rows rows' marks marks' operands operands' places r same marked shown w =
+    subst (λ (xs : List Operand). ReadsUp section rows marks n place xs places r) (sym shown)
+    (subst (λ (xs : List ℕ). ReadsUp section rows xs n place operands places r) marked (subst (λ (xs : List ListRow). ReadsUp section xs marks' n place operands places r) same w))

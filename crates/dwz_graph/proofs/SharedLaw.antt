@@ -8,7 +8,6 @@ use Rattle.dwz_def_reading.specs.Lists.{In}
 use Rattle.dwz_def_reading.specs.Rows.{has}
 use Rattle.dwz_def_reading.specs.Units.{RawUnit}
 use Rattle.dwz_def_reading.proofs.ListFacts.{in_cases, in_left, in_right}
-use Rattle.dwz_def_reading.specs.declared.exprs.Operand.{Operand}
 use Rattle.dwz_def_reading.specs.Shared.{AreRows, Ascend, Clashes, HasByte, IsInSlot, IsSame, IsShared, IsSharedAt, ListOperand, NamedList, NoneShared, OneOf, has_byte, none_shared, of_unit}
 use Rattle.dwz_def_reading.specs.Shared.{operands_in_lists, own_operands, shared_list}
 use Rattle.dwz_def_reading.proofs.SharedLemmas.{has_decides, shared_agrees}
@@ -18,7 +17,7 @@ use Rattle.dwz_graph.specs.declared.lists.ListRow.{ListRow}
 use Rattle.dwz_graph.specs.declared.lists.Lists.{Lists}
 use Rattle.dwz_graph.specs.declared.operands.ListOperand.{ListOperand as Row}
 use Rattle.dwz_graph.specs.Apart.{AreWide, Before, Clash, FindsApart, Foreign, HasClash, IsCause, Rise, Rows, Same, Test, Tested, places_of_rows}
-use Rattle.dwz_graph.specs.ListRows.{AreOfFile, AreDistinct, IsRowOf, Shows, operand_view, own_rows, row_test, slot_test, start_of, tests_of}
+use Rattle.dwz_graph.specs.ListRows.{AreOfFile, AreDistinct, IsPieceOf, Shows, operand_view, own_rows, row_test, slot_test, start_of, tests_of}
 use Rattle.dwz_graph.proofs.ApartLemmas.{each_behind, each_wide, in_take, one_row}
 use Rattle.dwz_graph.proofs.PassLemmas.{same_sym, same_trans}
 
@@ -40,12 +39,12 @@ in_sorted xs ys p x is = contains_in ys x (Contains-permutation xs ys x p (in_co
 pub in_unsorted : {X : Type 0} (xs ys : List X) → IsPermutation xs ys → (x : X) → In x ys → In x xs
 in_unsorted xs ys p x is = in_sorted ys xs (IsPermutation-sym xs ys p) x is
 
-in_map : {X Y : Type 0} (f : X → Y) (xs : List X) (x : X) → In x xs → In (f x) (map f xs)
+pub in_map : {X Y : Type 0} (f : X → Y) (xs : List X) (x : X) → In x xs → In (f x) (map f xs)
 in_map f [] x is = absurd is
 in_map f (y ∷ xs) x (inl e) = inl (ap f e)
 in_map f (y ∷ xs) x (inr later) = inr (in_map f xs x later)
 
-from_map : {X Y : Type 0} (f : X → Y) (xs : List X) (y : Y) → In y (map f xs) → OneOf xs (λ x. f x ≡ y)
+pub from_map : {X Y : Type 0} (f : X → Y) (xs : List X) (y : Y) → In y (map f xs) → OneOf xs (λ x. f x ≡ y)
 from_map f [] y is = absurd is
 from_map f (x ∷ xs) y (inl e) = (x, inl refl, e)
 from_map f (x ∷ xs) y (inr later) = let r = from_map f xs y later in (r.0, inr r.1, r.2)
@@ -89,6 +88,9 @@ in_lists (l ∷ named) x is = elim (in_cases x (map (of_unit l.unit) (own_operan
   | inr later ↦ let r = in_lists named x later in (r.0, inr r.1, r.2)
 ]
 
+byte_same : (x y : ListOperand) (b : ℕ) → x ≡ y → HasByte y.operand b → HasByte x.operand b
+byte_same x y b e h = subst (λ (z : ListOperand). HasByte z.operand b) (sym e) h
+
 before_lower : (c : Option ℕ) (m n : ℕ) → m ≤ n → Before c n → Before c m
 before_lower None m n le b = tt
 before_lower (Some place) m n le b = omega (arith, le, b)
@@ -119,24 +121,17 @@ module _ (raw : List RawUnit) (file : ℕ) (named : List NamedList) (lists : Lis
   kept_view : (x : ListOperand) → In x (operands_in_lists named) → OneOf all (λ o. view o ≡ x)
   kept_view x is =
       let l = in_lists named x is in
-      let w = shows.rows l.0 l.1 in
-      let o = from_map view (own_rows all w.0) x (subst (λ (ys : List ListOperand). In x ys) (sym w.2.own) l.2) in
-      (o.0, own_in_all all w.0 o.0 o.1, o.2)
+      let p = from_map (of_unit l.0.unit) (own_operands l.0) x l.2 in
+      let o = (shows.rows l.0 l.1).own p.0 p.1 in
+      (o.0, o.1, o.2 ∙ p.2)
 
   -- what is kept is an operand of a list
   view_kept : (o : Row) → In o all → In (view o) (operands_in_lists named)
   view_kept o is =
       let w = shows.operands_of o is in
       let l = shows.lists_of w.0 w.1 in
-      lists_in named l.0 (view o) l.1 (subst (λ (ys : List ListOperand). In (view o) ys) l.2.own (in_map view (own_rows all w.0) o w.2))
-
-  -- an own operand of a list, and how it is kept
-  own_kept : (l : NamedList) (w : ListRow) → IsRowOf raw all l w → (p : Operand) → In p (own_operands l) → OneOf (own_rows all w) (λ o. view o ≡ of_unit l.unit p)
-  own_kept l w is p there = from_map view (own_rows all w) (of_unit l.unit p)
-      (subst (λ (ys : List ListOperand). In (of_unit l.unit p) ys) (sym is.own) (in_map (of_unit l.unit) (own_operands l) p there))
-
-  kept_own : (l : NamedList) (w : ListRow) → IsRowOf raw all l w → (o : Row) → In o (own_rows all w) → OneOf (own_operands l) (λ p. of_unit l.unit p ≡ view o)
-  kept_own l w is o there = from_map (of_unit l.unit) (own_operands l) (view o) (subst (λ (ys : List ListOperand). In (view o) ys) is.own (in_map view (own_rows all w) o there))
+      let p = l.2.others o w.2 in
+      lists_in named l.0 (view o) l.1 (subst (λ (y : ListOperand). In y (map (of_unit l.0.unit) (own_operands l.0))) p.2 (in_map (of_unit l.0.unit) (own_operands l.0) p.0 p.1))
 
   module _ (distinct : AreDistinct raw) (sorted kept : List Row) (moved : IsPermutation all sorted) (clash : Option ℕ) (apart : FindsApart sorted kept clash) (place : Option ℕ)
       (tested : Tested sorted kept clash (tests_of lists) place) where
@@ -167,7 +162,7 @@ module _ (raw : List RawUnit) (file : ℕ) (named : List NamedList) (lists : Lis
       is : In f.row all
       is = kept_all f.row f.is_row
 
-      l : OneOf named (λ l. IsRowOf raw all l w)
+      l : OneOf named (λ l. IsPieceOf raw all l.unit l.from l.list w)
       l = shows.lists_of w there
 
       g : (c : ℕ) × (f.row.at ≤ c) × (w.from ≤ c) × ((c ≡ f.row.at) ⊎ (c ≡ w.from))
@@ -202,7 +197,7 @@ module _ (raw : List RawUnit) (file : ℕ) (named : List NamedList) (lists : Lis
           ))
       by true e =
           let p = (decides_any (has_byte b) (λ p. HasByte p b) (has_decides b) (own_operands l.0)).yes e in
-          let o = own_kept l.0 w l.2 p.0 p.1 in
+          let o = l.2.own p.0 p.1 b p.2 in_list in
           let mine = own_in_all all w o.0 o.1 in
           let behind = each_behind (own_rows all w) (w.from + 1) w.end (shows.stand w there) o.0 o.1 in
           let h : HasByte (view o.0).operand b = subst (λ (x : ListOperand). HasByte x.operand b) (sym o.2) p.2 in
@@ -261,15 +256,13 @@ module _ (raw : List RawUnit) (file : ℕ) (named : List NamedList) (lists : Lis
     none_before o is before (inr (inl inside)) =
         let l = inside.0 in
         let i = inside.2 in
-        let w = shows.rows l inside.1 in
+        let w = (shows.rows l inside.1).bytes i.byte i.from i.to in
         let r = kept_for o is before in
         let h = byte_of r.0 o i.byte r.2 i.has in
         let low = h.0 in
         let high = h.1 in
-        let from = i.from in
-        let to = i.to in
-        let begin = w.2.from in
-        let end = w.2.end in
+        let begin = w.2.low in
+        let end = w.2.high in
         let same = r.2.at in
         let owns = tested.none (row_test all w.0) (in_left (row_test all w.0) (map (row_test all) lists.rows.items) (map slot_test lists.slots.items) (in_map (row_test all) lists.rows.items w.0 w.1))
         r.0 r.1 (subst (λ (n : ℕ). Before place n) (sym same) before) (record { low = omega arith; high = omega arith }) in
@@ -283,10 +276,10 @@ module _ (raw : List RawUnit) (file : ℕ) (named : List NamedList) (lists : Lis
         let at_own = own.2 in
         let one = one_row kept 0 apart.top apart.rows r.0 q.0 r.1 q.1 r.0.at (omega arith) (omega arith) (omega arith) (omega arith) in
         let both : Same r.0 own.0 = subst (λ (x : Row). Same x own.0) (sym one) q.2 in
-        let p = kept_own l w.0 w.2 own.0 own.1 in
         let wide_own = both.width in
         let has : HasByte (view own.0).operand i.byte = (omega arith, omega arith) in
-        i.others p.0 p.1 (subst (λ (x : ListOperand). HasByte x.operand i.byte) (sym p.2) has)
+        let p = w.2.others own.0 own.1 has in
+        i.others p.0 p.1 (byte_same (of_unit l.unit p.0) (view own.0) i.byte p.2 has)
     none_before o is before (inr (inr slotted)) =
         let l = slotted.0 in
         let i = slotted.2 in

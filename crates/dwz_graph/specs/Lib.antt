@@ -2,6 +2,7 @@ pub mod Named
 pub mod TextEnds
 pub mod Apart
 pub mod ListRows
+pub mod ListParts
 pub mod State
 pub mod Resolved
 pub mod Said

@@ -4,7 +4,9 @@ use Rattle.dwz_model.specs.declared.place.Base.{Base}
 use Rattle.dwz_model.specs.declared.place.Base.TheVariants.{Unit as FromUnit, Info as FromInfo}
 use Rattle.dwz_def_reading.specs.Lists.{In}
 use Rattle.dwz_def_reading.specs.Units.{RawUnit, entries_in}
-use Rattle.dwz_def_reading.specs.Shared.{AreRows, ListOperand, NamedList, OneOf, none_shared, of_unit, own_operands}
+use Rattle.dwz_def_reading.specs.declared.exprs.Operand.{Operand}
+use Rattle.dwz_def_reading.specs.LocLists.{LocList}
+use Rattle.dwz_def_reading.specs.Shared.{AreRows, HasByte, ListOperand, NamedList, OneOf, none_shared, of_unit, operands_of}
 use Rattle.dwz_graph.specs.declared.lists.ListRow.{ListRow}
 use Rattle.dwz_graph.specs.declared.lists.Lists.{Lists}
 use Rattle.dwz_graph.specs.declared.operands.ListOperand.{ListOperand as OperandOfCode}
@@ -62,11 +64,25 @@ IsWithin operands w = (w.first ≤ w.last) × (w.last ≤ length operands)
 abbrev pub AreWithin : Lists → Type 0
 AreWithin lists = (w : ListRow) → In w lists.rows.items → IsWithin lists.operands.items w
 
--- what is kept of a list: its operands stand behind its first byte, and it has a byte
-pub record IsRowOf (raw : List RawUnit) (operands : List OperandOfCode) (l : NamedList) (w : ListRow) : Type 0 where
-  pub from : w.from ≡ l.from
-  pub end : w.end ≡ l.list.end
-  pub own : map (operand_view raw) (own_rows operands w) ≡ map (of_unit l.unit) (own_operands l)
+-- A list that a unit names, from the place from which its entries were read, and up to where others were read before: its operands that have
+-- a byte there are the row's own.
+pub record IsPieceOf (raw : List RawUnit) (operands : List OperandOfCode) (unit place : ℕ) (list : LocList) (w : ListRow) : Type 0 where
+  pub from : w.from ≡ place
+  pub end : w.end ≤ list.end
+  pub own : (p : Operand) → In p (operands_of list.exprs) → (b : ℕ) → HasByte p b → b < w.end → OneOf (own_rows operands w)
+      (λ o. operand_view raw o ≡ of_unit unit p)
+  pub others : (o : OperandOfCode) → In o (own_rows operands w) → OneOf (operands_of list.exprs) (λ p. of_unit unit p ≡ operand_view raw o)
+
+-- a byte of a list is in that row, whose operands with this byte are the list's
+pub record HasRow (raw : List RawUnit) (operands : List OperandOfCode) (unit : ℕ) (own : List Operand) (b : ℕ) (w : ListRow) : Type 0 where
+  pub low : w.from ≤ b
+  pub high : b < w.end
+  pub others : (o : OperandOfCode) → In o (own_rows operands w) → HasByte (operand_view raw o).operand b → OneOf own (λ p. of_unit unit p ≡ operand_view raw o)
+
+-- a list that a unit names is kept: its operands, and each of its bytes in a row
+pub record IsKept (raw : List RawUnit) (rows : List ListRow) (operands : List OperandOfCode) (unit from : ℕ) (list : LocList) : Type 0 where
+  pub own : (p : Operand) → In p (operands_of list.exprs) → OneOf operands (λ o. operand_view raw o ≡ of_unit unit p)
+  pub bytes : (b : ℕ) → from ≤ b → b < list.end → OneOf rows (HasRow raw operands unit (operands_of list.exprs) b)
 
 -- its unit and its entry are of the file with that number, and the entry stands at its place
 pub record IsOfFile (raw : List RawUnit) (number : ℕ) (o : OperandOfCode) : Type 0 where
@@ -78,11 +94,11 @@ pub record IsOfFile (raw : List RawUnit) (number : ℕ) (o : OperandOfCode) : Ty
 abbrev pub AreOfFile : List RawUnit → ℕ → List OperandOfCode → Type 0
 AreOfFile raw file rows = (o : OperandOfCode) → In o rows → IsOfFile raw file o
 
--- these lists of the file with that number are kept, and no others
+-- these lists of the file with that number are kept, and no others: each row is a part of one
 pub record Shows (raw : List RawUnit) (file : ℕ) (named : List NamedList) (lists : Lists) : Type 0 where
   pub within : AreWithin lists
-  pub rows : (l : NamedList) → In l named → OneOf lists.rows.items (IsRowOf raw lists.operands.items l)
-  pub lists_of : (w : ListRow) → In w lists.rows.items → OneOf named (λ l. IsRowOf raw lists.operands.items l w)
+  pub rows : (l : NamedList) → In l named → IsKept raw lists.rows.items lists.operands.items l.unit l.from l.list
+  pub lists_of : (w : ListRow) → In w lists.rows.items → OneOf named (λ l. IsPieceOf raw lists.operands.items l.unit l.from l.list w)
   pub slots : (l : NamedList) (slot : ℕ) → In l named → l.slot ≡ Some slot → In slot lists.slots.items
   pub slots_of : (slot : ℕ) → In slot lists.slots.items → OneOf named (λ l. l.slot ≡ Some slot)
   pub operands_of : (o : OperandOfCode) → In o lists.operands.items → OneOf lists.rows.items (λ w. In o (own_rows lists.operands.items w))

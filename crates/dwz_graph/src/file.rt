@@ -27,7 +27,7 @@ pub struct File<'a> {
     /// Its units and their entries.
     pub units: Units<'a>,
     /// The entries that its values name.
-    pub resolved: Resolved,
+    pub resolved: Resolved<'a>,
 }
 
 /// What the files before a file leave: how many bytes and entries may still come, and the machine that they are for.

@@ -1,12 +1,13 @@
 //! Files that values number (DWARF 5, 2.14 and 6.2.4): rows of their unit's line table.
 //!
 //! A line table is read once for each place that a unit names, and kept by its place. Tables that overlap are read one by one: each lays
-//! out its rows by the formats of its own header, so what one read of the same bytes says nothing of another.
+//! out its rows by the formats of its own header, so what one read of the same bytes says nothing of another. A row has a byte at least, so
+//! tables that don't overlap keep all their rows.
 
 ghost use Rattle.std.specs.Prelude.{◌≡◌, Some, true, slice_get};
 ghost use Rattle.std.specs.Option.{is_some};
 ghost use Rattle.dwz_forms.specs.RawValues.{raw_view};
-ghost use Rattle.dwz_def_reading.specs.LineTables.{FileTable as Paths};
+ghost use Rattle.dwz_def_reading.specs.LineTables.{FileTable};
 ghost use Rattle.dwz_def_reading.specs.Meanings;
 ghost use Rattle.dwz_def_reading.specs.Classes;
 ghost use Rattle.dwz_def_reading.specs.Meanings.{path_by};
@@ -21,16 +22,18 @@ use crate::places::TablePlaces;
 use crate::sections::InputSections;
 use dwz_codes::names_file;
 use dwz_forms::Raw;
-use dwz_lines::FileTable;
+use dwz_lines::TableRows;
 use dwz_model::{DEBUG_INFO, Fault, ReadErr, Reason};
 use std::alloc::Global;
 
 /// The line tables that were read.
 #[derive(Drop)]
-pub(crate) struct Files {
+pub(crate) struct Files<'a> {
     pub alloc: Global,
     /// The tables.
-    pub tables: Vec<FileTable>,
+    pub tables: Vec<TableRows<'a>>,
+    /// How many rows of directories and files they keep, all together: at most as many as `.debug_line` has bytes.
+    pub rows: usize,
     /// The number of the table at a place of `.debug_line`.
     pub places: TablePlaces,
 }
@@ -58,22 +61,22 @@ fn number_of(raw: &Raw) -> i128
 
 // Whether a table has a file of that number. None has 2^64 files.
 #[inline(always)]
-fn has_path(table: &FileTable, number: i128) -> bool
+fn has_path(table: &TableRows, number: i128) -> bool
     ensures { result ≡ is_some (path_by table.now number) }
 {
     if number < 0 {
         return false;
     }
     if number > u64::MAX as i128 {
-        return table.path(u64::MAX).is_some();
+        return table.has_path(u64::MAX);
     }
-    table.path(number as u64).is_some()
+    table.has_path(number as u64)
 }
 
 // The same of the table with a number.
 #[inline(always)]
-fn has_row(tables: &[FileTable], table: usize, number: i128) -> bool
-    ensures { (t : Paths) → slice_get tables.now table ≡ Some t → result ≡ is_some (path_by t number) }
+fn has_row(tables: &[TableRows], table: usize, number: i128) -> bool
+    ensures { (t : FileTable) → slice_get tables.now table ≡ Some t → result ≡ is_some (path_by t number) }
 {
     if table >= tables.len() {
         return false;
@@ -89,14 +92,15 @@ fn unless_missing(is_there: bool, at: u64) -> Result<(), ReadErr>
     if is_there { Ok(()) } else { Err(bad_file(at)) }
 }
 
-impl Files {
+impl<'a> Files<'a> {
     /// None was read.
-    pub(crate) fn new(alloc: Global) -> Files
+    pub(crate) fn new(alloc: Global) -> Files<'a>
         ensures { (sources : Meanings.Sources) → KnowTables sources result }
     {
         Files {
             alloc,
             tables: Vec::new(alloc),
+            rows: 0,
             places: TablePlaces::new(alloc),
         }
     }
@@ -112,20 +116,23 @@ impl Files {
     }
 
     /// The number of the table at a place, which is read unless it was read before.
-    fn table(&mut self, sections: &InputSections, place: u32) -> Result<usize, ReadErr>
+    fn table(&mut self, sections: &InputSections<'a>, place: u32) -> Result<usize, ReadErr>
         ensures learns { IfLearns true (Some place) self.old self.new result }
         ensures finds { KnowTables (sources_view sections.now) self.old → FindsTable (sources_view sections.now) place self.new result }
     {
         if let Some(table) = self.places.find(place) {
             return Ok(table);
         }
-        let table = FileTable::read(
+        let mut left = sections.line.len().saturating_sub(self.rows);
+        let table = TableRows::read(
             self.alloc,
             sections.line,
             sections.line_strs.bytes,
             sections.strs.bytes,
             place as u64,
+            &mut left,
         )?;
+        self.rows = sections.line.len().saturating_sub(left);
         let number = self.tables.as_slice().len();
         self.tables.push(table)?;
         self.places.insert(place, number)?;
@@ -135,7 +142,7 @@ impl Files {
     /// Goes on where a value that stands at a place numbers a file of its unit, whose line table begins at `line`, if it has one.
     pub(crate) fn check(
         &mut self,
-        sections: &InputSections,
+        sections: &InputSections<'a>,
         line: Option<u32>,
         at: u64,
         raw: &Raw,
@@ -158,13 +165,13 @@ impl Files {
 
 /// Goes on where a number says something: one of a file is that of a row of the unit's line table.
 #[inline(always)]
-pub(crate) fn check_constant(
-    sections: &InputSections,
+pub(crate) fn check_constant<'a>(
+    sections: &InputSections<'a>,
     here: &Here,
     at: u64,
     name: u16,
     raw: &Raw,
-    files: &mut Files,
+    files: &mut Files<'a>,
 ) -> Result<(), ReadErr>
     ensures learns { IfLearns (Classes.names_file name) here.now.line files.old files.new result }
     ensures says { KnowTables (sources_view sections.now) files.old

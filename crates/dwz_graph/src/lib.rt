@@ -28,6 +28,7 @@ mod hints;
 mod index;
 mod index_files;
 mod kinds;
+mod list_parts;
 mod lists;
 mod named;
 mod operands;

@@ -1,54 +1,61 @@
 //! Location lists that attributes name (DWARF 5, 2.6.2 and 7.29).
 //!
-//! A list is read once for each unit and place that attributes name, and its operands are kept once.
+//! Each entry of a list is read once for each unit of which attributes name it, or name an entry before it, and its operands are kept once.
+//! What is behind the last operand of a list is read once for all units.
 
-ghost use Rattle.std.specs.Prelude.{◌≡◌, ◌≤◌, ◌<◌, ◌^◌, List, Some, true, length};
-ghost use Rattle.std.specs.BTreeMap.{get};
-ghost use Rattle.std.specs.Ordering.{nat_cmp};
+ghost use Rattle.std.specs.Prelude.{◌≡◌, ◌≤◌, ◌<◌, ◌^◌, List, [], ◌∷◌, ◌++◌, true, length, OnOk};
 ghost use Rattle.dwz_def_reading.specs.Units.{RawUnit, entries_in};
 ghost use Rattle.dwz_def_reading.specs.Faults.{info_fault};
 ghost use Rattle.dwz_def_reading.specs.Shared.{NamedList};
 ghost use Rattle.dwz_model.specs.declared.fault.ReadErr.TheVariants.{Refused};
 ghost use Rattle.dwz_model.specs.declared.fault.Reason.TheVariants.{BadList};
+ghost use Rattle.dwz_graph.specs.ListParts.{Marks, WasMarked};
 ghost use Rattle.dwz_graph.specs.ListSteps.{AddsIndexed, AddsList, AddsOffset, IsSlotAt, NamesRows, Walks};
 ghost use Rattle.dwz_graph.specs.Resolved.{IsHere, StateIn, place_at, scope_in};
 ghost use Rattle.dwz_unit.specs.Rows.{units_of};
 
 use crate::expressions::{bad_operand, entry_of, is_no_memory};
 use crate::here::Here;
+use crate::list_parts::{Stop, fit, mark, read_up, row_at};
 use crate::operands::ListOperand;
 use crate::sections::{InputSections, slot};
 use crate::state::State;
 use dwz_codes::names_list;
 use dwz_expr::Operand;
-use dwz_lists::walk_into;
 use dwz_model::{DEBUG_INFO, DEBUG_LOCLISTS, Fault, Place, ReadErr, Reason};
 use dwz_unit::Units;
-use std::collections::BTreeMap;
+use std::alloc::AllocError;
 
-/// A list that attributes of a unit name.
+/// A list that attributes of a unit name, up to where its entries were read before.
 #[derive(Clone, Copy)]
 pub(crate) struct ListRow {
     /// Where it begins, in bytes from the first of `.debug_loclists`.
     pub from: u64,
-    /// The place behind it.
+    /// The place behind what was read.
     pub end: u64,
     /// The number of its first operand among those of all lists, and the number behind that of its last.
     pub first: usize,
     pub last: usize,
+    /// The number of the unit.
+    pub unit: u32,
+    /// Whether the list ends with it, and has no operands.
+    pub plain: bool,
 }
 
 /// The lists that attributes name, as far as these were looked at.
 #[derive(Drop)]
 pub(crate) struct Lists {
-    /// Each for each unit once.
+    /// Those of one unit have no entry in common.
     pub rows: Vec<ListRow>,
     /// The operands of these, list by list and in order.
     pub operands: Vec<ListOperand>,
     /// The places of the slots through which lists are named.
     pub slots: Vec<u32>,
-    /// For the place of a list the last unit of which an attribute names it.
-    pub seen: BTreeMap<u64, u32>,
+    /// For each place of the section, as far as there is room, the number of the row that was made as the entry there was read, counted
+    /// from 1; and else 0.
+    pub marks: Vec<u32>,
+    /// The places of the entries that were read last, kept for the room that they have.
+    pub places: Vec<u64>,
 }
 
 // An operand of a list that an attribute of a unit names, and its entry.
@@ -100,7 +107,30 @@ fn name_operands(
     Ok(())
 }
 
-// Reads the list at a place, with the entries that its operands name.
+// Keeps a row, and that it was made as the entries at these places were read.
+fn keep(lists: &mut Lists, row: ListRow) -> Result<(), AllocError>
+    ensures rows { OnOk result (lists.new.rows.items ≡ lists.old.rows.items ++ row ∷ []) }
+    ensures operands { lists.new.operands ≡ lists.old.operands }
+    ensures slots { lists.new.slots ≡ lists.old.slots }
+    ensures marks { OnOk result (Marks lists.old.marks.items lists.old.places.items (length lists.new.rows.items)
+        lists.new.marks.items) }
+{
+    lists.rows.push(row)?;
+    let number = lists.rows.len();
+    if number <= u32::MAX as usize {
+        mark(&mut lists.marks, &lists.places, number as u32);
+    }
+    Ok(())
+}
+
+// Whether the list ends where reading stopped, and no operand was read.
+fn is_plain(stop: Stop, operands: &[Operand]) -> bool
+    ensures { result ≡ true → (stop.plain ≡ true) × (operands.now ≡ []) }
+{
+    stop.plain && operands.is_empty()
+}
+
+// Reads the list at a place, up to where its entries were read before, with the entries that its operands name.
 fn walk(
     units: &Units,
     sections: &InputSections,
@@ -118,8 +148,18 @@ fn walk(
         result }
 {
     state.operands.clear();
+    state.lists.places.clear();
+    fit(&mut state.lists.marks, sections.lists)?;
     let first = state.lists.operands.as_slice().len();
-    let read = walk_into(&mut state.operands, sections.lists, place);
+    let read = read_up(
+        &mut state.operands,
+        &mut state.lists.places,
+        sections.lists,
+        &state.lists.rows,
+        &state.lists.marks,
+        here.number,
+        place,
+    );
     if is_no_memory(&read) {
         return Err(ReadErr::NoMemory);
     }
@@ -131,31 +171,31 @@ fn walk(
         &state.operands,
         &mut state.lists.operands,
     )?;
-    let end = read?;
+    let stop = read?;
     let last = state.lists.operands.as_slice().len();
-    state.lists.rows.push(ListRow {
+    let row = ListRow {
         from: place,
-        end,
+        end: stop.end,
         first,
         last,
-    })?;
-    state.lists.seen.insert(place, here.number)?;
+        unit: here.number,
+        plain: is_plain(stop, &state.operands),
+    };
+    keep(&mut state.lists, row)?;
     Ok(())
 }
 
-// Whether a place was seen last in that unit.
-fn was_seen(seen: &BTreeMap<u64, u32>, place: u64, unit: u32) -> bool
-    ensures { result ≡ true → get nat_cmp seen.now place ≡ Some unit }
+// Whether an entry at a place was read for that unit.
+fn was_read(lists: &Lists, place: u64, unit: u32) -> bool
+    ensures { result ≡ true → WasMarked lists.now.rows.items lists.now.marks.items place unit }
 {
-    if let Some(number) = seen.get(&place) {
-        if *number == unit {
-            return true;
-        }
+    match row_at(&lists.rows, &lists.marks, place) {
+        None => false,
+        Some(row) => row.unit == unit,
     }
-    false
 }
 
-// The same, where the unit didn't name it before.
+// The same, where no entry there was read for the unit before.
 fn walk_once(
     units: &Units,
     sections: &InputSections,
@@ -172,7 +212,7 @@ fn walk_once(
         → Walks (units_of units.now) (scope_in sections.now (units_of units.now) u) here.now.number place before state.old state.new
         result }
 {
-    if was_seen(&state.lists.seen, place, here.number) {
+    if was_read(&state.lists, place, here.number) {
         return Ok(());
     }
     walk(units, sections, here, place, state)

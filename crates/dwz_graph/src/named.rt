@@ -44,16 +44,16 @@ fn unread_form(at: u64, form: u64) -> ReadErr
 
 // Adds what a value of that class names.
 #[inline(always)]
-fn add_as(
+fn add_as<'a>(
     class: Class,
     units: &Units,
-    sections: &InputSections,
+    sections: &InputSections<'a>,
     here: &Here,
     at: u64,
     end: u64,
     pair: &Pair,
     raw: &Raw,
-    state: &mut State,
+    state: &mut State<'a>,
 ) -> Result<(), ReadErr>
     requires { here.now.end ≤ entries_in (units_of units.now) }
     ensures file { state.new.file ≡ state.old.file }
@@ -105,15 +105,15 @@ fn add_as(
 
 // Adds what an attribute names.
 #[inline(always)]
-fn add_attr(
+fn add_attr<'a>(
     units: &Units,
-    sections: &InputSections,
+    sections: &InputSections<'a>,
     here: &Here,
     at: u64,
     end: u64,
     pair: &Pair,
     raw: &Raw,
-    state: &mut State,
+    state: &mut State<'a>,
 ) -> Result<(), ReadErr>
     requires { here.now.end ≤ entries_in (units_of units.now) }
     ensures file { state.new.file ≡ state.old.file }
@@ -140,12 +140,12 @@ fn add_attr(
 }
 
 // Adds what an entry names.
-fn add_values(
+fn add_values<'a>(
     units: &Units,
-    sections: &InputSections,
+    sections: &InputSections<'a>,
     here: &Here,
     i: u32,
-    state: &mut State,
+    state: &mut State<'a>,
 ) -> Result<(), ReadErr>
     requires row { i < entries_in (units_of units.now) }
     requires here { here.now.end ≤ entries_in (units_of units.now) }
@@ -168,11 +168,11 @@ fn add_values(
 }
 
 // Adds what the entries of a unit name.
-fn add_unit(
+fn add_unit<'a>(
     units: &Units,
-    sections: &InputSections,
+    sections: &InputSections<'a>,
     n: u32,
-    state: &mut State,
+    state: &mut State<'a>,
     parts: &mut Parts,
 ) -> Result<(), ReadErr>
     requires { n < length (units_of units.now) }
@@ -197,10 +197,10 @@ fn add_unit(
 }
 
 /// Adds what the entries of all units name; or fails with the first fault of what values mean.
-pub(crate) fn add_units(
+pub(crate) fn add_units<'a>(
     units: &Units,
-    sections: &InputSections,
-    state: &mut State,
+    sections: &InputSections<'a>,
+    state: &mut State<'a>,
     parts: &mut Parts,
 ) -> Result<(), ReadErr>
     ensures file { state.new.file ≡ state.old.file }

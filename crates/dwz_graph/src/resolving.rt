@@ -21,14 +21,14 @@ use crate::ranges::check_ranges;
 use crate::sections::InputSections;
 use crate::shared::unshared_operands;
 use crate::state::State;
-use dwz_lines::FileTable;
+use dwz_lines::TableRows;
 use dwz_model::ReadErr;
 use dwz_unit::Units;
 use std::alloc::Global;
 
 /// What the values of a file name.
 #[derive(Drop)]
-pub struct Resolved {
+pub struct Resolved<'a> {
     /// For each reference of the units, in preorder, then in the order of attributes, then of the operands of an expression, the
     /// number of the entry that it names. The operands of location lists aren't among them.
     pub refs: Vec<u32>,
@@ -36,7 +36,7 @@ pub struct Resolved {
     /// i-th are `refs[starts[i]..starts[i + 1]]`.
     pub starts: Vec<u32>,
     /// The line tables whose files are numbered, each once.
-    pub tables: Vec<FileTable>,
+    pub tables: Vec<TableRows<'a>>,
     /// For each unit the number of its line table in `tables`, where a value of its entries is the number of a file of that one.
     pub lines: Vec<Option<usize>>,
     /// The operands of the location lists that attributes name, each once, in order of place.
@@ -46,12 +46,12 @@ pub struct Resolved {
 /// Reads what the values of all units of a file by itself say, each of its sets of address ranges, and its location lists. Refused with the
 /// first fault of the meanings, else of the address ranges, else with that of shared lists. `file` is the number of the file, which the places
 /// of operands get.
-pub fn resolve(
+pub fn resolve<'a>(
     alloc: Global,
     file: u32,
     units: &Units,
-    sections: &InputSections,
-) -> Result<Resolved, ReadErr>
+    sections: &InputSections<'a>,
+) -> Result<Resolved<'a>, ReadErr>
     requires { AreGiven units.now }
     ensures within { IfOk result (λ r. AreEntries (units_of units.now) r.refs.items) }
     ensures operands { IfOk result (λ r. AreRows (lists_of_units (around sections.now (units_of units.now)) (units_of units.now))

@@ -16,7 +16,7 @@ ghost use Rattle.dwz_def_encoding.specs.Pruned.{UnitStays};
 
 use crate::values::{Known, asks, stays};
 use dwz_graph::here_of;
-use dwz_lines::FileTable;
+use dwz_lines::TableRows;
 use dwz_model::Pair;
 use dwz_unit::{Units, Values, known_value};
 
@@ -64,7 +64,7 @@ fn entries_stay(units: &Units, first: u32, end: u32, slots: &[u32], known: &Know
 }
 
 // Whether a format of the line table with a number has the form strp, if there is one.
-fn line_strp(tables: &[FileTable], line: Option<usize>) -> bool
+fn line_strp(tables: &[TableRows], line: Option<usize>) -> bool
     ensures { result ≡ Stays.line_strp tables.now line }
 {
     let Some(number) = line else {
@@ -79,7 +79,7 @@ fn line_strp(tables: &[FileTable], line: Option<usize>) -> bool
 // Whether each value of a unit stays, where slots stand at these places. Its line table has that number, if one is asked for.
 fn unit_stays(
     units: &Units,
-    tables: &[FileTable],
+    tables: &[TableRows],
     line: Option<usize>,
     n: u32,
     slots: &[u32],
@@ -102,7 +102,7 @@ fn unit_stays(
 /// of its line table, if one is asked for.
 pub(crate) fn units_stay(
     units: &Units,
-    tables: &[FileTable],
+    tables: &[TableRows],
     lines: &[Option<usize>],
     slots: &[u32],
 ) -> bool

@@ -22,7 +22,7 @@ use dwz_expr::Operand;
 use dwz_forms::Raw;
 use dwz_graph::{Here, InputSections, offset_of};
 use dwz_label::{put_num, put_offset, put_ref};
-use dwz_lines::FileTable;
+use dwz_lines::TableRows;
 use dwz_model::{NoMemory, Pair};
 use std::alloc::Global;
 
@@ -49,8 +49,9 @@ fn put_alone(
 // Of a number, which may be that of a file.
 #[inline(always)]
 fn put_constant(
+    alloc: Global,
     out: &mut Vec<u8>,
-    tables: &[FileTable],
+    tables: &[TableRows],
     line: Option<usize>,
     pair: &Pair,
     raw: &Raw,
@@ -61,7 +62,7 @@ fn put_constant(
         → IfOk result (λ named. TellsPlain s v operands out.old.items out.new.items named) }
 {
     if names_file(pair.name) {
-        put_file_by(out, tables, line, raw)?;
+        put_file_by(alloc, out, tables, line, raw)?;
         return Ok(Named::Next(0));
     }
     put_num(
@@ -112,7 +113,7 @@ pub fn put_plain(
     alloc: Global,
     out: &mut Vec<u8>,
     sections: &InputSections,
-    tables: &[FileTable],
+    tables: &[TableRows],
     here: &Here,
     line: Option<usize>,
     end: u64,
@@ -126,7 +127,7 @@ pub fn put_plain(
 {
     let class = class_of(pair.form);
     match class {
-        Class::Constant => put_constant(out, tables, line, pair, raw),
+        Class::Constant => put_constant(alloc, out, tables, line, pair, raw),
         Class::Offset => put_offset_of(alloc, out, sections, pair, raw, operands),
         Class::UnitEntry => put_entry_of(out),
         Class::InfoEntry => put_entry_of(out),

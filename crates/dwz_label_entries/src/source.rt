@@ -4,7 +4,7 @@ ghost use Rattle.std.specs.Prelude.{◌≡◌, []};
 
 use dwz_expr::Operand;
 use dwz_graph::{Index, InputSections};
-use dwz_lines::FileTable;
+use dwz_lines::TableRows;
 use dwz_unit::Units;
 use std::alloc::Global;
 
@@ -17,7 +17,7 @@ pub struct Source<'s, 'a> {
     /// The numbers of the entries that its references name, in order.
     pub refs: &'s [u32],
     /// The line tables whose files are numbered.
-    pub tables: &'s [FileTable],
+    pub tables: &'s [TableRows<'a>],
     /// The tops of its entries, and their paths there.
     pub index: &'s Index,
 }

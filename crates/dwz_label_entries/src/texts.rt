@@ -7,7 +7,7 @@ ghost use Rattle.dwz_def_reading.specs.Texts;
 ghost use Rattle.dwz_forms.specs.RawValues.{raw_view};
 ghost use Rattle.dwz_label.specs.Labels.{plain_label};
 ghost use Rattle.dwz_def_reading.specs.Documents.{File, Text, Value};
-ghost use Rattle.dwz_def_reading.specs.LineTables.{FileTable as Paths};
+ghost use Rattle.dwz_def_reading.specs.LineTables.{FileTable};
 ghost use Rattle.dwz_def_reading.specs.Meanings.{MeaningContext, path_by, stmt_list};
 ghost use Rattle.dwz_def_reading.specs.Meant.{file_by};
 ghost use Rattle.dwz_graph.specs.Parts.{numbers_file};
@@ -16,8 +16,9 @@ use crate::numbers::number_of;
 use dwz_forms::Raw;
 use dwz_graph::{InputSections, slot, text_in};
 use dwz_label::{put_file, put_no_file, put_text};
-use dwz_lines::FileTable;
+use dwz_lines::TableRows;
 use dwz_model::NoMemory;
+use std::alloc::Global;
 
 /// Appends that a value is the text at an offset of a section, which is there.
 #[inline(always)]
@@ -64,37 +65,44 @@ fn row_of(number: i128) -> u64
 
 // Appends that a value is the file with a number, which the table has.
 #[inline(always)]
-fn put_path(out: &mut Vec<u8>, table: &FileTable, number: i128) -> Result<(), NoMemory>
+fn put_path(
+    alloc: Global,
+    out: &mut Vec<u8>,
+    table: &TableRows,
+    number: i128,
+) -> Result<(), NoMemory>
     ensures { (path : List ℕ) → path_by table.now number ≡ Some path
         → OnOk result (out.new.items ≡ out.old.items ++ plain_label (File (Some path))) }
 {
-    match table.path(row_of(number)) {
+    match table.path(alloc, row_of(number))? {
         None => Ok(()),
-        Some(path) => put_file(out, path),
+        Some(path) => put_file(out, &path),
     }
 }
 
 // The same of the table with that number, which is there.
 #[inline(always)]
 fn put_path_in(
+    alloc: Global,
     out: &mut Vec<u8>,
-    tables: &[FileTable],
+    tables: &[TableRows],
     table: usize,
     number: i128,
 ) -> Result<(), NoMemory>
-    ensures { (t : Paths) (path : List ℕ) → slice_get tables.now table ≡ Some t → path_by t number ≡ Some path
+    ensures { (t : FileTable) (path : List ℕ) → slice_get tables.now table ≡ Some t → path_by t number ≡ Some path
         → OnOk result (out.new.items ≡ out.old.items ++ plain_label (File (Some path))) }
 {
     if table >= tables.len() {
         return Ok(());
     }
-    put_path(out, &tables[table], number)
+    put_path(alloc, out, &tables[table], number)
 }
 
 /// Appends that a value is the file whose number in the line table of its unit it stores, by its path (DWARF 5, 2.14).
 pub(crate) fn put_file_by(
+    alloc: Global,
     out: &mut Vec<u8>,
-    tables: &[FileTable],
+    tables: &[TableRows],
     line: Option<usize>,
     raw: &Raw,
 ) -> Result<(), NoMemory>
@@ -104,6 +112,6 @@ pub(crate) fn put_file_by(
 {
     match line {
         None => put_no_file(out),
-        Some(table) => put_path_in(out, tables, table, number_of(raw)),
+        Some(table) => put_path_in(alloc, out, tables, table, number_of(raw)),
     }
 }

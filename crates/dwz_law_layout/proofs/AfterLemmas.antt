@@ -12,7 +12,7 @@ module _ (image : EntryName → EntryName) (name : ℕ → EntryName) where
   attrs_after : (attrs : List (Attr ℕ)) → map (attr_map image) (map (attr_map name) attrs) ≡ map (attr_map (λ p. image (name p))) attrs
   attrs_after [] = refl
   attrs_after (a ∷ attrs) =
-      (λ i. (let b : Attr EntryName = record { name = a.name; form = a.form; raw = a.raw; value = record { plain = a.value.plain; refs = refs_after a.value.refs i } } in b) ∷ attrs_after attrs i)
+      (λ i. (let b : Attr EntryName = record { name = a.name; form = a.form; raw = a.raw; value = record { plain = a.value.plain; refs = refs_after a.value.refs i; address = a.value.address } } in b) ∷ attrs_after attrs i)
 
   pub node_after : (d : Node ℕ) → node_map image (node_map name d) ≡ node_map (λ p. image (name p)) d
   node_after d = (λ i. let n : Node EntryName = record { at = image (name d.at); tag = d.tag; attrs = attrs_after d.attrs i } in n)

@@ -33,14 +33,14 @@ pub entry_held : (r : Reach) (b : Attr EntryName) (x : EntryName) → b.value.re
   raw = b.raw;
 }))
 unfolding class_rows class_in
-entry_held InUnit b x e = ap (λ (rs : List EntryName). held_of (with_form (record { name = b.name; form = b.form; raw = b.raw; value = record { plain = b.value.plain; refs = rs } })
+entry_held InUnit b x e = ap (λ (rs : List EntryName). held_of (with_form (record { name = b.name; form = b.form; raw = b.raw; value = record { plain = b.value.plain; refs = rs; address = b.value.address } })
     (record { form = ref_form InUnit; raw = b.raw }))) (sym e)
-entry_held InFile b x e = ap (λ (rs : List EntryName). held_of (with_form (record { name = b.name; form = b.form; raw = b.raw; value = record { plain = b.value.plain; refs = rs } })
+entry_held InFile b x e = ap (λ (rs : List EntryName). held_of (with_form (record { name = b.name; form = b.form; raw = b.raw; value = record { plain = b.value.plain; refs = rs; address = b.value.address } })
     (record { form = ref_form InFile; raw = b.raw }))) (sym e)
-entry_held InCommon b x e = ap (λ (rs : List EntryName). held_of (with_form (record { name = b.name; form = b.form; raw = b.raw; value = record { plain = b.value.plain; refs = rs } })
+entry_held InCommon b x e = ap (λ (rs : List EntryName). held_of (with_form (record { name = b.name; form = b.form; raw = b.raw; value = record { plain = b.value.plain; refs = rs; address = b.value.address } })
     (record { form = ref_form InCommon; raw = b.raw }))) (sym e)
 
 pub expr_held_is : (b : Attr EntryName) (parts : List Part) → b.form ≡ 0x18 → b.value.plain ≡ Expr parts → record { pair = plain_pair b.name 0x18; held = Parts parts b.value.refs } ≡ held_of b
 unfolding class_rows class_in
 expr_held_is b parts form plain =
-    (λ i. held_of (record { name = b.name; form = sym form i; raw = b.raw; value = record { plain = sym plain i; refs = b.value.refs } }))
+    (λ i. held_of (record { name = b.name; form = sym form i; raw = b.raw; value = record { plain = sym plain i; refs = b.value.refs; address = b.value.address } }))

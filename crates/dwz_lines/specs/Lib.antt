@@ -4,3 +4,4 @@ pub mod RowViews
 pub mod Paths
 pub mod Headers
 pub mod TableViews
+pub mod KeptTables

@@ -1,42 +1,13 @@
-//! Paths, each joined once, one behind the other.
+//! Paths, joined with their directories.
 
-ghost use Rattle.std.specs.Prelude.{◌≡◌, ◌<◌, ◌≤◌, ◌^◌, ◌++◌, ◌∷◌, [], OnErr, OnOk, drop, length, map, take, vec_len};
-ghost use Rattle.std.specs.Option.{option_map};
+ghost use Rattle.std.specs.Prelude.{◌≡◌, ◌≤◌, ◌++◌, OnErr, OnOk, drop, map, take, vec_len};
 ghost use Rattle.dwz_def_reading.specs.LineTables;
-ghost use Rattle.dwz_def_reading.specs.LineTables.{nth_path};
-ghost use Rattle.dwz_lines.specs.Paths.{IsIn, IsKept, text_of};
+ghost use Rattle.dwz_lines.specs.Paths.{IsKept};
 ghost use Rattle.dwz_lines.specs.Reading.{path_in, path_or_none};
 ghost use Rattle.dwz_lines.specs.RowViews.{row_view};
 
 use crate::rows::Row;
 use dwz_model::NoMemory;
-use std::alloc::Global;
-use std::marker::Model;
-
-// Where a path stands.
-#[derive(Clone, Copy)]
-struct Span {
-    from: usize,
-    to: usize,
-}
-
-/// A list of paths. Clauses see the paths in their order.
-#[derive(Drop)]
-pub(crate) struct Paths {
-    bytes: Vec<u8>,
-    spans: Vec<Span>,
-}
-
-impl Model for Paths {
-    ghost use Rattle.std.specs.Prelude.{List, ℕ};
-    ghost use Rattle.dwz_lines.specs.Paths.{AreWithin, texts_of};
-
-    ghost Value = { List (List ℕ) };
-
-    ghost view = { λ p. texts_of p.bytes.items p.spans.items };
-
-    ghost invariant = { λ p. AreWithin p.bytes.items p.spans.items };
-}
 
 // Whether a path stands for itself, wherever it is seen from.
 fn begins_with_slash(path: &[u8]) -> bool
@@ -46,14 +17,6 @@ fn begins_with_slash(path: &[u8]) -> bool
         Some(byte) => *byte == b'/',
         None => false,
     }
-}
-
-// The bytes of a path.
-fn text(bytes: &[u8], span: Span) -> &[u8]
-    requires { IsIn bytes.now span }
-    ensures { result.now ≡ text_of bytes.now span }
-{
-    &bytes[span.from..span.to]
 }
 
 // Puts a path into the one that begins at a place of `out` and ends where it does: they are joined by a slash, unless the
@@ -94,36 +57,8 @@ pub(crate) fn append(out: &mut Vec<u8>, dirs: &[&[u8]], row: &Row) -> Result<(),
     join(out, from, row.path)
 }
 
-impl Paths {
-    // No paths.
-    pub(crate) fn new(alloc: Global) -> Paths
-        ensures { result ≡ [] }
-    {
-        Paths {
-            bytes: Vec::new(alloc),
-            spans: Vec::new(alloc),
-        }
-    }
-
-    // Appends the path of a file.
-    pub(crate) fn push(&mut self, dirs: &[&[u8]], row: &Row) -> Result<(), NoMemory>
-        ensures { OnOk result (self.new ≡ self.old ++ path_in (map (λ d. d.now) dirs.now) (row_view row.now) ∷ []) }
-    {
-        let from = self.bytes.len();
-        append(&mut self.bytes, dirs, row)?;
-        let to = self.bytes.len();
-        self.spans.push(Span { from, to })?;
-        Ok(())
-    }
-
-    // The path with a number.
-    pub(crate) fn get(&self, index: u64) -> Option<&[u8]>
-        ensures path { option_map (λ p. p.now) result ≡ nth_path self.now index }
-        ensures many { length self.now < 2 ^ 63 }
-    {
-        match self.spans.get(index as usize) {
-            None => None,
-            Some(span) => Some(text(&self.bytes, *span)),
-        }
-    }
+/// As many bytes as a path of a file has at most.
+pub(crate) fn room(dirs: &[&[u8]], row: &Row) -> usize {
+    let dirs = dir(dirs, 0).len().saturating_add(dir(dirs, row.dir).len());
+    dirs.saturating_add(row.path.len()).saturating_add(2)
 }

@@ -5,8 +5,8 @@ ghost use Rattle.dwz_def_reading.specs.LineTables.{line_length};
 ghost use Rattle.dwz_def_reading.specs.LineSection.{UsesStrp};
 ghost use Rattle.dwz_lines.specs.TableViews.{sections};
 
-use crate::file_rows::FileRows;
 use crate::header::four;
+use crate::kept_rows::KeptRows;
 use crate::tables::either;
 use dwz_model::{NoMemory, ReadErr};
 use std::alloc::{AllocError, Global};
@@ -32,7 +32,7 @@ pub fn uses_strp<'a>(
     let mut place = 0;
     let mut uses = false;
     while place < line.len() {
-        match FileRows::read(alloc, line, line_strs, strs, place as u64) {
+        match KeptRows::read(alloc, line, line_strs, strs, place as u64) {
             Ok(table) => {
                 uses = either(uses, table.has_strp());
                 place = behind(line, place);

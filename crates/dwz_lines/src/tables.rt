@@ -7,8 +7,8 @@ ghost use Rattle.dwz_lines.specs.RowViews.{row_view, strings_view};
 ghost use Rattle.dwz_lines.specs.TableViews.{dirs_view};
 ghost use Rattle.dwz_lines.specs.Views.{format_views};
 
-use crate::file_rows::FileRows;
 use crate::formats::{Format, formats, names_strs};
+use crate::kept_rows::KeptRows;
 use crate::rows::{Row, Strings, one_row};
 use dwz_bytes::Cursor;
 use dwz_model::{Fault, ReadErr};
@@ -109,7 +109,7 @@ pub(crate) fn read_files<'a>(
     dirs: Directories<'a>,
     strings: Strings<'a>,
     bad: Fault,
-) -> Result<FileRows<'a>, ReadErr>
+) -> Result<KeptRows<'a>, ReadErr>
     ensures { TriesAt (λ t. t) bad cursor.new result (files_in (strings_view strings.entry) (dirs_view dirs.entry) cursor.old) }
 {
     let formats = formats(alloc, cursor, bad)?;
@@ -122,7 +122,7 @@ pub(crate) fn read_files<'a>(
     }
     let rows = rows_of_files(alloc, cursor, &formats, count, many as u64, strings, bad)?;
     let has_strp = either(dirs.strp, names_strs(&formats));
-    Ok(FileRows {
+    Ok(KeptRows {
         dirs: dirs.paths,
         rows,
         has_strp,

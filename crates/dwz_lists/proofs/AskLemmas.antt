@@ -18,20 +18,20 @@ use Rattle.dwz_lists.specs.Entries.{IsEnd, IsEntry, ReadsEntry, with_before}
 use Rattle.dwz_lists.specs.FirstFault.{AreAsked, WalksInto}
 use Rattle.dwz_lists.specs.Gathering.{in_lists}
 
-operands_both : (xs ys : List Expression) → operands_of (xs ++ ys) ≡ operands_of xs ++ operands_of ys
+pub operands_both : (xs ys : List Expression) → operands_of (xs ++ ys) ≡ operands_of xs ++ operands_of ys
 unfolding operands_of
 operands_both [] ys = refl
 operands_both (x ∷ xs) ys = ap (λ (w : List Operand). x.operands ++ w) (operands_both xs ys) ∙ sym (append_assoc x.operands (operands_of xs) (operands_of ys))
 
-no_operands : operands_of [] ≡ []
+pub no_operands : operands_of [] ≡ []
 unfolding operands_of
 no_operands = refl
 
-before_none : (r : Result LocList Fault) → r ≡ (r >>= with_before [])
+pub before_none : (r : Result LocList Fault) → r ≡ (r >>= with_before [])
 before_none (Ok l) = refl
 before_none (Err f) = refl
 
-before_both : (xs ys : List Expression) (r : Result LocList Fault) → ((r >>= with_before ys) >>= with_before xs) ≡ (r >>= with_before (xs ++ ys))
+pub before_both : (xs ys : List Expression) (r : Result LocList Fault) → ((r >>= with_before ys) >>= with_before xs) ≡ (r >>= with_before (xs ++ ys))
 before_both xs ys (Ok l) = ap (λ (w : List Expression). Ok (record { exprs = w; end = l.end })) (sym (append_assoc xs ys l.exprs))
 before_both xs ys (Err f) = refl
 

@@ -1,5 +1,5 @@
 -- A location list is its first entry, and the list that begins behind that.
-use Rattle.std.proofs.Common.{◌≡◌, ◌≢◌, ℕ, zero, suc, ◌+◌, ◌-◌, ◌<◌, List, [], ◌∷◌, ◌++◌, drop, length, Option, Some, None, Result, Ok, Err, refl, sym, ap, ◌∙◌, arith}
+use Rattle.std.proofs.Common.{◌≡◌, ◌≢◌, ℕ, zero, suc, ◌+◌, ◌-◌, ◌<◌, ◌≤◌, List, [], ◌∷◌, ◌++◌, drop, length, Option, Some, None, Result, Ok, Err, refl, sym, ap, subst, ◌∙◌, inl, inr, arith}
 use Rattle.std.proofs.lemmas.List.{append-nil, drop-drop, length-drop}
 use Rattle.std.proofs.Math.Seq.{drop-append_seam}
 use Rattle.dwz_model.specs.declared.fault.Fault.{Fault}
@@ -11,15 +11,19 @@ use Rattle.dwz_codes.specs.ListKinds.{list_kind_rows}
 use Rattle.dwz_def_reading.specs.Faults.{Fails}
 use Rattle.dwz_def_reading.specs.Values.{shape_of}
 use Rattle.dwz_def_reading.specs.declared.exprs.Operand.{Operand}
-use Rattle.dwz_def_reading.specs.Exprs.{ExprContext, Expression, FieldItem, expr_at, fields_of, or_fault}
+use Rattle.dwz_def_reading.specs.Exprs.{ExprContext, Expression, FieldItem, expr_at, fields_of, most_inside, or_fault}
+use Rattle.dwz_def_reading.specs.Lists.{In}
 use Rattle.dwz_def_reading.specs.LocLists.{LocList, bad_list, list_at, list_entry_at}
 use Rattle.dwz_def_reading.specs.Sequences.{read_from, row_at, value_only}
 use Rattle.dwz_def_reading.specs.Shared.{operands_of}
+use Rattle.dwz_def_reading.proofs.CutLemmas.{Lie}
+use Rattle.dwz_def_reading.proofs.ExprLemmas.{expr_agrees}
 use Rattle.dwz_def_reading.proofs.SequenceLemmas.{input_of}
+use Rattle.dwz_def_reading.proofs.StandLemmas.{within_stands}
 use Rattle.dwz_expr.specs.FirstFault.{asked}
 use Rattle.dwz_expr.proofs.AskedLemmas.{asked_bind, asked_none}
 use Rattle.dwz_lists.specs.Entries.{IsEntry, ReadsEntry, with_before}
-use Rattle.dwz_lists.specs.Gathering.{Adds, Gathered, behind, exprs_with, gather_row, kind_front, row_into, with_expr}
+use Rattle.dwz_lists.specs.Gathering.{Adds, Gathered, behind, exprs_with, gather_row, in_lists, kind_front, row_into, with_expr}
 use Rattle.dwz_lists.proofs.GatherLemmas.{IsKind, list_is, none_step}
 use Rattle.dwz_lists.proofs.WalkLemmas.{Leaves, front_stops, held, kind_leaves, list_ends, list_fails, list_given, no_kind}
 
@@ -93,6 +97,26 @@ one_has e = append-nil e.operands
 expr_asked : (c : ExprContext) (y : Input) (own : List Operand) (answer : Result Expression Fault) → expr_at c y ≡ asked c own answer → exprs_with c [] (Some y) ≡ asked c own (answer >>= with_expr [])
 expr_asked c y own answer is = ap (λ (r : Result Expression Fault). r >>= with_expr []) is ∙ asked_bind c own answer (with_expr [])
 
+-- an operand ends where the bytes of its expression do, or before
+lie_ends : (os : List Operand) (from to : ℕ) → Lie from to os → (from ≤ to) × ((o : Operand) → In o os → o.at + o.width ≤ to)
+lie_ends [] from to h = (h, λ o is. absurd is)
+lie_ends (p ∷ os) from to h =
+    let low = h.0 in
+    let more = lie_ends os (p.at + p.width) to h.2 in
+    let order = more.0 in (
+      omega arith,
+      λ o is. elim is [
+        | inl same ↦ subst (λ (x : Operand). x.at + x.width ≤ to) same order
+        | inr later ↦ more.1 o later
+      ],
+    )
+
+ends_within : (y : Input) (found : Expression) → expr_at in_lists y ≡ Ok found → (end : ℕ) → y.at + length y.rest ≤ end → (o : Operand) → In o found.operands → o.at + o.width ≤ end
+ends_within y found read end le o is =
+    let lies = (within_stands in_lists (suc most_inside) found y.at y.rest (((expr_agrees in_lists y).ok found).0 read)).lie in
+    let last = (lie_ends found.operands y.at (y.at + length y.rest) lies).1 o is in
+    omega arith
+
 pub entry_stops : (section : List ℕ) (place : ℕ) (own : List Operand) (e : ReadErr)
     → ((f : Fault) → e ≡ Refused f → (c : ExprContext) → c.section ≡ 7 → read_from (list_at c) section place ≡ asked c own (Err f)) → ReadsEntry section place own (Err e)
 entry_stops section place own NoMemory each = tt
@@ -151,21 +175,23 @@ module _ (section : List ℕ) (place : ℕ) (j : Input) (kind : ℕ) (is_kind : 
           ∙ asked_bind c own (answer >>= behind m) (λ p. row_into c (bad_list place) p.0 p.1))
           ∙ asked_bind c own ((answer >>= behind m) >>= λ p. row_into c (bad_list place) p.0 p.1) value_only
 
-      entry_of : (own : List Operand) (ys : Gathered) → operands_of ys ≡ own → ((c : ExprContext) → c.section ≡ 7 → exprs_with c [] x ≡ asked c own (Ok ys)) → IsEntry section place own m.at
-      entry_of own ys has each = record {
+      entry_of : (own : List Operand) (ys : Gathered) → operands_of ys ≡ own → ((o : Operand) → In o own → o.at + o.width ≤ m.at)
+          → ((c : ExprContext) → c.section ≡ 7 → exprs_with c [] x ≡ asked c own (Ok ys)) → IsEntry section place own m.at
+      entry_of own ys has inside each = record {
         exprs = ys;
         has = has;
         rises = omega (arith, left.goes.place, is_kind.at);
         within = omega (arith, left.end, is_kind.at, ap length is_kind.rest, length-drop place section);
+        inside = inside;
         leads = λ c e. followed own (Ok ys) c (each c e) ∙ ap (asked c own) (list_behind section c (bad_list place) ys m there);
       }
 
     module _ (m : Input) where
       pub entry_read : (x : Option Input) (own : List Operand) → kind_front place (fields_of (shape_of list_kind_rows kind)) j ≡ Ok (x, m) → Adds x own (Ok tt) → IsEntry section place own m.at
-      entry_read None own ok none = entry_of None m ok own [] (no_operands ∙ sym none) (λ c e. sym (ap (λ (w : List Operand). asked c w (Ok [])) none ∙ asked_none c (Ok [])))
+      entry_read None own ok none = entry_of None m ok own [] (no_operands ∙ sym none) (λ o is. absurd (subst (λ (w : List Operand). In o w) none is)) (λ c e. sym (ap (λ (w : List Operand). asked c w (Ok [])) none ∙ asked_none c (Ok [])))
       entry_read (Some y) own ok (address, read) =
           let found : Expression = record { at = y.at; bytes = y.rest; operands = own; address = address } in
-          entry_of (Some y) m ok own (found ∷ []) (one_has found) (λ c e. expr_asked c y own (Ok found) (read.1 c e ∙ ap (asked c own) read.0))
+          entry_of (Some y) m ok own (found ∷ []) (one_has found) (ends_within y found read.0 m.at (kind_leaves place kind j (Some y) m ok).content) (λ c e. expr_asked c y own (Ok found) (read.1 c e ∙ ap (asked c own) read.0))
 
       pub expr_bad : (x : Option Input) (own : List Operand) (e : ReadErr) → kind_front place (fields_of (shape_of list_kind_rows kind)) j ≡ Ok (x, m) → Adds x own (Err e)
           → ReadsEntry section place own (Err e)

@@ -37,11 +37,17 @@ goes_twice i j m g h = record {
   place = omega (arith, g.place, h.place, length-append g.front h.front);
 }
 
+-- an expression's bytes are read before
+abbrev pub EndsBefore : ℕ → Option Input → Type 0
+EndsBefore end None = Unit {0}
+EndsBefore end (Some y) = y.at + length y.rest ≤ end
+
 pub record Leaves (i m : Input) (x : Option Input) : Type 0 where
   pub goes : Goes i m
   pub end : m.at + length m.rest ≡ i.at + length i.rest
   pub fewer : length m.rest ≤ length i.rest
   pub short : i.at + length i.rest < 2 ^ 64 → IsShort x
+  pub content : EndsBefore m.at x
 
 abbrev front : Option Input → Input → Result (Option Input × Input) Fault
 front x j = Ok (x, j)
@@ -67,6 +73,7 @@ then_leaves i j m x g l = record {
   fewer = omega (arith, fewer_left i j g, l.fewer);
   short =
       λ lt. l.short (omega (arith, same_end i j g, lt));
+  content = l.content;
 }
 
 content_leaves : (bad : Fault) (i : Input) (x : Option Input) (m : Input) → content_at bad i ≡ front x m → Leaves i m x
@@ -86,6 +93,7 @@ content_leaves bad i x m is =
       end = omega (arith, at, len, same_end i n.1 g, length-append t.front y.1.rest);
       fewer = omega (arith, len, fewer_left i n.1 g, length-append t.front y.1.rest);
       short = λ lt. omega (arith, at, len, size, same_end i n.1 g, lt, length-append t.front y.1.rest);
+      content = omega (arith, at, size);
     } in
     subst (λ (w : Option Input). Leaves i m w) same.0 (subst (λ (w : Input). Leaves i w (Some (record { at = n.1.at; rest = y.0 }))) same.1 there)
 
@@ -93,7 +101,7 @@ front_leaves : (bad : Fault) (fields : List Field) (i : Input) (x : Option Input
 unfolding front_at
 front_leaves bad [] i x m listed is =
     let same = same_front None x i m is in
-    let here : Leaves i i None = record { goes = record { front = []; parts = refl; place = omega arith }; end = refl; fewer = omega arith; short = λ lt. tt } in
+    let here : Leaves i i None = record { goes = record { front = []; parts = refl; place = omega arith }; end = refl; fewer = omega arith; short = λ lt. tt; content = tt } in
     subst (λ (w : Option Input). Leaves i m w) same.0 (subst (λ (w : Input). Leaves i w None) same.1 here)
 front_leaves bad (Unsigned ∷ fields) i x m listed is =
     let b = bind_ok (or_fault bad (uleb_at i)) (λ y. front_at bad fields y.1) (x, m) is in

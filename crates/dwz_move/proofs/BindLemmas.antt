@@ -5,16 +5,15 @@ use Rattle.std.specs.Prelude.{not, ◌==◌, ◌||◌, if◌then◌else◌, slic
 use Rattle.std.specs.List.{list_all, list_any}
 use Rattle.std.proofs.lemmas.Bool.{false≢true, ne_eqb}
 use Rattle.dwz_def_reading.proofs.GroupLemmas.{chosen}
-use Rattle.dwz_def_tops.specs.Alike.{attr_binds, binding_forms, holds_place, leaves}
+use Rattle.dwz_def_tops.specs.Alike.{attr_binds, binding_forms, has_operand, holds_place, leaves}
 use Rattle.dwz_def_tops.specs.Spots.{EntryName, Top}
-use Rattle.dwz_def_tops.proofs.AddressLemmas.{address_tells}
 use Rattle.dwz_def_reading.specs.Entries.{RawAttr}
 use Rattle.dwz_def_reading.specs.Rows.{has}
 use Rattle.dwz_def_reading.proofs.CaseFacts.{or_left, or_right}
 use Rattle.dwz_def_reading.proofs.AbbrevLemmas.{and_true}
 use Rattle.dwz_def_reading.specs.declared.exprs.Operand.{Operand}
-use Rattle.dwz_def_reading.specs.Documents.{Plain, Value, attr_map, only, ref}
-use Rattle.dwz_def_reading.specs.Exprs.{Expression, expr_at}
+use Rattle.dwz_def_reading.specs.Documents.{Expr, Plain, Value, attr_map, only, ref}
+use Rattle.dwz_def_reading.specs.Exprs.{Expression, expr_at, parts_from}
 use Rattle.dwz_def_reading.specs.Meanings.{IfSo, IsExpression, IsFileBy, MeansAs}
 use Rattle.dwz_def_reading.specs.Classes.{OfAddress, OfBlock, OfCommonEntry, OfCommonText, OfConstant, OfExpression, OfFlag, OfIndex, OfInfoEntry}
 use Rattle.dwz_def_reading.specs.Classes.{Class, ClassRow}
@@ -76,10 +75,10 @@ Names v = (p : ℕ) × (v ≡ ref p)
 
 -- it names nothing and holds no place
 abbrev IsPlain : Value ℕ → Type 0
-IsPlain v = (holds_place v.plain ≡ false) × (v.refs ≡ [])
+IsPlain v = (holds_place v ≡ false) × (v.refs ≡ [])
 
-plain_only : (v : Value ℕ) (plain : Plain) → holds_place plain ≡ false → v ≡ only plain → IsPlain v
-plain_only v plain e is = (ap (λ (w : Value ℕ). holds_place w.plain) is ∙ e, ap (λ (w : Value ℕ). w.refs) is)
+plain_only : (v : Value ℕ) (plain : Plain) → has_operand plain ≡ false → v ≡ only plain → IsPlain v
+plain_only v plain e is = (ap (λ (w : Value ℕ). holds_place w) is ∙ ap (λ (b : Bool). b || false) e, ap (λ (w : Value ℕ). w.refs) is)
 
 module _ (s : MeaningContext ℕ) (a : RawAttr) (v : Value ℕ) (free : has a.pair.form binding_forms ≡ false) where
   abbrev Says : Class → Type 0
@@ -132,6 +131,28 @@ expression_is s a v _ e m = absurd cc
 pub said_expression : (s : MeaningContext ℕ) (a : RawAttr) (v : Value ℕ) → is_expression (class_of a.pair.form) ≡ true → meaning s a ≡ Ok v → IsExpression s a v
 said_expression s a v e is = expression_is s a v (class_of a.pair.form) e (((value_agrees s a).ok v).0 is)
 
+-- ---- it holds a place exactly if it has an address, or an operand that names an entry
+
+operand_among : (at : ℕ) (bytes : List ℕ) (o : Operand) (os : List Operand) → has_operand (Expr (parts_from at bytes (o ∷ os))) ≡ true
+unfolding parts_from
+operand_among at bytes o os = refl
+
+no_operand : (at : ℕ) (bytes : List ℕ) → has_operand (Expr (parts_from at bytes [])) ≡ false
+unfolding parts_from
+no_operand at bytes = refl
+
+place_tells : (s : MeaningContext ℕ) (e : Expression) (os : List Operand) → e.operands ≡ os → (holds_place (expr_value s e) ≡ true) ↔ ((e.address ≡ true) ⊎ (e.operands ≢ []))
+place_tells s e [] is =
+    let same : holds_place (expr_value s e) ≡ e.address = ap (λ (w : List Operand). has_operand (Expr (parts_from e.at e.bytes w)) || e.address) is
+    ∙ ap (λ (b : Bool). b || e.address) (no_operand e.at e.bytes) in (
+      λ h. inl (sym same ∙ h),
+      λ h. elim h [ inl a ↦ same ∙ a | inr some ↦ absurd (some is) ],
+    )
+place_tells s e (o ∷ os) is = (
+  λ h. inr (λ none. let no : (o ∷ os) ≡ [] = sym is ∙ none in cc),
+  λ h. ap (λ (w : List Operand). has_operand (Expr (parts_from e.at e.bytes w)) || e.address) is ∙ ap (λ (b : Bool). b || e.address) (operand_among e.at e.bytes o os),
+)
+
 -- ---- and whether it binds
 
 or_true : (b : Bool) → (b || true) ≡ true
@@ -158,33 +179,33 @@ module _ (tops : List Top) (unit : ℕ) (name : ℕ → EntryName) (a : RawAttr)
   Binds b = b ≡ attr_binds tops unit (attr_map name (attr_with a v))
 
   pub binds_form : has a.pair.form binding_forms ≡ true → Binds true
-  binds_form e = λ i. sym e i || (holds_place v.plain || list_any (leaves tops unit) (map name v.refs))
+  binds_form e = λ i. sym e i || (holds_place v || list_any (leaves tops unit) (map name v.refs))
 
   pub binds_entry : (p : ℕ) → has a.pair.form binding_forms ≡ false → v ≡ ref p → Binds (leaves tops unit (name p))
-  binds_entry p free e = sym ((λ i. free i || (holds_place (e i).plain || list_any (leaves tops unit) (map name (e i).refs))) ∙ or_false (leaves tops unit (name p)))
+  binds_entry p free e = sym ((λ i. free i || (holds_place (e i) || list_any (leaves tops unit) (map name (e i).refs))) ∙ or_false (leaves tops unit (name p)))
 
-  pub binds_plain : has a.pair.form binding_forms ≡ false → holds_place v.plain ≡ false → v.refs ≡ [] → Binds false
+  pub binds_plain : has a.pair.form binding_forms ≡ false → holds_place v ≡ false → v.refs ≡ [] → Binds false
   binds_plain free h r = sym (λ i. free i || (h i || list_any (leaves tops unit) (map name (r i))))
 
-  binds_place : holds_place v.plain ≡ true → Binds true
+  binds_place : holds_place v ≡ true → Binds true
   binds_place h = sym ((λ i. has a.pair.form binding_forms || (h i || list_any (leaves tops unit) (map name v.refs))) ∙ or_true (has a.pair.form binding_forms))
 
   module _ (s : MeaningContext ℕ) (m : IsExpression s a v) where
     abbrev e : Expression
     e = m.expression
 
-    tells : (holds_place v.plain ≡ true) ↔ ((e.address ≡ true) ⊎ (e.operands ≢ []))
+    tells : (holds_place v ≡ true) ↔ ((e.address ≡ true) ⊎ (e.operands ≢ []))
     tells =
-        let t = address_tells s 1 (block_begins a) (bytes_of a.raw) e m.spelled in
-        let same : holds_place v.plain ≡ holds_place (expr_value s e).plain = ap (λ (w : Value ℕ). holds_place w.plain) m.value in
+        let t = place_tells s e e.operands refl in
+        let same : holds_place v ≡ holds_place (expr_value s e) = ap (λ (w : Value ℕ). holds_place w) m.value in
         (λ h. t.0 (sym same ∙ h), λ h. same ∙ t.1 h)
 
     pub binds_address : e.address ≡ true → Binds true
     binds_address h = binds_place (tells.1 (inl h))
 
     pub binds_operands : has a.pair.form binding_forms ≡ false → e.address ≡ false → (os : List Operand) → e.operands ≡ os → Binds (not (length os == 0))
-    binds_operands free other [] is = binds_plain free (not_true (holds_place v.plain) none) refs where
-      none : holds_place v.plain ≡ true → ⊥
+    binds_operands free other [] is = binds_plain free (not_true (holds_place v) none) refs where
+      none : holds_place v ≡ true → ⊥
       none x = elim (tells.0 x) [ inl y ↦ (let q : false ≡ true = sym other ∙ y in false≢true q) | inr some ↦ some is ]
 
       refs : v.refs ≡ []
@@ -212,8 +233,8 @@ module _ (tops : List Top) (unit : ℕ) (name : ℕ → EntryName) (s : MeaningC
   form_free : has a.pair.form binding_forms ≡ false
   form_free = or_left (has a.pair.form binding_forms) _ (sym free)
 
-  place_free : holds_place v.plain ≡ false
-  place_free = or_left (holds_place v.plain) _ (or_right (has a.pair.form binding_forms) _ (sym free))
+  place_free : holds_place v ≡ false
+  place_free = or_left (holds_place v) _ (or_right (has a.pair.form binding_forms) _ (sym free))
 
   by_class : (c : Class) → class_of a.pair.form ≡ c → (b d : Bool) → is_entry c ≡ b → is_expression c ≡ d → count_of c ≡ length (value_refs v)
   by_class c e true d p q =

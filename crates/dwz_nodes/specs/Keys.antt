@@ -1,21 +1,19 @@
 -- Keys of nodes under classes.
-use Rattle.std.specs.Prelude.{◌≡◌, ℕ, ◌<◌, List, [], ◌∷◌, length, map, slice_index, slice_index_or}
-use Rattle.std.specs.List.{flat_map, range_with_len}
-use Rattle.std.specs.Int.{w32, to_le_bytes}
-use Rattle.dwz_bucket.specs.Fnv.{hash_of}
+use Rattle.std.specs.Prelude.{◌≡◌, ℕ, ◌*◌, ◌%◌, ◌<◌, ◌^◌, List, [], ◌∷◌, bit_xor, fold, length, map, slice_index, slice_index_or}
+use Rattle.std.specs.List.{range_with_len}
 use Rattle.dwz_nodes.specs.Graph.{Node, label_at, targets_at}
 
 -- a node's label, and the classes of its targets
 abbrev pub key : List Node → List ℕ → ℕ → List ℕ
 key g classes a = label_at g a ∷ map (λ t. slice_index classes t) (targets_at g a)
 
--- four bytes for each word, the lowest first
-abbrev pub bytes_of : List ℕ → List ℕ
-bytes_of words = flat_map (λ w. to_le_bytes w32 w) words
+-- the hash after one more word: the word goes in by exclusive or, then comes the product by an odd number
+abbrev pub mixed : ℕ → ℕ → ℕ
+mixed hash word = bit_xor hash word * 11400714819323198485 % 2 ^ 64
 
--- the hash of words: that of their bytes
+-- the hash of the words in order
 abbrev pub words_hash : List ℕ → ℕ
-words_hash words = hash_of (bytes_of words)
+words_hash words = fold mixed 14695981039346656037 words
 
 -- the key at the place a
 abbrev pub key_at : List (List ℕ) → ℕ → List ℕ

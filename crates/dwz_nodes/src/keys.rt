@@ -1,11 +1,9 @@
 //! The keys of nodes in a round: a node's label and the classes of its targets; and in a pass the parts of them that changed.
-ghost use Rattle.std.specs.Prelude.{◌≡◌, ℕ, ◌+◌, ◌-◌, ◌<◌, ◌≤◌, ◌^◌, ◌↔◌, [], ◌∷◌, ◌++◌, All, IsTrue, fold, length, IfOk, OnOk, OnErr};
+ghost use Rattle.std.specs.Prelude.{◌≡◌, ℕ, ◌+◌, ◌-◌, ◌<◌, ◌≤◌, ◌^◌, ◌↔◌, [], ◌∷◌, ◌++◌, All, IsTrue, length, IfOk, OnOk, OnErr};
 ghost use Rattle.std.specs.Prelude.{slice_range};
-ghost use Rattle.std.specs.Int.{w32, to_le_bytes};
-ghost use Rattle.dwz_bucket.specs.Fnv.{mixed};
 ghost use Rattle.dwz_nodes.specs.Graph.{IsClosed};
 ghost use Rattle.std.specs.List.Sorted.{IsNonDecreasingBy};
-ghost use Rattle.dwz_nodes.specs.Keys.{key, key_at, words_hash, AreKeys, AreKeysOf};
+ghost use Rattle.dwz_nodes.specs.Keys.{key, key_at, mixed, words_hash, AreKeys, AreKeysOf};
 ghost use Rattle.dwz_nodes.specs.Mentions.{part_key, words_of};
 ghost use Rattle.dwz_nodes.specs.Parts.{start_at};
 
@@ -15,9 +13,11 @@ use dwz_model::NoMemory;
 use std::alloc::Global;
 use std::marker::Model;
 
-const OFFSET_BASIS: u64 = 14695981039346656037;
+// The hash of no words.
+const BASIS: u64 = 14695981039346656037;
 
-const PRIME: u64 = 1099511628211;
+// Odd, and near 2^64 divided by the golden ratio: so words that are near to each other are spread over the upper bits.
+const MULTIPLIER: u64 = 11400714819323198485;
 
 /// Lists of words, one after the other in one row.
 #[derive(Drop)]
@@ -133,7 +133,7 @@ pub(crate) fn is_same_key(a: &[u32], b: &[u32]) -> bool
     a == b
 }
 
-/// The hash of the bytes of words, FNV-1a over 64 bits.
+/// The hash of words. What it is good for stands in its upper bits.
 pub(crate) fn hash_words(words: &[u32]) -> u64
     ensures { result ≡ words_hash words.now }
 {
@@ -149,19 +149,15 @@ pub(crate) fn hash_words(words: &[u32]) -> u64
 pub(crate) fn hash_start() -> u64
     ensures { result ≡ words_hash [] }
 {
-    OFFSET_BASIS
+    BASIS
 }
 
-/// The hash after the four bytes of one more word.
+/// The hash after one more word.
 #[inline(always)]
 pub(crate) fn mix_word(hash: u64, word: u32) -> u64
-    ensures { result ≡ fold mixed hash (to_le_bytes w32 word) }
+    ensures { result ≡ mixed hash word }
 {
-    let [first, second, third, fourth] = word.to_le_bytes();
-    let hash = (hash ^ u64::from(first)).wrapping_mul(PRIME);
-    let hash = (hash ^ u64::from(second)).wrapping_mul(PRIME);
-    let hash = (hash ^ u64::from(third)).wrapping_mul(PRIME);
-    (hash ^ u64::from(fourth)).wrapping_mul(PRIME)
+    (hash ^ u64::from(word)).wrapping_mul(MULTIPLIER)
 }
 
 // Appends the key of a node.

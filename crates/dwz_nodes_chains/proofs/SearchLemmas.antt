@@ -9,8 +9,9 @@ use Rattle.dwz_nodes.specs.Looks.{LookEqual}
 use Rattle.dwz_nodes_chains.specs.LeastWays.{target_at}
 use Rattle.dwz_nodes_chains.specs.Links.{AreLinks, climb, peaks}
 use Rattle.dwz_nodes_chains.specs.Course.{AllEqual, AreReached, IsReached, IsSearch, TargetsEqual, pair_at}
-use Rattle.dwz_nodes_chains.specs.declared.pairs.Pair.{Pair}
-use Rattle.dwz_nodes_chains.proofs.NodeLooks.{look_climbs, look_joins, look_self, look_turns}
+use Rattle.dwz_nodes_chains.specs.declared.pairs.NodePair.{NodePair}
+use Rattle.dwz_nodes.proofs.Looks.{look-same, look-sym, look-trans}
+use Rattle.dwz_nodes_chains.proofs.NodeLooks.{look_climbs}
 use Rattle.dwz_nodes_chains.proofs.PairLemmas.{each_pair, equal_back, extends_push, followed_on, last_is, reached_on, targets_on}
 
 -- one more target
@@ -37,7 +38,7 @@ either_equal : (g : List Node) (k : ℕ) (old new : List ℕ) (a b : ℕ) → a 
 either_equal g k old new a b a_in b_in (inl e) same each x l =
     subst (λ (ns : List ℕ). LookEqual g k x (get_or ns x 0)) (sym e) (joined_equal g k old a b a_in same each x l)
 either_equal g k old new a b a_in b_in (inr e) same each x l =
-    subst (λ (ns : List ℕ). LookEqual g k x (get_or ns x 0)) (sym e) (joined_equal g k old b a b_in (look_turns g k a b same) each x l)
+    subst (λ (ns : List ℕ). LookEqual g k x (get_or ns x 0)) (sym e) (joined_equal g k old b a b_in (look-sym g k a b same) each x l)
 
 joined_len : (old new : List ℕ) (a b : ℕ) → Joined old new a b → length new ≡ length old
 joined_len old new a b (inl e) = ap (λ (ns : List ℕ). length ns) e ∙ length-set old a b
@@ -46,7 +47,7 @@ joined_len old new a b (inr e) = ap (λ (ns : List ℕ). length ns) e ∙ length
 pub target_in : (g : List Node) → IsClosed g → (a i : ℕ) → a < length g → i < length (targets_at g a) → target_at g a i < length g
 target_in g closed a i l m = All-get_or (λ t. t < length g) (targets_at g a) i 0 m (closed a l)
 
-module _ (g : List Node) (closed : IsClosed g) (pairs : List Pair) (above heights : List ℕ) (at number : ℕ) (s : IsSearch g pairs above heights at number)
+module _ (g : List Node) (closed : IsClosed g) (pairs : List NodePair) (above heights : List ℕ) (at number : ℕ) (s : IsSearch g pairs above heights at number)
     (there : at < length pairs) (inside : number < length (targets_at g (pair_at pairs at).first)) where
   abbrev first : ℕ
   first = target_at g (pair_at pairs at).first number
@@ -84,17 +85,17 @@ module _ (g : List Node) (closed : IsClosed g) (pairs : List Pair) (above height
       followed = record {
         whole = s.followed.whole;
         part = λ k h. passed_on (TargetsEqual g pairs k at) number (s.followed.part k h)
-            (look_joins g k first a second (first_equal k h) (look_turns g k second a (subst (λ (x : ℕ). LookEqual g k second x) (sym e) (second_equal k h))));
+            (look-trans g k first a second (first_equal k h) (look-sym g k second a (subst (λ (x : ℕ). LookEqual g k second x) (sym e) (second_equal k h))));
       };
     }
 
     -- they become a pair
     module _ (here : LookEqual g 1 first second) (new_above new_heights : List ℕ) (a_in : a < length above) (b_in : b < length above) (join : Joined above new_above a b)
         (links : AreLinks new_above new_heights) (fewer : peaks new_above + 1 ≡ peaks above) where
-      abbrev pair : Pair
+      abbrev pair : NodePair
       pair = record { first = first; second = second; from = at; by = number }
 
-      abbrev more : List Pair
+      abbrev more : List NodePair
       more = pairs ++ pair ∷ []
 
       behind : AllEqual g more 1 (length more)
@@ -104,19 +105,19 @@ module _ (g : List Node) (closed : IsClosed g) (pairs : List Pair) (above height
       old_equal k h = (let e = length-append pairs (pair ∷ []) in equal_back g pairs more (extends_push pairs pair) k (length pairs) (omega arith) (λ v l. h v (omega arith)))
 
       pair_equal : (k : ℕ) → AllEqual g more k (length more) → LookEqual g k first second
-      pair_equal k h = (let e = length-append pairs (pair ∷ []) in subst (λ (p : Pair). LookEqual g k p.first p.second) (last_is pairs pair) (h (length pairs) (omega arith)))
+      pair_equal k h = (let e = length-append pairs (pair ∷ []) in subst (λ (p : NodePair). LookEqual g k p.first p.second) (last_is pairs pair) (h (length pairs) (omega arith)))
 
       peaks_equal : (k : ℕ) → AllEqual g more k (length more) → LookEqual g k a b
       peaks_equal k h =
-          look_joins g k a first b (look_turns g k first a (first_equal k (old_equal k h)))
-          (look_joins g k first second b (pair_equal k h) (second_equal k (old_equal k h)))
+          look-trans g k a first b (look-sym g k first a (first_equal k (old_equal k h)))
+          (look-trans g k first second b (pair_equal k h) (second_equal k (old_equal k h)))
 
       new_reached : IsReached g more (length pairs) pair
       new_reached = record {
         from = there;
-        by = subst (λ (p : Pair). number < length (targets_at g p.first)) (sym ((extends_push pairs pair).kept at there)) inside;
-        first_is = subst (λ (p : Pair). first ≡ target_at g p.first number) (sym ((extends_push pairs pair).kept at there)) refl;
-        second_is = subst (λ (p : Pair). second ≡ target_at g p.second number) (sym ((extends_push pairs pair).kept at there)) refl;
+        by = subst (λ (p : NodePair). number < length (targets_at g p.first)) (sym ((extends_push pairs pair).kept at there)) inside;
+        first_is = subst (λ (p : NodePair). first ≡ target_at g p.first number) (sym ((extends_push pairs pair).kept at there)) refl;
+        second_is = subst (λ (p : NodePair). second ≡ target_at g p.second number) (sym ((extends_push pairs pair).kept at there)) refl;
         followed = followed_on g pairs more (extends_push pairs pair) (length pairs) at number (omega arith) there s.followed;
       }
 
@@ -140,7 +141,7 @@ module _ (g : List Node) (closed : IsClosed g) (pairs : List Pair) (above height
         equal = λ k h. either_equal g k above new_above a b a_in b_in join (peaks_equal k h) (s.equal k (old_equal k h));
         followed = record {
           whole = λ k h v l i m. targets_on g pairs more (extends_push pairs pair) k v i (omega arith)
-              (s.followed.whole k (old_equal k h) v l i (subst (λ (p : Pair). i < length (targets_at g p.first)) ((extends_push pairs pair).kept v (omega arith)) m));
+              (s.followed.whole k (old_equal k h) v l i (subst (λ (p : NodePair). i < length (targets_at g p.first)) ((extends_push pairs pair).kept v (omega arith)) m));
           part = λ k h. passed_on (TargetsEqual g more k at) number
               (λ i l. targets_on g pairs more (extends_push pairs pair) k at i there (s.followed.part k (old_equal k h) i l))
               (targets_on g pairs more (extends_push pairs pair) k at number there (pair_equal k h));
@@ -152,10 +153,10 @@ module _ (g : List Node) (closed : IsClosed g) (pairs : List Pair) (above height
 module _ (g : List Node) (a b : ℕ) (above new_above new_heights : List ℕ) (first_in : a < length g) (second_in : b < length g) (here : LookEqual g 1 a b) (len : length above ≡ length g)
     (each : (x : ℕ) → x < length g → get_or above x 0 ≡ x) (all : peaks above ≡ length g) (join : Joined above new_above a b) (links : AreLinks new_above new_heights)
     (fewer : peaks new_above + 1 ≡ peaks above) where
-  abbrev start : Pair
+  abbrev start : NodePair
   start = record { first = a; second = b; from = 0; by = 0 }
 
-  one : (P : ℕ → Pair → Type 0) → P 0 start → (v : ℕ) → v < 1 → P v (pair_at (start ∷ []) v)
+  one : (P : ℕ → NodePair → Type 0) → P 0 start → (v : ℕ) → v < 1 → P v (pair_at (start ∷ []) v)
   one P p v l = let e : 0 ≡ v = omega arith in subst (λ (w : ℕ). P w (pair_at (start ∷ []) w)) e p
 
   pub begun : IsSearch g (start ∷ []) new_above new_heights 0 0
@@ -171,7 +172,7 @@ module _ (g : List Node) (a b : ℕ) (above new_above new_heights : List ℕ) (f
     len = joined_len above new_above a b join ∙ len;
     count = (let f = fewer in let w = all in let n : length (start ∷ []) ≡ 1 = refl in omega arith);
     equal = λ k h. either_equal g k above new_above a b (omega arith) (omega arith) join (h 0 (omega arith))
-        (λ x l. subst (λ (y : ℕ). LookEqual g k x y) (sym (each x l)) (look_self g k x));
+        (λ x l. subst (λ (y : ℕ). LookEqual g k x y) (sym (each x l)) (look-same g k x));
     followed = record {
       whole = λ k h v l i m. absurd (omega arith);
       part = λ k h i l. absurd (omega arith);
@@ -180,7 +181,7 @@ module _ (g : List Node) (a b : ℕ) (above new_above new_heights : List ℕ) (f
 
 -- ---- the end of a pair's targets, and of all pairs
 
-pub passed_pair : (g : List Node) (pairs : List Pair) (above heights : List ℕ) (at n : ℕ) → length (targets_at g (pair_at pairs at).first) ≤ n → IsSearch g pairs above heights at n
+pub passed_pair : (g : List Node) (pairs : List NodePair) (above heights : List ℕ) (at n : ℕ) → length (targets_at g (pair_at pairs at).first) ≤ n → IsSearch g pairs above heights at n
     → IsSearch g pairs above heights (at + 1) 0
 passed_pair g pairs above heights at n all s = record {
   reached = s.reached;
@@ -200,7 +201,7 @@ passed_pair g pairs above heights at n all s = record {
   };
 }
 
-pub all_equal : (g : List Node) (pairs : List Pair) (above heights : List ℕ) (p n : ℕ) → length pairs ≤ p → IsSearch g pairs above heights p n → (k : ℕ) → AllEqual g pairs k (length pairs)
+pub all_equal : (g : List Node) (pairs : List NodePair) (above heights : List ℕ) (p n : ℕ) → length pairs ≤ p → IsSearch g pairs above heights p n → (k : ℕ) → AllEqual g pairs k (length pairs)
 all_equal g pairs above heights p n all s zero v l = tt
 all_equal g pairs above heights p n all s (suc k) v l =
     let same = s.reached.same v l in

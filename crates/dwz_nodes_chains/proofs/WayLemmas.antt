@@ -4,9 +4,9 @@ use Rattle.std.proofs.Common.{ℕ, suc, ◌<◌, ◌≤◌, List, [], ◌∷◌,
 use Rattle.dwz_nodes.specs.Graph.{Node}
 use Rattle.dwz_nodes_chains.specs.LeastWays.{IsLeastWay, end_of, target_at}
 use Rattle.dwz_nodes_chains.specs.Course.{AllEqual, AreReached, IsFollowed, IsLastPart, IsReached, TargetsDiffer, pair_at}
-use Rattle.dwz_nodes_chains.specs.declared.pairs.Pair.{Pair}
+use Rattle.dwz_nodes_chains.specs.declared.pairs.NodePair.{NodePair}
 
-module _ (g : List Node) (pairs : List Pair) (r : AreReached g pairs) where
+module _ (g : List Node) (pairs : List NodePair) (r : AreReached g pairs) where
   -- pairs of which all targets look equal look equal one deeper
   deeper : (k q p n : ℕ) → p ≤ length pairs → IsFollowed g pairs q p n → AllEqual g pairs k q → AllEqual g pairs (suc k) p
   deeper k q p n few f h v l =
@@ -30,7 +30,7 @@ module _ (g : List Node) (pairs : List Pair) (r : AreReached g pairs) where
   pub part_back : (row : ℕ) (way : List ℕ) (first second : ℕ) → 0 < row → row < length pairs → IsLastPart g pairs row way first second
       → IsLastPart g pairs (pair_at pairs row).from ((pair_at pairs row).by ∷ way) first second
   part_back row way first second some there part =
-      let pair : Pair = pair_at pairs row in
+      let pair : NodePair = pair_at pairs row in
       let e : IsReached g pairs row pair = r.each row some there in
       let from = e.from in record {
         apart = record {

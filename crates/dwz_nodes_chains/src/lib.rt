@@ -14,4 +14,4 @@ mod links;
 mod pairs;
 mod search;
 
-pub use search::{Apart, find_chain};
+pub use search::{Difference, find_chain};

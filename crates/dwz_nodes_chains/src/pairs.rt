@@ -2,7 +2,6 @@
 ghost use Rattle.std.specs.Prelude.{◌≡◌, ◌↔◌, ℕ, ◌+◌, ◌<◌, ◌≤◌, false, IfOk, IfSome, IsTrue, None, OnOk, length};
 ghost use Rattle.dwz_nodes.specs.Graph.{IsClosed, targets_at};
 ghost use Rattle.dwz_nodes.specs.Looks.{LookEqual};
-ghost use Rattle.dwz_nodes_chains.specs.LeastWays.{target_at};
 ghost use Rattle.dwz_nodes_chains.specs.Course.{Extends, IsSearch, TargetsDiffer, pair_at};
 
 use crate::links::{Links, join_peaks, lone_nodes, peak_of};
@@ -12,7 +11,7 @@ use std::alloc::Global;
 
 /// Two nodes that don't differ by themselves, and how they were come by: they are targets of an earlier pair.
 #[derive(Clone, Copy)]
-pub(crate) struct Pair {
+pub(crate) struct NodePair {
     pub(crate) first: u32,
     pub(crate) second: u32,
     /// The number of that pair. The pair at the beginning has 0.
@@ -24,7 +23,7 @@ pub(crate) struct Pair {
 /// The pairs so far, in the order of their chains, and the groups into which they join nodes.
 #[derive(Drop)]
 pub(crate) struct Search {
-    pub(crate) pairs: Vec<Pair>,
+    pub(crate) pairs: Vec<NodePair>,
     pub(crate) links: Links,
 }
 
@@ -50,7 +49,7 @@ pub(crate) fn begin(alloc: Global, nodes: &Nodes, a: u32, b: u32) -> Result<Sear
     let mut links = lone_nodes(alloc, nodes.len())?;
     join_peaks(&mut links, a, b);
     let mut pairs = Vec::new(alloc);
-    pairs.push(Pair {
+    pairs.push(NodePair {
         first: a,
         second: b,
         from: 0,
@@ -83,7 +82,7 @@ fn meet(nodes: &Nodes, search: &mut Search, at: usize, number: usize) -> Result<
     if !is_same_here(nodes, first, second) {
         return Ok(true);
     }
-    search.pairs.push(Pair {
+    search.pairs.push(NodePair {
         first,
         second,
         from: at,
@@ -116,13 +115,13 @@ fn look_on(nodes: &Nodes, search: &mut Search, at: usize) -> Result<Option<usize
 
 /// The first targets that differ by themselves: of which pair, and which of its targets.
 #[derive(Clone, Copy)]
-pub(crate) struct Spot {
+pub(crate) struct TargetsAt {
     pub(crate) at: usize,
     pub(crate) number: usize,
 }
 
 /// Looks at the targets of one pair after the other, and answers the first that differ by themselves.
-pub(crate) fn look_all(nodes: &Nodes, search: &mut Search) -> Result<Option<Spot>, NoMemory>
+pub(crate) fn look_all(nodes: &Nodes, search: &mut Search) -> Result<Option<TargetsAt>, NoMemory>
     requires closed { IsClosed nodes.now }
     requires search { IsSearch nodes.now search.old.pairs.items search.old.links.above.items search.old.links.heights.items 0 0 }
     ensures extends { OnOk result (Extends search.old.pairs.items search.new.pairs.items) }
@@ -135,7 +134,7 @@ pub(crate) fn look_all(nodes: &Nodes, search: &mut Search) -> Result<Option<Spot
     let mut at = 0;
     'pairs: while at < search.pairs.len() {
         if let Some(number) = look_on(nodes, search, at)? {
-            return Ok(Some(Spot { at, number }));
+            return Ok(Some(TargetsAt { at, number }));
         }
         at += 1;
     }

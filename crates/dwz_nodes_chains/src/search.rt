@@ -1,18 +1,18 @@
 //! The search, and the chain that it finds.
-ghost use Rattle.std.specs.Prelude.{◌≡◌, ℕ, ◌<◌, IfOk, IfSome, None, length};
+ghost use Rattle.std.specs.Prelude.{◌≡◌, ◌<◌, IfOk, IfSome, None, length};
 ghost use Rattle.dwz_nodes.specs.Graph.{IsClosed};
 ghost use Rattle.dwz_nodes.specs.Looks.{Alike};
 ghost use Rattle.dwz_nodes_chains.specs.LeastWays.{IsApart};
 ghost use Rattle.dwz_nodes_chains.specs.Course.{AreReached, IsFollowed, TargetsDiffer, pair_at};
 
-use crate::pairs::{Pair, begin, is_same_here, look_all};
+use crate::pairs::{NodePair, begin, is_same_here, look_all};
 use dwz_model::NoMemory;
 use dwz_nodes::Nodes;
 use std::alloc::Global;
 
 /// What tells two nodes apart.
 #[derive(Debug, Drop)]
-pub struct Apart {
+pub struct Difference {
     /// The numbers of the targets that are followed from both nodes, one after the other, counted from 0.
     pub chain: Vec<usize>,
     /// Where they lead to from the first node.
@@ -25,10 +25,10 @@ pub struct Apart {
 fn apart_at(
     alloc: Global,
     nodes: &Nodes,
-    pairs: &[Pair],
+    pairs: &[NodePair],
     at: usize,
     number: usize,
-) -> Result<Apart, NoMemory>
+) -> Result<Difference, NoMemory>
     requires closed { IsClosed nodes.now }
     requires reached { AreReached nodes.now pairs.now }
     requires followed { IsFollowed nodes.now pairs.now (length pairs.now) at number }
@@ -48,7 +48,7 @@ fn apart_at(
         row = pair.from;
     }
     chain.reverse();
-    Ok(Apart {
+    Ok(Difference {
         chain,
         first,
         second,
@@ -57,7 +57,12 @@ fn apart_at(
 
 /// Of all chains of targets that lead from two nodes to two that differ by themselves the least: the shortest, and of those as long the
 /// one with the lowest numbers, compared from the first on. None where the two nodes are alike.
-pub fn find_chain(alloc: Global, nodes: &Nodes, a: u32, b: u32) -> Result<Option<Apart>, NoMemory>
+pub fn find_chain(
+    alloc: Global,
+    nodes: &Nodes,
+    a: u32,
+    b: u32,
+) -> Result<Option<Difference>, NoMemory>
     requires closed { IsClosed nodes.now }
     requires first { a < length nodes.now }
     requires second { b < length nodes.now }
@@ -68,7 +73,7 @@ pub fn find_chain(alloc: Global, nodes: &Nodes, a: u32, b: u32) -> Result<Option
         return Ok(None);
     }
     if !is_same_here(nodes, a, b) {
-        return Ok(Some(Apart {
+        return Ok(Some(Difference {
             chain: Vec::new(alloc),
             first: a,
             second: b,

@@ -1,14 +1,15 @@
 -- From a whole round to pending nodes, and from numbers back to least nodes.
-use Rattle.std.proofs.Common.{◌≡◌, ℕ, zero, suc, ◌+◌, ◌-◌, ◌<◌, ◌≤◌, ◌^◌, List, [], ◌∷◌, ◌++◌, length, set, refl, sym, ap, subst, ◌∙◌, arith, get_or-set_other, get_or-set_same}
+use Rattle.std.proofs.Common.{◌≡◌, ℕ, suc, ◌+◌, ◌-◌, ◌<◌, ◌≤◌, ◌^◌, List, [], ◌∷◌, ◌++◌, length, set, refl, sym, ap, subst, ◌∙◌, arith, get_or-set_other, get_or-set_same}
 use Rattle.std.specs.Prelude.{slice_index}
 use Rattle.std.proofs.Math.ListN.{get_or-append}
 use Rattle.std.proofs.Math.Seq.{get_or-append_seam}
 use mathlib.Core.Logic.{dite}
 use native.Mathlib.Decide.{ℕ_discrete, dec_le}
-use Rattle.dwz_nodes.specs.Graph.{Node, targets_at, IsClosed}
-use Rattle.dwz_nodes.specs.Looks.{LookEqual, IsLeastBelow}
+use Rattle.dwz_nodes.specs.Graph.{Node, IsClosed}
+use Rattle.dwz_nodes.specs.Looks.{IsLeastBelow}
 use Rattle.dwz_nodes.specs.Keys.{key}
 use Rattle.dwz_nodes.specs.Among.{Among}
+use Rattle.dwz_nodes.proofs.Looks.{look-same}
 use Rattle.dwz_rounds.specs.Rounds.{IsLevel, IsRound}
 use Rattle.dwz_rounds.specs.Pending.{IsPending}
 use Rattle.dwz_rounds.specs.Start.{IsLed, AreNumbered, AreMoved}
@@ -20,11 +21,7 @@ module _ (g : List Node) (closed : IsClosed g) (k : ℕ) (classes next : List �
 
   pub led : IsLed next
   led a l = let e = round.len in let r = deeper.each a (omega arith) in
-      (r.least a (omega arith) (look-same (suc k) a), sym (look-class g closed (suc k) next a (slice_index next a) deeper (omega arith) r.inside r.is))
-    where
-      look-same : (n a : ℕ) → LookEqual g n a a
-      look-same zero a = tt
-      look-same (suc n) a = (refl, refl, λ i m. look-same n (slice_index (targets_at g a) i))
+      (r.least a (omega arith) (look-same g (suc k) a), sym (look-class g closed (suc k) next a (slice_index next a) deeper (omega arith) r.inside r.is))
 
   -- nodes of one class had one class, and one key
   before : (a b : ℕ) → a < length g → b < length g → slice_index next a ≡ slice_index next b → slice_index classes a ≡ slice_index classes b

@@ -9,7 +9,8 @@ use Rattle.dwz_nodes.specs.Looks.{LookEqual, Alike, IsLeastBelow, IsRefined}
 use Rattle.dwz_nodes.specs.Keys.{key}
 use Rattle.dwz_nodes.specs.Among.{Among}
 use Rattle.dwz_rounds.specs.Pending.{PointsAt, IsPending, IsVisit, IsSplit, TellApart}
-use Rattle.dwz_rounds.proofs.Levels.{heads, tails, map-same, map-length, map-at, least-same, look-sym}
+use Rattle.dwz_nodes.proofs.Looks.{look-sym}
+use Rattle.dwz_rounds.proofs.Levels.{heads, tails, map-same, map-length, map-at, least-same}
 
 -- whether a number stands in a list can be tested
 pub among_or : (xs : List ℕ) (n : ℕ) → Among xs n ⊎ (¬ (Among xs n))

@@ -1,7 +1,8 @@
-//! From a whole round on: only what changed is looked at again, until nothing is pending.
+//! From a round on: only what changed is looked at again, until nothing is pending.
 //!
-//! That begins after a round in which at most a sixteenth of the nodes changed. "Changed" leaves out the largest part of each class, so a
-//! class isn't named by its least node any more; the least nodes are found once, at the end.
+//! That begins where a next round would look at many nodes, or many rounds went by, and in the last one at most a sixteenth of the nodes
+//! changed. "Changed" leaves out the largest part of each class, so a class isn't named by its least node any more; the least nodes are
+//! found once, at the end.
 ghost use Rattle.std.specs.Prelude.{◌≡◌, ℕ, ◌+◌, ◌-◌, ◌*◌, ◌<◌, ◌≤◌, ◌^◌, ◌⊎◌, [], All, IfOk, IfSome, IsTrue, OnOk, length, min};
 ghost use Rattle.std.specs.Prelude.{slice_index, slice_set};
 ghost use Rattle.dwz_nodes.specs.Graph.{IsClosed};
@@ -111,8 +112,8 @@ fn put_least(numbers: &[u32], firsts: &mut [u32], least: &mut Vec<u32>) -> Resul
     Ok(())
 }
 
-// For each node the least node with its number.
-fn least_nodes(alloc: Global, numbers: &[u32]) -> Result<Vec<u32>, NoMemory>
+/// For each node the least node with its number.
+pub(crate) fn least_nodes(alloc: Global, numbers: &[u32]) -> Result<Vec<u32>, NoMemory>
     requires few { length numbers.now < 2 ^ 32 - 1 }
     requires numbers { All (λ c. c < length numbers.now) numbers.now }
     ensures len { IfOk result (λ least. length least.items ≡ length numbers.now) }

@@ -6,7 +6,7 @@ use crate::nodes::{Given, graph};
 use crate::rounds::is_closed;
 use dwz_model::NoMemory;
 use dwz_nodes::Nodes;
-use dwz_nodes_chains::{Apart, find_chain};
+use dwz_nodes_chains::{Difference, find_chain};
 use std::alloc::Global;
 use std::process::Abort;
 use std::test::Fail;
@@ -111,7 +111,7 @@ fn told<R: Abort>(
     alloc: Global,
     nodes: &Nodes,
     (a, b): (u32, u32),
-) -> Result<Option<Apart>, NoMemory> {
+) -> Result<Option<Difference>, NoMemory> {
     let closed = is_closed(nodes);
     assert!(rt; closed);
     let are_there = a < nodes.len() && b < nodes.len();
@@ -120,7 +120,7 @@ fn told<R: Abort>(
 }
 
 // Whether that is what was expected.
-fn is_told(found: &Option<Apart>, expected: &Option<Told>) -> bool {
+fn is_told(found: &Option<Difference>, expected: &Option<Told>) -> bool {
     match found {
         None => expected.is_none(),
         Some(apart) => match expected {
@@ -179,7 +179,7 @@ fn cycles(alloc: Global, sizes: &[u32]) -> Result<Nodes, NoMemory> {
 }
 
 // How long the chain is that tells the first nodes of two parts of a graph apart, if it has zeros alone, and which nodes it leads to.
-fn zeros(found: &Option<Apart>) -> Option<(usize, u32, u32)> {
+fn zeros(found: &Option<Difference>) -> Option<(usize, u32, u32)> {
     match found {
         None => None,
         Some(apart) => {

@@ -1,4 +1,5 @@
-//! Tests of the crates that know nothing of DWARF but codes and bytes: plain data, bytes, the shared table, nodes, rounds, and chains.
+//! Tests of the crates that know nothing of DWARF but codes and bytes: plain data, bytes, the shared table, nodes, rounds, chains, and
+//! batches of jobs.
 //!
 //! A module for each crate that it tests. A crate with tests of its own is proved twice, so these stand on the libraries as their users do.
 //! What no clause says is tested here: that calls succeed with ample memory, that two workers are at work at once (`MeetGate`), the
@@ -6,6 +7,8 @@
 //! proved once.
 #![tactic(auto)]
 
+#[cfg(test)]
+mod batch;
 #[cfg(test)]
 mod bucket;
 #[cfg(test)]

@@ -277,12 +277,12 @@ impl Gate for BothWays {
     }
 }
 
-// 1,024 nodes that are alike.
+// 1,024 nodes that are alike, whose label is no number of a node: so the first round goes over them.
 fn equal_nodes(alloc: Global) -> Result<Nodes, NoMemory> {
     let mut nodes = Nodes::new(alloc);
     for _ in 0..1024 {
         if nodes.len() < 2000 {
-            nodes.push(5, &[])?;
+            nodes.push(5000, &[])?;
         }
     }
     Ok(nodes)

@@ -95,6 +95,7 @@ listing first second = record {
   value = record {
     plain = Loc ((Same (0x70 ∷ 0 ∷ 0xa8 ∷ []) ∷ Operand 1 true FromUnit ∷ Same (0xa8 ∷ []) ∷ Operand 1 true FromUnit ∷ Same (0x9f ∷ []) ∷ []) ∷ []);
     refs = first ∷ second ∷ [];
+    address = false;
   };
 }
 
@@ -120,7 +121,7 @@ declared_doc number = file (unit 0 (record { name = 0x10; form = 0x17; raw = pos
 -- a type, and a variable `v` of that type at an address
 abbrev pub addressed_doc : Doc ℕ
 addressed_doc = file (unit 0 [] (then (short_type 0x0d) (then (entry 0x2c 0x34
-    (named (codes "v") ∷ typed 0x0d ∷ computed (0x03 ∷ 0 ∷ 0x40 ∷ 0x40 ∷ 0 ∷ 0 ∷ 0 ∷ 0 ∷ 0 ∷ []) ∷ [])) End)) ∷ [])
+    (named (codes "v") ∷ typed 0x0d ∷ computed true (0x03 ∷ 0 ∷ 0x40 ∷ 0x40 ∷ 0 ∷ 0 ∷ 0 ∷ 0 ∷ 0 ∷ []) ∷ [])) End)) ∷ [])
 
 abbrev pub short_doc : Doc ℕ
 short_doc = file (unit 0 [] (then (short_type 0x0d) End) ∷ [])

@@ -14,7 +14,7 @@ use Rattle.dwz_def_reading.specs.LinesWritten.{file_formats, one_directory, rows
 use Rattle.dwz_def_reading.specs.Classes.{class_in, class_rows}
 use Rattle.dwz_def_tops.specs.Shown.{keys, unit_keys, units_keys}
 use Rattle.dwz_def_tops.specs.Spaces.{space_text, tops_under}
-use Rattle.dwz_def_tops.specs.Alike.{TopScope, any_entry, is_addressed, joined_parts, unit_in}
+use Rattle.dwz_def_tops.specs.Alike.{TopScope, any_entry, joined_parts, unit_in}
 use Rattle.dwz_def_tops.specs.Deciding.{alike_test, bound_test, look_test, same_by, same_entries, same_int, same_part, same_plain, top_in}
 use Rattle.dwz_def_tops.specs.Spots.{entry_spots, file_numbers, named_files, row_from, row_in, row_tops, same_numbers, same_spot, spot_in, spots_from, top_spots, tops_among, tops_from, units_of}
 use Rattle.dwz_def_plan.specs.Gain.{attrs_weight, bare_bytes, entries_weight, gain_rule, gain_test, gains_test, group_weight, weights}
@@ -39,7 +39,7 @@ whatever bytes raw = record { bytes = bytes; raw = raw; prunes = λ file. true }
 
 -- tops move whose groups gain; whatever unfolds this unfolds all by which what is written is found
 unfoldable pub run_in : TopScope → List (Doc ℕ) → Stored → Run
-unfolding groups_in le_bytes padded form_rows pairs_bytes table_bytes has value_bytes entries_map first_named class_in class_rows keys unit_keys units_keys space_text tops_under any_entry is_addressed
+unfolding groups_in le_bytes padded form_rows pairs_bytes table_bytes has value_bytes entries_map first_named class_in class_rows keys unit_keys units_keys space_text tops_under any_entry
     joined_parts unit_in alike_test bound_test look_test same_by same_entries same_int same_part same_plain top_in entry_spots file_numbers named_files row_from row_in row_tops same_numbers same_spot
     spot_in spots_from top_spots tops_among tops_from attrs_weight bare_bytes entries_weight gain_test gains_test group_weight weights candidate file_of first_alike home numbers_from users line_attrs
     part_at root_of beside chain_down chains distinct imports is_pinned is_pinned_at leading local_partials partials partials_at representatives row_part row_pinned row_staying stand_in top_row

@@ -3,6 +3,7 @@
 use crate::elf_files::{Content, decode_all, file, files_of};
 use crate::expect::same_for;
 use crate::graph_rows::{ROWS, TYPE, UNIT};
+use crate::list_rows::LIST_ROWS;
 use dwz_graph::Graph;
 use dwz_model::{GraphErr, Reason, Refusal};
 use std::alloc::{AllocError, Global};
@@ -35,7 +36,7 @@ fn refused(fault: Option<(u32, u8, u64, Reason)>) -> Option<GraphErr> {
 
 #[test]
 fn first_faults_are_placed(rt: HostRuntime) -> Result<(), Fail> {
-    for row in ROWS {
+    for row in ROWS.iter().chain(LIST_ROWS) {
         let files = files_of(rt.alloc(), row.files)?;
         for workers in row.workers {
             let found = fault_of(&rt, rt.alloc(), &files, *workers);

@@ -18,18 +18,17 @@ const FILE: &str = "011101101700000224003a0b000000";
 
 const EXPR: &str = "01110100000234000218000000";
 
-const LIST: &str = "01110100000234000217000000";
-
 const REFERENCE: &str = "01110100000234004913000000";
 
 pub(crate) const TYPE: &str = "011101000002240003080b0b3e0b000000";
 
-const TYPE_AND_LIST: &str = "011101000002240003080b0b3e0b00000334000217000000";
+pub(crate) const TYPE_AND_LIST: &str = "011101000002240003080b0b3e0b00000334000217000000";
 
 // A unit with a base type, and one with a list's variable besides, which names the list at 0.
 pub(crate) const UNIT: &str = "1100000005000108000000000102696e7400040500";
 
-const LISTS: &str = "1600000005000108000000000102696e7400040503000000000016000000050001080000000001\
+pub(crate) const LISTS: &str =
+    "1600000005000108000000000102696e7400040503000000000016000000050001080000000001\
 02696e74000405030000000000";
 
 // A line table with a file, and one without its last byte.
@@ -49,7 +48,7 @@ const TYPE_UNIT: &str = "1d000000050002080000000000000000000000001a0000000102696
 const TYPES: &str = "014101000002240003080b0b3e0b000000";
 
 // A list of the base type, and sets of address ranges: of the first unit, of none, and one after the other.
-const OF_TYPE: &str = "0502a80d00";
+pub(crate) const OF_TYPE: &str = "0502a80d00";
 
 const SET: &str = "080000000200000000000800";
 
@@ -176,80 +175,6 @@ pub(crate) const ROWS: &[Row] = &[
         files: &[Content(62, &["12000000050001080000000001020603990100000000", EXPR])],
         workers: &[1],
         fault: Some((0, 1, 15, Reason::BadExpr)),
-    },
-    Row {
-        shows: "a list past the end of the section",
-        files: &[Content(
-            62,
-            &[
-                "0f000000050001080000000001020100000000",
-                LIST,
-                "",
-                "",
-                "",
-                "",
-                "00",
-            ],
-        )],
-        workers: &[1],
-        fault: Some((0, 1, 14, Reason::BadList)),
-    },
-    Row {
-        shows: "an entry of a list that isn't whole",
-        files: &[Content(
-            62,
-            &[
-                "0f000000050001080000000001020000000000",
-                LIST,
-                "",
-                "",
-                "",
-                "",
-                "01000400",
-            ],
-        )],
-        workers: &[1],
-        fault: Some((0, 7, 2, Reason::BadList)),
-    },
-    Row {
-        shows: "an operand of a list that names no entry",
-        files: &[Content(
-            62,
-            &[
-                "0f000000050001080000000001020000000000",
-                LIST,
-                "",
-                "",
-                "",
-                "",
-                "0502a80500",
-            ],
-        )],
-        workers: &[1],
-        fault: Some((0, 7, 3, Reason::BadOperand)),
-    },
-    Row {
-        shows: "one that names the base type",
-        files: &[Content(
-            62,
-            &[
-                "1600000005000108000000000102696e74000405030000000000",
-                TYPE_AND_LIST,
-                "",
-                "",
-                "",
-                "",
-                OF_TYPE,
-            ],
-        )],
-        workers: &[1],
-        fault: None,
-    },
-    Row {
-        shows: "one list of two units",
-        files: &[Content(62, &[LISTS, TYPE_AND_LIST, "", "", "", "", OF_TYPE])],
-        workers: &[1],
-        fault: Some((0, 7, 3, Reason::SharedList)),
     },
     Row {
         shows: "a set of address ranges of no unit, behind one of the unit",

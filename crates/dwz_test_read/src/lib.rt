@@ -24,6 +24,8 @@ mod graph_rows;
 #[cfg(test)]
 mod lines;
 #[cfg(test)]
+mod list_rows;
+#[cfg(test)]
 mod lists;
 #[cfg(test)]
 mod narrow;

@@ -1,7 +1,7 @@
 //! Small line tables. What is expected was given by a model that was written independently.
 
 use crate::expect::{same, same_for};
-use dwz_lines::{FileRows, FileTable, uses_strp, write_header};
+use dwz_lines::{TableRows, uses_strp, write_header};
 use dwz_model::{Blob, Fault, Names, ReadErr, Reason};
 use std::alloc::{AllocError, Global};
 use std::test::Fail;
@@ -51,48 +51,43 @@ const READ: &[Read] = &[
     },
 ];
 
+// The path of a file, if there is such a row.
+fn owned(alloc: Global, path: Option<&[u8]>) -> Result<Option<Vec<u8>>, AllocError> {
+    match path {
+        None => Ok(None),
+        Some(path) => Ok(Some(path.to_vec(alloc)?)),
+    }
+}
+
+// How many rows may be kept: all, as many as a table of two directories and four files has, one less, and none.
+const LEFT: &[usize] = &[usize::MAX, 6, 5, 0];
+
 #[test]
 fn reads_paths(rt: HostRuntime) -> Result<(), Fail> {
     for row in READ {
-        let table = FileTable::read(rt.alloc(), row.table, LINE_STRS, STRS, 0)?;
-        for (number, path) in row.paths {
-            same_for(&rt, number, &table.path(*number), path);
+        for most in LEFT {
+            let mut left = *most;
+            let table = TableRows::read(rt.alloc(), row.table, LINE_STRS, STRS, 0, &mut left)?;
+            for (number, path) in row.paths {
+                let found = table.path(rt.alloc(), *number)?;
+                same_for(&rt, number, &found, &owned(rt.alloc(), *path)?);
+                same_for(&rt, number, &table.has_path(*number), &path.is_some());
+            }
+            same_for(&rt, &"strp", &table.has_strp(), &row.strp);
         }
-        same_for(&rt, &"strp", &table.has_strp(), &row.strp);
     }
     Ok(())
 }
 
-// The path of a file of some rows behind what is there, if there is such a row.
-fn joined(alloc: Global, rows: &FileRows, number: u64) -> Result<Option<Vec<u8>>, AllocError> {
-    let mut out = b"at ".to_vec(alloc)?;
-    if rows.path_into(number, &mut out)? {
-        Ok(Some(out))
-    } else {
-        Ok(None)
-    }
-}
-
-// The same of a path.
-fn behind_at(alloc: Global, path: Option<&[u8]>) -> Result<Option<Vec<u8>>, AllocError> {
-    let Some(path) = path else {
-        return Ok(None);
-    };
-    let mut out = b"at ".to_vec(alloc)?;
-    out.extend_from_slice(path)?;
-    Ok(Some(out))
-}
+// How many rows may still be kept behind a table of two directories and four files, if that many were.
+const STILL: &[(usize, usize)] = &[(100, 94), (6, 0), (5, 5), (0, 0)];
 
 #[test]
-fn joins_paths_of_rows(rt: HostRuntime) -> Result<(), Fail> {
-    for row in READ {
-        let rows = FileRows::read(rt.alloc(), row.table, LINE_STRS, STRS, 0)?;
-        for (number, path) in row.paths {
-            let found = joined(rt.alloc(), &rows, *number)?;
-            same_for(&rt, number, &found, &behind_at(rt.alloc(), *path)?);
-            same_for(&rt, number, &rows.has_path(*number), &path.is_some());
-        }
-        same_for(&rt, &"strp", &rows.has_strp(), &row.strp);
+fn keeps_few_rows(rt: HostRuntime) -> Result<(), Fail> {
+    for (most, still) in STILL {
+        let mut left = *most;
+        TableRows::read(rt.alloc(), &TABLE, LINE_STRS, STRS, 0, &mut left)?;
+        same_for(&rt, most, &left, still);
     }
     Ok(())
 }
@@ -127,7 +122,8 @@ const ELSEWHERE: &[u64] = &[1, 64, 65, 66, u64::MAX];
 
 // Why there is no table, if there is none.
 fn fault_of(alloc: Global, line: &[u8], at: u64) -> Option<ReadErr> {
-    FileTable::read(alloc, line, LINE_STRS, STRS, at).err()
+    let mut left = usize::MAX;
+    TableRows::read(alloc, line, LINE_STRS, STRS, at, &mut left).err()
 }
 
 #[test]
@@ -263,15 +259,22 @@ const PASSED_OVER: &[PassedOver] = &[
 ];
 
 #[test]
-fn texts_that_are_passed_over_stand(rt: HostRuntime) {
+fn texts_that_are_passed_over_stand(rt: HostRuntime) -> Result<(), Fail> {
     for row in PASSED_OVER {
-        let read = FileTable::read(rt.alloc(), row.table, row.line_strs, row.strs, 0);
-        let found = match &read {
-            Ok(table) => Ok(table.path(0)),
-            Err(error) => Err(*error),
-        };
-        same_for(&rt, &row.shows, &found, &row.path);
+        let mut left = usize::MAX;
+        match TableRows::read(rt.alloc(), row.table, row.line_strs, row.strs, 0, &mut left) {
+            Ok(table) => {
+                let found = Ok(table.path(rt.alloc(), 0)?);
+                let path = match row.path {
+                    Ok(path) => Ok(owned(rt.alloc(), path)?),
+                    Err(error) => Err(error),
+                };
+                same_for(&rt, &row.shows, &found, &path);
+            }
+            Err(error) => same_for(&rt, &row.shows, &Err(error), &row.path),
+        }
     }
+    Ok(())
 }
 
 // What stands in a section behind each other, and whether one of its tables has a path in `.debug_str`; None if they aren't all read.

@@ -1,14 +1,17 @@
 -- A table that was read is added to those that are kept.
-use Rattle.std.proofs.Common.{◌≡◌, ℕ, List, [], ◌∷◌, ◌++◌, Some, sym, subst, ◌∙◌, inl, inr}
+use Rattle.std.proofs.Common.{◌≡◌, ℕ, ◌+◌, List, [], ◌∷◌, ◌++◌, length, Some, sym, ap, subst, ◌∙◌, inl, inr, arith}
+use Rattle.std.proofs.lemmas.List.{length-append, length-map}
 use Rattle.std.specs.BTreeMap.{BTreeMap, Updates, get}
 use Rattle.std.specs.Ordering.{is_eq, nat_cmp}
 use Rattle.dwz_bytes.proofs.GroupLemmas.{chosen}
 use Rattle.dwz_def_reading.proofs.CaseFacts.{same_number}
-use Rattle.dwz_unit.specs.declared.joined.JoinedTable.{JoinedTable}
+use Rattle.dwz_unit.specs.declared.joined_table.JoinedTable.{JoinedTable}
 use Rattle.dwz_unit.specs.declared.tail.Tail.{Tail}
+use Rattle.dwz_def_reading.specs.Abbrevs.{Declaration}
+use Rattle.dwz_unit.specs.Found.{all_pairs, each_pairs}
 use Rattle.dwz_unit.specs.Tables.{Grows, Stored}
 use Rattle.dwz_unit.specs.Tails.{AreJoinedTables, AreTails, BeginsAt, HasTail, IsJoined, read_from, whole_tables}
-use Rattle.dwz_unit.proofs.LinkLemmas.{begins_has, known_pushed, reads_grow}
+use Rattle.dwz_unit.proofs.LinkLemmas.{begins_has, known_pushed, pairs_push, reads_grow}
 use Rattle.dwz_unit.proofs.TailLemmas.{tail_grown}
 
 pub tails_grown : (old new : Stored) (tails : BTreeMap ℕ Tail) → Grows old new → AreTails old tails → AreTails new tails
@@ -29,13 +32,21 @@ tails_added s tails others offset t are has updates = λ place u is.
       | inr p ↦ are place u p.1
     ]
 
-pub bases_pushed : (section : List ℕ) (reads given new : List JoinedTable) (tails : BTreeMap ℕ Tail) (offset : ℕ) (r : JoinedTable) → AreJoinedTables section reads tails → given ≡ reads
-    → IsJoined section given (whole_tables given) offset r → new ≡ reads ++ r ∷ [] → AreJoinedTables section new tails
-bases_pushed section reads given new tails offset r are same joins is = record {
-  known = known_pushed section reads new offset r is are.known (subst (λ (w : List JoinedTable). IsJoined section w (whole_tables w) offset r) same joins);
+pub bases_pushed : (section : List ℕ) (reads given new : List JoinedTable) (tails : BTreeMap ℕ Tail) (offset count total : ℕ) (r : JoinedTable) → AreJoinedTables section reads tails count → given ≡ reads
+    → IsJoined section given (whole_tables given) offset r → r.first ≡ count → total ≡ count + length r.table → new ≡ reads ++ r ∷ [] → AreJoinedTables section new tails total
+bases_pushed section reads given new tails offset count total r are same joins first more is = record {
+  known = known_pushed section reads new offset r is are.known (subst (λ (w : List JoinedTable). IsJoined section w (whole_tables w) offset r) same joins) (first ∙ are.counted);
   asked = tails_grown (read_from section reads) (read_from section new) tails (reads_grow section reads new r is) are.asked;
+  counted = omega (
+    arith,
+    more,
+    are.counted,
+    ap length (pairs_push reads new r is),
+    length-append (all_pairs reads) (each_pairs r.table),
+    length-map r.table (λ (d : Declaration). d.pairs),
+  );
 }
 
-pub begins_given : (section : List ℕ) (reads given : List JoinedTable) (tails : BTreeMap ℕ Tail) (place : ℕ) (t : Tail) → AreJoinedTables section reads tails → given ≡ reads → BeginsAt given place t
+pub begins_given : (section : List ℕ) (reads given : List JoinedTable) (tails : BTreeMap ℕ Tail) (place count : ℕ) (t : Tail) → AreJoinedTables section reads tails count → given ≡ reads → BeginsAt given place t
     → HasTail (read_from section reads) place t
-begins_given section reads given tails place t are same begins = begins_has section reads place are.known t (subst (λ (w : List JoinedTable). BeginsAt w place t) same begins)
+begins_given section reads given tails place count t are same begins = begins_has section reads place are.known t (subst (λ (w : List JoinedTable). BeginsAt w place t) same begins)

@@ -1,12 +1,16 @@
 -- Tables that go on with ends of those before them: where one is added, the others stay.
-use Rattle.std.proofs.Common.{◌≡◌, ℕ, zero, suc, ◌+◌, ◌<◌, ◌≤◌, List, [], ◌∷◌, ◌++◌, drop, length, Option, Some, None, Ok, refl, sym, ap, subst, ◌∙◌, arith, inl, inr}
-use Rattle.std.proofs.lemmas.List.{get_or_append_left, get_or_past, length_push}
+use Rattle.std.proofs.Common.{◌≡◌, ℕ, zero, suc, ◌+◌, ◌<◌, ◌≤◌, List, [], ◌∷◌, ◌++◌, drop, length, Option, Some, None, Ok, refl, sym, ap, subst, append_assoc, ◌∙◌, arith, inl, inr}
+use Rattle.std.proofs.lemmas.List.{append-nil, get_or_append_left, get_or_past, length_push}
 use Rattle.std.proofs.lemmas.Option.{get_or_from_slice_get, slice_get_within}
 use Rattle.std.specs.Prelude.{◌⊎◌, slice_get, slice_index_or}
 use Rattle.dwz_def_reading.specs.Abbrevs.{Declaration, find_decl}
-use Rattle.dwz_def_reading.proofs.ListFacts.{get_first, get_last}
+use Rattle.dwz_def_reading.proofs.ListFacts.{get_first, get_last, got_map}
 use Rattle.dwz_unit.proofs.PastLemmas.{none_past}
-use Rattle.dwz_unit.specs.declared.joined.JoinedTable.{JoinedTable}
+use Rattle.dwz_abbrev.specs.Views.{decl_view}
+use Rattle.dwz_model.specs.declared.place.Pair.{Pair}
+use Rattle.dwz_unit.specs.declared.joined_table.JoinedTable.{JoinedTable}
+use Rattle.dwz_unit.specs.declared.numbered.Numbered.{Numbered}
+use Rattle.dwz_unit.specs.Found.{IsOwn, StandsIn, all_pairs, each_pairs}
 use Rattle.dwz_unit.specs.declared.tail.Tail.{Tail}
 use Rattle.dwz_unit.specs.Tables.{Grows}
 use Rattle.dwz_unit.specs.Tails.{AreReadTables, AreLinked, BeginsAt, HasTail, IsLinked, IsJoined, KnowsStarts, StartsIn, end_in, read_from, tables_behind, whole_tables, tail_in, whole_in}
@@ -35,6 +39,36 @@ pushed_one [] x (suc i) y e = absurd cc
 pushed_one (z ∷ xs) x zero y e = inl e
 pushed_one (z ∷ xs) x (suc i) y e = elim (pushed_one xs x i y e) [ inl p ↦ inl p | inr p ↦ inr (ap suc p.0, p.1) ]
 
+-- ---- declarations and their numbers
+
+all_pairs-push : (reads : List JoinedTable) (r : JoinedTable) → all_pairs (reads ++ r ∷ []) ≡ all_pairs reads ++ each_pairs r.table
+all_pairs-push [] r = append-nil (each_pairs r.table)
+all_pairs-push (s ∷ reads) r =
+    ap (λ (w : List (List Pair)). each_pairs s.table ++ w) (all_pairs-push reads r) ∙ sym (append_assoc (each_pairs s.table) (all_pairs reads) (each_pairs r.table))
+
+-- those of the table that is read last
+pub pairs_push : (reads new : List JoinedTable) (r : JoinedTable) → new ≡ reads ++ r ∷ [] → all_pairs new ≡ all_pairs reads ++ each_pairs r.table
+pairs_push reads new r is = ap all_pairs is ∙ all_pairs-push reads r
+
+get_behind : {X : Type 0} (xs ys : List X) (n : ℕ) → slice_get (xs ++ ys) (length xs + n) ≡ slice_get ys n
+get_behind {X} [] ys n = let same : zero + n ≡ n = omega arith in ap (slice_get ys) same
+get_behind {X} (x ∷ xs) ys n =
+    let same : suc (length xs) + n ≡ suc (length xs + n) = omega arith in
+    ap (slice_get (x ∷ (xs ++ ys))) same ∙ get_behind xs ys n
+
+stands_kept : (decls more : List (List Pair)) (r : JoinedTable) → StandsIn decls r → StandsIn (decls ++ more) r
+stands_kept decls more r stands = λ place d at. get_first decls more (r.first + place) d.pairs (stands place d at)
+
+stands_last : (decls : List (List Pair)) (r : JoinedTable) → r.first ≡ length decls → StandsIn (decls ++ each_pairs r.table) r
+stands_last decls r first = λ place d at.
+    ap (λ (n : ℕ). slice_get (decls ++ each_pairs r.table) (n + place)) first
+    ∙ get_behind decls (each_pairs r.table) place
+    ∙ got_map (λ (e : Declaration). e.pairs) r.table place d at
+
+-- a declaration of the table's own has its names and forms at its number
+pub own_stands : (decls : List (List Pair)) (r : JoinedTable) (f : Numbered) → StandsIn decls r → IsOwn r f → slice_get decls f.number ≡ Some f.decl.now.pairs
+own_stands decls r f stands own = ap (slice_get decls) own.number ∙ stands own.place (decl_view f.decl.now) own.there
+
 -- ---- ends
 
 abbrev IsBelow : List (List Declaration) → Option Tail → Type 0
@@ -55,7 +89,7 @@ starts_pushed reads r t in_it = record { read = in_it.read; base = get_first rea
 
 -- ---- a table is added
 
-module _ (section : List ℕ) (reads : List JoinedTable) (tables : List (List Declaration)) (offset : ℕ) (r : JoinedTable) (known : AreReadTables section reads tables) (joins : IsJoined section reads tables offset r) where
+module _ (section : List ℕ) (reads : List JoinedTable) (tables : List (List Declaration)) (offset : ℕ) (r : JoinedTable) (known : AreReadTables section reads tables) (joins : IsJoined section reads tables offset r) (first : r.first ≡ length (all_pairs reads)) where
   -- the tables with that one
   abbrev all : List (List Declaration)
   all = tables ++ whole_in tables r ∷ []
@@ -73,6 +107,7 @@ module _ (section : List ℕ) (reads : List JoinedTable) (tables : List (List De
         whole = get_first tables (whole_in tables r ∷ []) n (whole_in tables s) l.whole ∙ ap (λ (w : List Declaration). Some w) (sym (old_kept n s at));
         before = l.before;
         next = λ t is. starts_pushed reads r t (l.next t is);
+        stands = subst (λ (w : List (List Pair)). StandsIn w s) (sym (all_pairs-push reads r)) (stands_kept (all_pairs reads) (each_pairs r.table) s l.stands);
       }
 
   new_linked : length tables ≡ length reads → IsLinked (reads ++ r ∷ []) all (length reads) r
@@ -80,6 +115,7 @@ module _ (section : List ℕ) (reads : List JoinedTable) (tables : List (List De
     whole = ap (slice_get all) (sym many) ∙ get_last tables (whole_in tables r) ∙ ap (λ (w : List Declaration). Some w) (sym new_kept);
     before = λ t is. let in_it = joins.next t is in slice_get_within reads t.base in_it.read in_it.base;
     next = λ t is. starts_pushed reads r t (joins.next t is);
+    stands = subst (λ (w : List (List Pair)). StandsIn w r) (sym (all_pairs-push reads r)) (stands_last (all_pairs reads) r first);
   }
 
   starts_same : (s : JoinedTable) → whole_in all s ≡ whole_in tables s → KnowsStarts section tables s → KnowsStarts section all s
@@ -98,13 +134,13 @@ module _ (section : List ℕ) (reads : List JoinedTable) (tables : List (List De
   }
 
 pub known_pushed : (section : List ℕ) (reads new : List JoinedTable) (offset : ℕ) (r : JoinedTable) → new ≡ reads ++ r ∷ [] → AreReadTables section reads (whole_tables reads)
-    → IsJoined section reads (whole_tables reads) offset r → AreReadTables section new (whole_tables new)
-known_pushed section reads new offset r is known joins =
+    → IsJoined section reads (whole_tables reads) offset r → r.first ≡ length (all_pairs reads) → AreReadTables section new (whole_tables new)
+known_pushed section reads new offset r is known joins first =
     subst (λ (w : List JoinedTable). AreReadTables section w (whole_tables w)) (sym is)
-    (subst (AreReadTables section (reads ++ r ∷ [])) (sym (tables_push reads (reads ++ r ∷ []) r refl)) (known_more section reads (whole_tables reads) offset r known joins (tables_length reads)))
+    (subst (AreReadTables section (reads ++ r ∷ [])) (sym (tables_push reads (reads ++ r ∷ []) r refl)) (known_more section reads (whole_tables reads) offset r known joins first (tables_length reads)))
 
 pub reads_grow : (section : List ℕ) (reads new : List JoinedTable) (r : JoinedTable) → new ≡ reads ++ r ∷ [] → Grows (read_from section reads) (read_from section new)
-reads_grow section reads new r is = record { section = refl; others = whole_in (whole_tables reads) r ∷ []; tables = tables_push reads new r is }
+reads_grow section reads new r is = record { section = refl; others = whole_in (whole_tables reads) r ∷ []; tables = tables_push reads new r is; more = each_pairs r.table; decls = pairs_push reads new r is }
 
 -- the table that was added has its number
 pub last_read : (section : List ℕ) (reads new : List JoinedTable) (offset : ℕ) (r : JoinedTable) (t : Tail) → new ≡ reads ++ r ∷ [] → t.base ≡ length reads → t.skip ≡ 0

@@ -8,7 +8,7 @@ use Rattle.std.specs.Prelude.{slice_get, slice_index_or}
 use Rattle.dwz_def_reading.specs.Abbrevs.{Declaration, find_decl}
 use Rattle.dwz_def_reading.proofs.FindLemmas.{found_behind, still_found}
 use Rattle.dwz_def_reading.proofs.ListFacts.{same_got}
-use Rattle.dwz_unit.specs.declared.joined.JoinedTable.{JoinedTable}
+use Rattle.dwz_unit.specs.declared.joined_table.JoinedTable.{JoinedTable}
 use Rattle.dwz_unit.specs.declared.tail.Tail.{Tail}
 use Rattle.dwz_unit.specs.Tails.{AreLinked, StartsIn, end_in, tail_in, whole_in}
 

@@ -1,5 +1,5 @@
 -- The values of an entry, read one after the other.
-use Rattle.std.proofs.Common.{◌≡◌, ℕ, suc, ◌+◌, ◌<◌, List, [], ◌∷◌, drop, get_or, length, Some, slice_get, Ok, sym, ap, subst, ◌∙◌, arith, refl, zero}
+use Rattle.std.proofs.Common.{◌≡◌, ℕ, suc, ◌+◌, ◌<◌, List, [], ◌∷◌, drop, get_or, length, Some, slice_get, Ok, sym, ap, ◌∙◌, arith, refl, zero}
 use Rattle.dwz_bytes.specs.Input.{Input}
 use Rattle.dwz_bytes.specs.Reading.{◌>>=◌}
 use Rattle.dwz_def_reading.specs.Entries.{RawAttr, attrs_at, in_entry, with_value}
@@ -7,18 +7,8 @@ use Rattle.dwz_def_reading.specs.Values.{Raw, value_at, written_rows}
 use Rattle.dwz_def_reading.proofs.PartLemmas.{bind_ok, same_value}
 use Rattle.dwz_def_reading.proofs.ListFacts.{drop_pairs}
 use Rattle.dwz_model.specs.declared.place.Pair.{Pair}
-use Rattle.dwz_unit.specs.Rows.{EntryRow, Source, rows_of, units_of}
 use Rattle.dwz_unit.specs.Values.{Reads}
 use Rattle.dwz_unit.proofs.FrontLemmas.{attrs_count, in_entry_ok}
-
--- of the row that is found
-pub reads_row : (source : Source) (i at : ℕ) (pairs : List Pair) (mid j : Input) (row other : EntryRow) → slice_get (rows_of (units_of source)) i ≡ Some row
-    → slice_get (rows_of (units_of source)) i ≡ Some other → at ≡ row.entry.at
-    → attrs_at written_rows at pairs mid ≡ Ok (row.entry.attrs, j) → Reads other.entry.at pairs mid other.entry.attrs
-reads_row source i at pairs mid j row other is found same read =
-    let both : Some row ≡ Some other = sym is ∙ found in
-    let one : row ≡ other = cc in
-    subst (λ (r : EntryRow). Reads r.entry.at pairs mid r.entry.attrs) one (record { behind = j; read = ap (λ (n : ℕ). attrs_at written_rows n pairs mid) (sym same) ∙ read })
 
 -- the next value, and those behind it
 pub record Next (entry : ℕ) (pairs : List Pair) (k : ℕ) (pair : Pair) (at : Input) (attrs : List RawAttr) : Type 0 where

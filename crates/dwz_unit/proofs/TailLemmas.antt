@@ -6,6 +6,7 @@ use Rattle.std.specs.Prelude.{All}
 use Rattle.std.specs.BTreeMap.{BTreeMap}
 use Rattle.dwz_def_reading.specs.Abbrevs.{Declaration, table_at}
 use Rattle.dwz_def_reading.proofs.ListFacts.{get_last, got_map}
+use Rattle.dwz_model.specs.declared.place.Pair.{Pair}
 use Rattle.dwz_unit.specs.declared.tail.Tail.{Tail}
 use Rattle.dwz_unit.specs.Tables.{Grows, HasTable, Stored}
 use Rattle.dwz_def_reading.specs.Faults.{Fails}
@@ -53,6 +54,8 @@ stored_grown old new tails all more grows within is = record {
       ap (map (tail_in new.tables)) is
       ∙ map-append (tail_in new.tables) tails more
       ∙ ap (λ (w : List (List Declaration)). w ++ map (tail_in new.tables) more) (ends_kept old new tails grows within);
+  more = grows.more;
+  decls = grows.decls;
 }
 
 pub last_number : (s : Stored) (tails all : List Tail) (offset number : ℕ) (t : Tail) → HasTail s offset t → all ≡ tails ++ t ∷ [] → number ≡ length tails → HasTable (stored s all) offset number
@@ -72,13 +75,15 @@ tables_kept old new tails all numbers are grows is = record {
 -- ---- tables that are read ahead
 
 pub grows_none : (s : Stored) → Grows s s
-grows_none s = record { section = refl; others = []; tables = sym (append-nil s.tables) }
+grows_none s = record { section = refl; others = []; tables = sym (append-nil s.tables); more = []; decls = sym (append-nil s.decls) }
 
 pub grows_both : (a b c : Stored) → Grows a b → Grows b c → Grows a c
 grows_both a b c first second = record {
   section = second.section ∙ first.section;
   others = first.others ++ second.others;
   tables = second.tables ∙ ap (λ (w : List (List Declaration)). w ++ second.others) first.tables ∙ append_assoc a.tables first.others second.others;
+  more = first.more ++ second.more;
+  decls = second.decls ∙ ap (λ (w : List (List Pair)). w ++ second.more) first.decls ∙ append_assoc a.decls first.more second.more;
 }
 
 answers_before : (a b c : Stored) (offset : ℕ) (r : Result Tail ReadErr) → Grows a b → AnswersTail b c offset r → AnswersTail a c offset r

@@ -5,8 +5,9 @@ use Rattle.std.specs.BTreeMap.{BTreeMap, get}
 use Rattle.dwz_def_reading.specs.Abbrevs.{Declaration, find_decl, table_at}
 use Rattle.dwz_def_reading.specs.Faults.{Fails}
 use Rattle.dwz_model.specs.declared.fault.ReadErr.{ReadErr}
-use Rattle.dwz_unit.specs.declared.joined.JoinedTable.{JoinedTable}
+use Rattle.dwz_unit.specs.declared.joined_table.JoinedTable.{JoinedTable}
 use Rattle.dwz_unit.specs.declared.tail.Tail.{Tail}
+use Rattle.dwz_unit.specs.Found.{StandsIn, all_pairs}
 use Rattle.dwz_unit.specs.Numbers.{AreNumbers}
 use Rattle.dwz_unit.specs.Tables.{Grows, Stored}
 
@@ -45,7 +46,7 @@ whole_tables reads = tables_behind [] reads
 
 -- the same, of a section
 abbrev pub read_from : List ℕ → List JoinedTable → Stored
-read_from section reads = record { section = section; tables = whole_tables reads }
+read_from section reads = record { section = section; tables = whole_tables reads; decls = all_pairs reads }
 
 -- the end of a table begins no later than behind its own declarations
 pub record StartsIn (reads : List JoinedTable) (t : Tail) : Type 0 where
@@ -58,6 +59,7 @@ pub record IsLinked (reads : List JoinedTable) (tables : List (List Declaration)
   pub whole : slice_get tables number ≡ Some (whole_in tables r)
   pub before : (t : Tail) → r.next ≡ Some t → t.base < number
   pub next : (t : Tail) → r.next ≡ Some t → StartsIn reads t
+  pub stands : StandsIn (all_pairs reads) r
 
 abbrev pub AreLinked : List JoinedTable → List (List Declaration) → Type 0
 AreLinked reads tables = (number : ℕ) (r : JoinedTable) → slice_get reads number ≡ Some r → IsLinked reads tables number r
@@ -92,10 +94,11 @@ pub record BeginsAt (reads : List JoinedTable) (offset : ℕ) (t : Tail) : Type 
 abbrev pub AreTails : Stored → BTreeMap ℕ Tail → Type 0
 AreTails s tails = (offset : ℕ) (t : Tail) → get nat_cmp tails offset ≡ Some t → HasTail s offset t
 
--- tables of a section that were read, and the ends of them that were asked for
-pub record AreJoinedTables (section : List ℕ) (reads : List JoinedTable) (tails : BTreeMap ℕ Tail) : Type 0 where
+-- tables of a section that were read, the ends of them that were asked for, and how many declarations there are
+pub record AreJoinedTables (section : List ℕ) (reads : List JoinedTable) (tails : BTreeMap ℕ Tail) (count : ℕ) : Type 0 where
   pub known : AreReadTables section reads (whole_tables reads)
   pub asked : AreTails (read_from section reads) tails
+  pub counted : count ≡ length (all_pairs reads)
 
 -- ---- tables by their offsets
 
@@ -110,7 +113,7 @@ pub record FindsTail (old new : Stored) (offset : ℕ) (result : Result Tail Rea
 
 -- the tables that are these ends of others
 abbrev pub stored : Stored → List Tail → Stored
-stored joined tails = record { section = joined.section; tables = map (tail_in joined.tables) tails }
+stored joined tails = record { section = joined.section; tables = map (tail_in joined.tables) tails; decls = joined.decls }
 
 -- each is the end of a table that is there, and each offset leads to the number of its table
 pub record AreTables (joined : Stored) (tails : List Tail) (numbers : BTreeMap ℕ ℕ) : Type 0 where

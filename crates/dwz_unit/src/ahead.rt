@@ -45,6 +45,7 @@ fn offsets_in(alloc: Global, info: &[u8]) -> Result<Vec<u32>, NoMemory> {
 }
 
 // Reads the tables at these offsets, up to the first that isn't one, and tells whether all are tables.
+#[tactic(auto, using(crate::proofs::TailLemmas::grows_none))]
 fn read_all(alloc: Global, offsets: &[u32], joined: &mut JoinedTables) -> Result<bool, NoMemory>
     ensures { Grows joined.old joined.new }
 {
@@ -91,6 +92,7 @@ impl Ahead {
     }
 
     // Reads tables ahead, from the first that isn't known on.
+    #[tactic(auto, using(crate::proofs::TailLemmas::grows_none))]
     fn read_ahead(&mut self, alloc: Global, joined: &mut JoinedTables) -> Result<(), NoMemory>
         ensures { Grows joined.old joined.new }
     {

@@ -1,6 +1,7 @@
 //! The front of an entry: its code and its values.
 
 ghost use Rattle.std.specs.Prelude.{◌≡◌, ◌+◌, ◌<◌, ◌^◌, All, length, slice_get, IfOk, IsOk, Ok, Some};
+ghost use Rattle.std.specs.Option.{option_map};
 ghost use Rattle.dwz_bytes.specs.Reading.{uleb_at};
 ghost use Rattle.dwz_def_reading.specs.Abbrevs.{IsPlainPair};
 ghost use Rattle.dwz_def_reading.specs.Entries.{attrs_at, code_or_fault};
@@ -8,8 +9,8 @@ ghost use Rattle.dwz_def_reading.specs.Parts.{Leaves};
 ghost use Rattle.dwz_def_reading.specs.Values.{HasSpelling, value_at, written_rows};
 ghost use Rattle.dwz_forms.specs.FormSets.{rows_of};
 ghost use Rattle.dwz_forms.specs.RawValues.{raw_view};
-ghost use Rattle.dwz_unit.specs.Contexts.{context_view};
-ghost use Rattle.dwz_unit.specs.Fronts.{attrs_passed, front_passed, value_passed};
+ghost use Rattle.dwz_unit.specs.Contexts.{context_view, decls_of};
+ghost use Rattle.dwz_unit.specs.Fronts.{attrs_passed, front_passed, front_view, value_passed};
 ghost use Rattle.dwz_unit.specs.Rows.{attr_view};
 
 use crate::context::Context;
@@ -30,8 +31,8 @@ pub(crate) struct Front {
     pub tag: u16,
     /// Whether a list of children follows.
     pub children: bool,
-    /// How many values it has.
-    pub attrs: u32,
+    /// The number of its declaration.
+    pub decl: u32,
 }
 
 // Passes over a value of an entry, whose form is one of the set.
@@ -81,7 +82,7 @@ pub(crate) fn pass_front(
     depth: u32,
     cursor: &mut Cursor,
 ) -> Result<Option<Front>, Fault>
-    ensures { Leaves (λ x. x) cursor.new result (front_passed (context_view context.now) (record { before = before; depth = depth })
+    ensures { Leaves (option_map (front_view (decls_of context.now))) cursor.new result (front_passed (context_view context.now) (record { before = before; depth = depth })
         cursor.old) }
 {
     let at = cursor.at();
@@ -92,9 +93,10 @@ pub(crate) fn pass_front(
         }
         return Ok(None);
     }
-    let Some(decl) = context.table.decl(code) else {
+    let Some(found) = context.table.find(code) else {
         return Err(info_fault(at, Reason::NoSuchCode));
     };
+    let decl = found.decl;
     if depth == 1 && decl.tag != context.root_tag {
         return Err(info_fault(at, Reason::BadRoot));
     }
@@ -111,7 +113,7 @@ pub(crate) fn pass_front(
         at,
         tag: decl.tag,
         children: decl.children,
-        attrs: pairs.len() as u32,
+        decl: found.number,
     }))
 }
 

@@ -1,16 +1,18 @@
 //! Abbreviation tables that were read, and the ends of them that are others.
 
-ghost use Rattle.std.specs.Prelude.{◌≡◌, ◌<◌, [], IfSome, drop, length};
-ghost use Rattle.std.specs.Option.{option_copied, option_map};
+ghost use Rattle.std.specs.Prelude.{◌≡◌, ◌<◌, ◌++◌, [], IfOk, IfSome, OnOk, drop, length};
 ghost use Rattle.dwz_def_reading.specs.Abbrevs.{find_decl};
-ghost use Rattle.dwz_abbrev.specs.Views.{decl_view};
+ghost use Rattle.dwz_abbrev.specs.Views.{views};
+ghost use Rattle.dwz_unit.specs.Found.{Finds, StandsIn, each_pairs};
 ghost use Rattle.dwz_unit.specs.Tails.{FindsFirst, FindsTail, HasTail, tail_in};
 
-use crate::joined::{JoinedTable, decl_past, tail_among};
+use crate::joined::{find_past, tail_among};
+use crate::joined_table::JoinedTable;
 use crate::joins::{close_before, read_joined};
+use crate::numbered::Numbered;
 use crate::tail::Tail;
-use dwz_abbrev::{Decl, Table};
-use dwz_model::ReadErr;
+use dwz_abbrev::Decl;
+use dwz_model::{NoMemory, Pairs, ReadErr};
 use std::alloc::Global;
 use std::collections::BTreeMap;
 use std::marker::Model;
@@ -25,6 +27,18 @@ pub(crate) struct JoinedTables<'a> {
     open: Vec<usize>,
     // The end of a table that begins at an offset.
     tails: BTreeMap<u32, Tail>,
+    // How many declarations they have.
+    count: u32,
+}
+
+// Appends the names and forms of each declaration.
+fn put_pairs(decls: Vec<Decl>, all: &mut Vec<Pairs>) -> Result<(), NoMemory>
+    ensures { OnOk result (all.new.items ≡ all.old.items ++ each_pairs (views decls.items)) }
+{
+    for decl in decls {
+        all.push(decl.pairs)?;
+    }
+    Ok(())
 }
 
 impl<'a> Model for JoinedTables<'a> {
@@ -36,19 +50,20 @@ impl<'a> Model for JoinedTables<'a> {
 
     ghost view = { λ b. read_from b.section.now b.reads.items };
 
-    ghost invariant = { λ b. AreJoinedTables b.section.now b.reads.items b.tails };
+    ghost invariant = { λ b. AreJoinedTables b.section.now b.reads.items b.tails b.count };
 }
 
 impl<'a> JoinedTables<'a> {
     /// No table of the section yet.
     pub fn new(alloc: Global, section: &'a [u8]) -> JoinedTables<'a>
-        ensures { result ≡ record { section = section.now; tables = [] } }
+        ensures { result ≡ record { section = section.now; tables = []; decls = [] } }
     {
         JoinedTables {
             section,
             reads: Vec::new(alloc),
             open: Vec::new(alloc),
             tails: BTreeMap::new(alloc),
+            count: 0,
         }
     }
 
@@ -60,6 +75,7 @@ impl<'a> JoinedTables<'a> {
     }
 
     // The same, where it wasn't asked for before: the end of an open one, or else it is read.
+    #[tactic(auto, using(crate::proofs::TailLemmas::grows_none))]
     fn new_tail(&mut self, alloc: Global, offset: u32) -> Result<Tail, ReadErr>
         ensures { FindsTail self.old self.new offset result }
     {
@@ -68,15 +84,18 @@ impl<'a> JoinedTables<'a> {
         if let Some(tail) = tail_among(reads, open, offset as usize) {
             return Ok(tail);
         }
-        let read = read_joined(alloc, self.section, offset, reads, open)?;
+        let read = read_joined(alloc, self.section, offset, reads, open, self.count)?;
         let base = self.reads.len();
+        let count = self.count + read.table.len() as u32;
         self.reads.push(read)?;
+        self.count = count;
         self.open.push(base)?;
         Ok(Tail { base, skip: 0 })
     }
 
     /// The table at an offset of the section, as the end of one of these. It is read if none is known to have such an end. Least
     /// memory is taken where offsets ascend.
+    #[tactic(auto, using(crate::proofs::TailLemmas::grows_none))]
     pub fn tail_at(&mut self, alloc: Global, offset: u32) -> Result<Tail, ReadErr>
         ensures { FindsTail self.old self.new offset result }
     {
@@ -89,25 +108,38 @@ impl<'a> JoinedTables<'a> {
         Ok(tail)
     }
 
-    /// The own declarations of the table of which that is an end. Those that aren't passed over are found first in the end.
+    /// The table of which that is an end. Its own declarations that aren't passed over are found first in the end.
     #[inline(always)]
-    pub fn own(&self, tail: Tail) -> &Table
+    pub fn own(&self, tail: Tail) -> &JoinedTable
         requires { tail.base < length self.now.tables }
-        ensures { FindsFirst (drop tail.skip result.now) (tail_in self.now.tables tail) }
+        ensures first { FindsFirst (drop tail.skip result.now.table) (tail_in self.now.tables tail) }
+        ensures stands { StandsIn self.now.decls result.now }
     {
-        &self.reads[tail.base].table
+        &self.reads[tail.base]
     }
 
     /// The declaration with a code of the end of one of these tables. None exactly where it has none.
     #[inline(never)]
-    pub fn decl(&self, tail: Tail, code: u64) -> Option<&Decl>
-        ensures { option_map decl_view (option_copied result) ≡ find_decl (tail_in self.now.tables tail) code }
+    pub fn find(&self, tail: Tail, code: u64) -> Option<Numbered<'_>>
+        ensures { Finds self.now.decls (find_decl (tail_in self.now.tables tail) code) result }
     {
         let read = self.reads.get(tail.base)?;
-        if let Some(decl) = read.table.decl_behind(tail.skip, code) {
-            return Some(decl);
+        if let Some(found) = read.own(tail.skip, code) {
+            return Some(found);
         }
         let past = tail.skip.saturating_sub(read.table.len());
-        decl_past(self.reads.as_slice(), read.next?, past, code)
+        find_past(self.reads.as_slice(), read.next?, past, code)
+    }
+
+    /// The names and forms of all declarations, by their numbers.
+    pub fn into_pairs(self, alloc: Global) -> Result<Vec<Pairs>, NoMemory>
+        ensures { IfOk result (λ all. all.items ≡ self.entry.decls) }
+    {
+        let JoinedTables { reads, .. } = self;
+        let mut all = Vec::new(alloc);
+        for read in reads {
+            put_pairs(read.table.into_decls(), &mut all)?;
+        }
+        Ok(all)
     }
 }

@@ -1,8 +1,8 @@
-//! Which files are read, and how much of them.
+//! What kinds of files there are, and how much is read of one.
 
 ghost use Rattle.std.specs.Prelude.{◌<◌, ◌^◌};
 
-/// Which files are read.
+/// A file's kind: it decides which units may stand in it, and which forms are read of them.
 #[derive(Clone, Copy)]
 pub enum FileKind {
     /// A file by itself: no unit is partial, and no form leads to a supplementary file.

@@ -1,6 +1,6 @@
 use Rattle.dwz_def_reading.proofs.EndLemmas.{rows_end}
 use Rattle.dwz_def_reading.proofs.NamedAgain.{names_again, none_again}
-use Rattle.dwz_def_reading.proofs.PatchedListLemmas.{list_operands, list_parts, list_stands, slot_stays}
+use Rattle.dwz_def_reading.proofs.PatchedListLemmas.{list_addresses, list_operands, list_parts, list_stands, slot_stays}
 use Rattle.dwz_def_reading.proofs.WriteOver.{rows_patched}
 use Rattle.dwz_def_reading.proofs.patched_lists.patched_list_laws.Goals as goal
 
@@ -12,6 +12,9 @@ returns-clause-parts g number c section place l s = list_parts number c place s.
 
 pub returns-clause-operands : goal.returns-clause-operands
 returns-clause-operands g number l = list_operands number l.exprs
+
+pub returns-clause-addresses : goal.returns-clause-addresses
+returns-clause-addresses g number l = list_addresses number l.exprs
 
 pub returns-clause-slots : goal.returns-clause-slots
 returns-clause-slots g = slot_stays

@@ -1,5 +1,4 @@
 use Rattle.dwz_def_tops.proofs.IntoLemmas.{targets_find, targets_found}
-use Rattle.dwz_def_tops.proofs.AddressLemmas.{address_tells}
 use Rattle.dwz_def_tops.proofs.AlikeBound.{bound_decides, movable_decides}
 use Rattle.dwz_def_tops.proofs.AlikeLaws.{alike_decides, alike_joins, alike_self, alike_turns, every_look, look_tells}
 use Rattle.dwz_def_tops.proofs.alike.alike_laws.Goals as goal
@@ -21,9 +20,6 @@ returns-clause-decides c = alike_decides
 
 pub returns-clause-equal : goal.returns-clause-equal
 returns-clause-equal c units = (alike_self units, alike_turns units, alike_joins units)
-
-pub returns-clause-address : goal.returns-clause-address
-returns-clause-address c = address_tells
 
 pub returns-clause-targets : goal.returns-clause-targets
 returns-clause-targets c t n = (targets_find n t, targets_found n t)

@@ -5,5 +5,5 @@ use Rattle.dwz_graph.proofs.FileSteps.{past_all, plain_number}
 use Rattle.dwz_graph.proofs.files.has_path.Goals as goal
 
 pub returns-then-number : goal.returns-then-number
-returns-then-number c = c.is_some.ensures ∙ past_all c.args.table.now c.args.number (λ p. p.now) c.path.result
-    (plain_number c.args.number _ (to_z-of_z w128 c.args.number c.ranges.number) c.if-number.true) c.path.ensures.many c.path.ensures.path
+returns-then-number c = past_all c.args.table.now c.args.number c.has_path.result
+    (plain_number c.args.number _ (to_z-of_z w128 c.args.number c.ranges.number) c.if-number.true) c.has_path.ensures.many c.has_path.ensures.path

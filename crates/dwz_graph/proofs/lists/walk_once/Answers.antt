@@ -1,15 +1,13 @@
-use Rattle.std.proofs.Common.{refl}
 use Rattle.dwz_unit.specs.Rows.{units_of}
 use Rattle.dwz_graph.specs.Resolved.{scope_in}
 use Rattle.dwz_graph.proofs.ListStates.{state_again}
 use Rattle.dwz_graph.proofs.lists.walk_once.Goals as goal
 
-pub returns-then-was_seen-clause-goes : goal.returns-then-was_seen-clause-goes
-returns-then-was_seen-clause-goes c = λ u before here k. (
+pub returns-then-was_read-clause-goes : goal.returns-then-was_read-clause-goes
+returns-then-was_read-clause-goes c = λ u before here k. (
     let raw = units_of c.args.units.now in
     let s = scope_in c.args.sections.now raw u in
-    let r = k.seen c.args.place c.args.here.now.number (c.was_seen.ensures c.if-was_seen.true) in
-    state_again raw s c.args.here.now.number before c.args.place c.args.state.now (r.1 refl) k)
+    state_again raw s c.args.here.now.number before c.args.place c.args.state.now (c.was_read.ensures c.if-was_read.true) k)
 
 pub returns-clause-goes : goal.returns-clause-goes
 returns-clause-goes c = λ u before here k. c.walk.ensures.goes u before here k

@@ -23,7 +23,7 @@ returns-in_err-add_units-clause-answers c =
     let a = around c.args.sections.now raw in
     let n = c.new-state.ensures in
     rw (p.1, p.2) (said_fail a raw c.args.sections.now.aranges.now c.in_err-add_units.field-0.0
-    (c.in_err-add_units.ensures.goes (none_behind raw a c.new-state.result n.rows n.operands n.slots n.seen (n.tables a.sources))))
+    (c.in_err-add_units.ensures.goes (none_behind raw a c.new-state.result n.rows n.operands n.slots n.marks (n.tables a.sources))))
 
 pub returns-in_err-check_ranges-clause-answers : goal.returns-in_err-check_ranges-clause-answers
 returns-in_err-check_ranges-clause-answers c =
@@ -31,7 +31,7 @@ returns-in_err-check_ranges-clause-answers c =
     let raw = units_of c.args.units.now in
     let a = around c.args.sections.now raw in
     let n = c.new-state.ensures in
-    let added = c.in_ok-add_units.ensures.goes (none_behind raw a c.new-state.result n.rows n.operands n.slots n.seen (n.tables a.sources)) in
+    let added = c.in_ok-add_units.ensures.goes (none_behind raw a c.new-state.result n.rows n.operands n.slots n.marks (n.tables a.sources)) in
     rw (p.1, p.2) (sets_fail a raw c.args.sections.now.aranges.now (map (place_at raw) added.more) added.lists c.in_err-check_ranges.field-0.0 added.is c.in_err-check_ranges.ensures)
 
 pub unshared_operands-requires : goal.unshared_operands-requires
@@ -39,7 +39,7 @@ unshared_operands-requires c =
     let raw = units_of c.args.units.now in
     let a = around c.args.sections.now raw in
     let n = c.new-state.ensures in
-    let added = c.in_ok-add_units.ensures.goes (none_behind raw a c.new-state.result n.rows n.operands n.slots n.seen (n.tables a.sources)) in
+    let added = c.in_ok-add_units.ensures.goes (none_behind raw a c.new-state.result n.rows n.operands n.slots n.marks (n.tables a.sources)) in
     added.keeps.shows.within
 
 pub returns-in_err-operands-clause-answers : goal.returns-in_err-operands-clause-answers
@@ -48,7 +48,7 @@ returns-in_err-operands-clause-answers c =
     let raw = units_of c.args.units.now in
     let a = around c.args.sections.now raw in
     let n = c.new-state.ensures in
-    let added = c.in_ok-add_units.ensures.goes (none_behind raw a c.new-state.result n.rows n.operands n.slots n.seen (n.tables a.sources)) in
+    let added = c.in_ok-add_units.ensures.goes (none_behind raw a c.new-state.result n.rows n.operands n.slots n.marks (n.tables a.sources)) in
     rw (p.1, p.2) (lists_fail a raw c.args.sections.now.aranges.now (map (place_at raw) added.more) added.lists c.in_err-operands.field-0.0 added.is c.in_ok-check_ranges.ensures
     (c.in_err-operands.ensures.err raw c.add_units.new.state.file added.lists added.keeps.shows (starts_distinct c.args.units.now)))
 
@@ -57,7 +57,7 @@ returns-clause-within c =
     let raw = units_of c.args.units.now in
     let a = around c.args.sections.now raw in
     let n = c.new-state.ensures in
-    let added = c.in_ok-add_units.ensures.goes (none_behind raw a c.new-state.result n.rows n.operands n.slots n.seen (n.tables a.sources)) in
+    let added = c.in_ok-add_units.ensures.goes (none_behind raw a c.new-state.result n.rows n.operands n.slots n.marks (n.tables a.sources)) in
     let same = added.refs ∙ ap (λ (w : List ℕ). w ++ added.more) n.refs in
     subst (λ (w : List ℕ). AreEntries raw w) (sym same) added.within
 
@@ -66,7 +66,7 @@ returns-clause-operands c =
     let raw = units_of c.args.units.now in
     let a = around c.args.sections.now raw in
     let n = c.new-state.ensures in
-    let added = c.in_ok-add_units.ensures.goes (none_behind raw a c.new-state.result n.rows n.operands n.slots n.seen (n.tables a.sources)) in
+    let added = c.in_ok-add_units.ensures.goes (none_behind raw a c.new-state.result n.rows n.operands n.slots n.marks (n.tables a.sources)) in
     let un = c.in_ok-operands.ensures.ok raw c.add_units.new.state.file added.lists added.keeps.shows (starts_distinct c.args.units.now) in
     subst (λ (ls : List NamedList). AreRows ls (map (operand_view raw) c.in_ok-operands.operands.items)) (sym (lists_said a raw (map (place_at raw) added.more) added.lists added.is)) un.1
 
@@ -75,7 +75,7 @@ returns-clause-answers c =
     let raw = units_of c.args.units.now in
     let a = around c.args.sections.now raw in
     let n = c.new-state.ensures in
-    let added = c.in_ok-add_units.ensures.goes (none_behind raw a c.new-state.result n.rows n.operands n.slots n.seen (n.tables a.sources)) in
+    let added = c.in_ok-add_units.ensures.goes (none_behind raw a c.new-state.result n.rows n.operands n.slots n.marks (n.tables a.sources)) in
     let un = c.in_ok-operands.ensures.ok raw c.add_units.new.state.file added.lists added.keeps.shows (starts_distinct c.args.units.now) in
     let same = added.refs ∙ ap (λ (w : List ℕ). w ++ added.more) n.refs in
     all_said a raw c.args.sections.now.aranges.now (map (place_at raw) added.more) added.lists added.is c.in_ok-check_ranges.ensures un.0 ∙ ap (λ (w : List ℕ). Ok (map (place_at raw) w)) (sym same)
@@ -85,7 +85,7 @@ returns-clause-starts c =
     let raw = units_of c.args.units.now in
     let a = around c.args.sections.now raw in
     let n = c.new-state.ensures in
-    let none = none_behind raw a c.new-state.result n.rows n.operands n.slots n.seen (n.tables a.sources) in
+    let none = none_behind raw a c.new-state.result n.rows n.operands n.slots n.marks (n.tables a.sources) in
     let added = c.in_ok-add_units.ensures.goes none in
     let few = refs_few c.args.units.now c.requires a (found (map (place_at raw) added.more) added.lists) added.is in
     let many = length-map added.more (place_at raw) in
@@ -101,7 +101,7 @@ returns-clause-lines c =
     let raw = units_of c.args.units.now in
     let a = around c.args.sections.now raw in
     let n = c.new-state.ensures in
-    let none = none_behind raw a c.new-state.result n.rows n.operands n.slots n.seen (n.tables a.sources) in
+    let none = none_behind raw a c.new-state.result n.rows n.operands n.slots n.marks (n.tables a.sources) in
     let added = c.in_ok-add_units.ensures.goes none in
     have_lines a raw (length raw) c.add_units.new.state.files c.add_units.new.parts.lines.items added.keeps.tables
     ((c.in_ok-add_units.ensures.parts none (none_parted c.args.sections.now raw c.new-state.result c.in_ok-parts.parts n.refs c.in_ok-parts.ensures.starts c.in_ok-parts.ensures.lines)).lines)
@@ -111,6 +111,6 @@ returns-clause-of_file c =
     let raw = units_of c.args.units.now in
     let a = around c.args.sections.now raw in
     let n = c.new-state.ensures in
-    let added = c.in_ok-add_units.ensures.goes (none_behind raw a c.new-state.result n.rows n.operands n.slots n.seen (n.tables a.sources)) in
+    let added = c.in_ok-add_units.ensures.goes (none_behind raw a c.new-state.result n.rows n.operands n.slots n.marks (n.tables a.sources)) in
     subst (λ (f : ℕ). AreOfFile raw f c.in_ok-operands.operands.items) (c.in_ok-add_units.ensures.file ∙ n.file)
     (c.in_ok-operands.ensures.ok raw c.add_units.new.state.file added.lists added.keeps.shows (starts_distinct c.args.units.now)).2

@@ -1,4 +1,4 @@
-use Rattle.std.proofs.Common.{List, ◌+◌, get_or, map, subst, sym}
+use Rattle.std.proofs.Common.{List, false, ◌+◌, get_or, map, subst, sym}
 use Rattle.std.proofs.lemmas.Option.{slice_get-get_or}
 use Rattle.dwz_graph.specs.declared.lists.ListRow.{ListRow}
 use Rattle.dwz_graph.specs.declared.operands.ListOperand.{ListOperand}
@@ -9,7 +9,7 @@ use Rattle.dwz_graph.proofs.shared.first_shared.Goals as goal
 
 -- where there is none
 abbrev no_list : ListRow
-no_list = record { from = 0; end = 0; first = 0; last = 0 }
+no_list = record { from = 0; end = 0; first = 0; last = 0; unit = 0; plain = false }
 
 pub loop-row-init : goal.loop-row-init
 loop-row-init c = λ xs top rows own clash. tested_start (row_test c.args.lists.now.operands.items) xs c.args.kept.now c.args.clash c.deref-row-items.result.now clash

@@ -3,14 +3,14 @@ use Rattle.std.proofs.lemmas.List.{reverse-append}
 use Rattle.dwz_nodes.specs.Graph.{Node}
 use Rattle.dwz_nodes_chains.specs.LeastWays.{target_at}
 use Rattle.dwz_nodes_chains.specs.Course.{IsLastPart, pair_at}
-use Rattle.dwz_nodes_chains.specs.declared.pairs.Pair.{Pair}
+use Rattle.dwz_nodes_chains.specs.declared.pairs.NodePair.{NodePair}
 use Rattle.dwz_nodes_chains.proofs.WayLemmas.{last_part, part_back}
 use Rattle.dwz_nodes_chains.proofs.search.apart_at.Goals as goal
 
 pub back-init : goal.back-init
 back-init c =
     let g : List Node = c.args.nodes.now in
-    let pairs : List Pair = c.args.pairs.now in
+    let pairs : List NodePair = c.args.pairs.now in
     let at : ℕ = c.args.at in
     let number : ℕ = c.args.number in
     let f : ℕ = get_or c.targets.result.now number 0 in
@@ -28,10 +28,10 @@ back-init c =
 pub back-preserved : goal.back-preserved
 back-preserved c =
     let g : List Node = c.args.nodes.now in
-    let pairs : List Pair = c.args.pairs.now in
+    let pairs : List NodePair = c.args.pairs.now in
     let row : ℕ = c.back.row in
     let way : List ℕ = c.back.chain.items in
-    let p : Pair = pair_at pairs row in
+    let p : NodePair = pair_at pairs row in
     let f : ℕ = get_or c.targets.result.now c.args.number 0 in
     let s : ℕ = get_or c.targets-2.result.now c.args.number 0 in
     let inside : row < length pairs = c.back.invariant.inside in

@@ -1,6 +1,6 @@
-use Rattle.std.proofs.Common.{List, subst, refl, ◌∙◌}
+use Rattle.std.proofs.Common.{◌+◌, List, subst, refl, ◌∙◌, arith}
 use Rattle.std.proofs.lemmas.Result.{err_from_is_err_and}
-use Rattle.dwz_unit.specs.declared.joined.JoinedTable.{JoinedTable}
+use Rattle.dwz_unit.specs.declared.joined_table.JoinedTable.{JoinedTable}
 use Rattle.dwz_unit.specs.Tables.{Grows, Stored}
 use Rattle.dwz_unit.specs.Tails.{HasTail, IsJoined, read_from, whole_tables}
 use Rattle.dwz_unit.proofs.AddedLemmas.{bases_pushed, begins_given}
@@ -12,14 +12,14 @@ pub returns-in-Some : goal.returns-in-Some
 returns-in-Some c = record {
   grows = grows_none c.args.self.now;
   answers = subst (λ (s : Stored). HasTail s c.args.offset c.in-Some.tail) c.self.view_is
-      (begins_given c.self.inside.section.now c.self.inside.reads.items c.as_slice-reads.result.now c.self.inside.tails c.args.offset c.in-Some.tail c.self.invariant c.as_slice-reads.ensures.value
+      (begins_given c.self.inside.section.now c.self.inside.reads.items c.as_slice-reads.result.now c.self.inside.tails c.args.offset c.self.inside.count c.in-Some.tail c.self.invariant c.as_slice-reads.ensures.value
       c.in-Some.ensures);
 }
 
 pub invariant_of-self-in_err-push-2 : goal.invariant_of-self-in_err-push-2
 invariant_of-self-in_err-push-2 c =
-    bases_pushed c.self.inside.section.now c.self.inside.reads.items c.as_slice-reads.result.now c.push.new.self.items c.self.inside.tails c.args.offset c.in_ok-read.read c.self.invariant
-    c.as_slice-reads.ensures.value c.in_ok-read.ensures c.in_ok-push.ensures.items
+    bases_pushed c.self.inside.section.now c.self.inside.reads.items c.as_slice-reads.result.now c.push.new.self.items c.self.inside.tails c.args.offset c.self.inside.count (c.self.inside.count + c.len.result) c.in_ok-read.read c.self.invariant
+    c.as_slice-reads.ensures.value c.in_ok-read.ensures.read c.in_ok-read.ensures.first (omega (arith, c.len.ensures.len)) c.in_ok-push.ensures.items
 
 pub returns-in_err-push-2 : goal.returns-in_err-push-2
 returns-in_err-push-2 c =
@@ -33,8 +33,8 @@ returns-in_err-push-2 c =
 
 pub invariant_of-self-2 : goal.invariant_of-self-2
 invariant_of-self-2 c =
-    bases_pushed c.self.inside.section.now c.self.inside.reads.items c.as_slice-reads.result.now c.push.new.self.items c.self.inside.tails c.args.offset c.in_ok-read.read c.self.invariant
-    c.as_slice-reads.ensures.value c.in_ok-read.ensures c.in_ok-push.ensures.items
+    bases_pushed c.self.inside.section.now c.self.inside.reads.items c.as_slice-reads.result.now c.push.new.self.items c.self.inside.tails c.args.offset c.self.inside.count (c.self.inside.count + c.len.result) c.in_ok-read.read c.self.invariant
+    c.as_slice-reads.ensures.value c.in_ok-read.ensures.read c.in_ok-read.ensures.first (omega (arith, c.len.ensures.len)) c.in_ok-push.ensures.items
 
 pub returns : goal.returns
 returns c =
@@ -44,5 +44,5 @@ returns c =
       grows = subst (λ (s : Stored). Grows s (read_from section c.push.new.self.items)) c.self.view_is (reads_grow section reads c.push.new.self.items c.in_ok-read.read c.in_ok-push.ensures.items);
       answers = last_read section reads c.push.new.self.items c.args.offset c.in_ok-read.read (record { base = c.len-base.result; skip = 0 }) c.in_ok-push.ensures.items
           (c.len-base.ensures ∙ c.self.inside.reads.ok.0) refl
-          (subst (λ (w : List JoinedTable). IsJoined section w (whole_tables w) c.args.offset c.in_ok-read.read) c.as_slice-reads.ensures.value c.in_ok-read.ensures);
+          (subst (λ (w : List JoinedTable). IsJoined section w (whole_tables w) c.args.offset c.in_ok-read.read) c.as_slice-reads.ensures.value c.in_ok-read.ensures.read);
     }

@@ -7,7 +7,7 @@ use Rattle.dwz_unit.proofs.joined_tables.JoinedTables.tail_at.Goals as goal
 pub invariant_of-self-in_err-insert : goal.invariant_of-self-in_err-insert
 invariant_of-self-in_err-insert c =
     let inside = c.self-2.inside in
-    record { known = c.self-2.invariant.known; asked = tails_kept (read_from inside.section.now inside.reads.items) inside.tails c.insert.new.self c.self-2.invariant.asked c.in_err-insert.ensures.err }
+    record { known = c.self-2.invariant.known; asked = tails_kept (read_from inside.section.now inside.reads.items) inside.tails c.insert.new.self c.self-2.invariant.asked c.in_err-insert.ensures.err; counted = c.self-2.invariant.counted }
 
 pub invariant_of-self-2 : goal.invariant_of-self-2
 invariant_of-self-2 c =
@@ -16,4 +16,5 @@ invariant_of-self-2 c =
     record {
       known = c.self-2.invariant.known;
       asked = tails_added (read_from inside.section.now inside.reads.items) inside.tails c.insert.new.self c.args.offset c.in_ok-tail.tail c.self-2.invariant.asked has c.in_ok-insert.ensures.updates;
+      counted = c.self-2.invariant.counted;
     }

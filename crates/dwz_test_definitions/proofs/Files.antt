@@ -1,5 +1,5 @@
 -- Small documents, each of one file.
-use Rattle.std.proofs.Common.{ℕ, zero, suc, ◌+◌, pos, true, List, [], ◌∷◌, Some}
+use Rattle.std.proofs.Common.{ℕ, zero, suc, ◌+◌, pos, false, true, List, [], ◌∷◌, Some}
 use Rattle.std.specs.Prelude.{codes, replicate}
 use Rattle.dwz_model.specs.declared.place.Base.TheVariants.{Unit as FromUnit}
 use Rattle.dwz_def_reading.specs.Documents.{Attr, Doc, DwUnit, Entries, File, Loc, Node, OfType, Operand, Same, Sec, Text, only, ref}

@@ -1,9 +1,9 @@
 #!/usr/bin/env python3
-"""Compares the program dwz_show_classes with a model of the tool that was written independently.
+"""Compares the program show_classes with a model of the tool that was written independently.
 
-    tools/compare_looks.py MODEL [--sets N] [--changes K] [--first N] [PROGRAM]
+    tools/compare_looks.py MODEL PROGRAM [--sets N] [--changes K] [--first N]
 
-MODEL is the folder of the model: it has dwzref/ (reading files, which tops are alike, and the plan) and
+PROGRAM is what tools/show_classes/run.sh builds. MODEL is the folder of the model: it has dwzref/ (reading files, which tops are alike, and the plan) and
 tests/random_files.py (making them). N sets of one to three random files are read, together and each file by itself, as they
 are and K times more after some bytes of one of them were changed. Where a set is refused, the line has to name the fault. Of each
 top the program's line has to say what the model says: where it stands, its unit, what it weighs (64 or more is one), whether
@@ -77,7 +77,7 @@ def sets_of(random_files, options):
 def main():
     parser = argparse.ArgumentParser(description=__doc__, formatter_class=argparse.RawDescriptionHelpFormatter)
     parser.add_argument("model")
-    parser.add_argument("program", nargs="?", default=os.path.join(os.path.dirname(__file__), "../crates/dwz_show_classes/out/dwz_show_classes"))
+    parser.add_argument("program")
     parser.add_argument("--sets", type=int, default=4000)
     parser.add_argument("--changes", type=int, default=1)
     parser.add_argument("--first", type=int, default=0)

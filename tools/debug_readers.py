@@ -52,9 +52,9 @@ class Dump:
         self.name = name
 
     def says(self, path, of):
-        """Status and warnings, without numbers; what can't be decoded is followed by all that stands behind it."""
+        """Status and warnings, without numbers; what can't be decoded, and readelf's word of a wrong size, are followed by what stands behind them."""
         status, lines = said_by([self.name] + DUMPS[self.name], path)
-        lines = [re.sub("(decoding error).*", r"\1", line) for line in lines if self.warns(line)]
+        lines = [re.sub(r"(decoding error|address size \([0-9a-f]+\) is wrong).*", r"\1", line) for line in lines if self.warns(line)]
         return status, Counter(re.sub("0x[0-9a-f]+|[0-9]+", "N", line) for line in lines)
 
     def warns(self, line):

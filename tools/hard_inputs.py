@@ -1,8 +1,8 @@
 #!/usr/bin/env python3
 """Measures the program on files that are made to be hard: an entry with 40,000 attributes, 4,000 units over the suffixes of one
 abbreviation table (in ascending, descending and random order of offset), units over each byte of a table at which a table is
-spelled, 4,000 units over tables that begin inside one declaration, and 40,000 abbreviations whose shapes have one hash, beside as
-many that haven't. Others ask again and again for what is behind many things: for attributes of a root or of a namespace that come behind
+spelled, 4,000 units over tables that begin inside one declaration, 40,000 abbreviations whose shapes have one hash, beside as
+many that haven't, and 80,000 types whose labels have one hash, beside as many whose labels haven't. Others ask again and again for what is behind many things: for attributes of a root or of a namespace that come behind
 thousands, of many units, or for many tops; for location lists, that are named by many units, or whose suffixes are lists as well; and
 for files of line tables, whose paths are long, or whose rows are those of other tables as well.
 
@@ -26,6 +26,9 @@ COMPILE_UNIT, BASE_TYPE, VARIABLE, NAMESPACE, TYPE_UNIT, FIRST_USER_TAG = 0x11, 
 
 # How a shape is hashed (dwz_layout): from 0 on, for each word the exclusive or with it, times this, of which 64 bits stay.
 STEP, MASK = 0x9E3779B97F4A7C15, (1 << 64) - 1
+
+# How a label is hashed (std's FoldHasher): 16 bytes at a time, by a product. Where the last 8 of them are these, the product is 0.
+FOLDED = struct.pack("<Q", STEP)
 
 
 def uleb(number):
@@ -251,6 +254,15 @@ def many_shapes(count, one_hash):
     return two_units(table, body)
 
 
+def named_types(count, one_hash):
+    """Types with names of one length, each in two units. In each label the name begins at the 9th byte, and its second 8 bytes tell them apart."""
+    body = []
+    for number in range(count):
+        told = bytes(1 + (number >> 7 * place & 127) for place in range(8))
+        body.append(uleb(3) + bytes(8 * [65]) + told + (FOLDED if one_hash else bytes(8 * [66])) + bytes(20 * [67]) + b"\0")
+    return two_units(declaration(3, BASE_TYPE, 0, [(NAME, STRING)]), b"".join(body))
+
+
 def main():
     parser = argparse.ArgumentParser(description=__doc__, formatter_class=argparse.RawDescriptionHelpFormatter)
     parser.add_argument("--program", default=os.path.join(os.path.dirname(__file__), "../crates/dwz/out/dwz"))
@@ -281,6 +293,8 @@ def main():
         ("the same, descending", listed_suffixes_of_units(4000, list.reverse)),
         ("40,000 shapes of one hash", many_shapes(40000, True)),
         ("40,000 shapes of different hashes", many_shapes(40000, False)),
+        ("80,000 labels of one hash", named_types(80000, True)),
+        ("80,000 labels of different hashes", named_types(80000, False)),
     )
     for name, content in files:
         with tempfile.NamedTemporaryFile() as file:

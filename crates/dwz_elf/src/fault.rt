@@ -9,7 +9,7 @@ ghost use Rattle.dwz_def_reading.specs.ElfReading;
 
 use crate::header::{end_of, has_relocations, is_compressed, is_there};
 use dwz_def_reading::{FileHeader, Header, Section};
-use dwz_model::{Fault, Reason};
+use dwz_model::{Fault, Reason, WHOLE_FILE};
 
 // The magic number, class 64, little-endian, version 1.
 const IDENTIFICATION: [u8; 7] = [0x7f, 0x45, 0x4c, 0x46, 2, 1, 1];
@@ -44,7 +44,7 @@ fn file_fault(reason: Reason, at: u64) -> Fault
     ensures { result ≡ ElfFaults.file_fault reason at }
 {
     Fault {
-        section: 0,
+        section: WHOLE_FILE,
         at,
         reason,
     }

@@ -12,7 +12,7 @@ use crate::elf::Elf;
 use crate::fault::program_headers_end;
 use crate::header::{end_of, is_loaded, is_there};
 use dwz_def_reading::{Header, Moved, Section};
-use dwz_model::{Fault, NoMemory, Reason};
+use dwz_model::{Fault, NoMemory, Reason, WHOLE_FILE};
 use std::alloc::Global;
 
 const FILE_HEADER: u128 = 64;
@@ -76,7 +76,7 @@ pub(crate) fn layout_fault(elf: &Elf, edits: &Edits, keep: u128) -> Option<Fault
     for (index, section) in sections.iter().enumerate() {
         if is_inside(elf, edits, keep, index, section) {
             return Some(Fault {
-                section: 0,
+                section: WHOLE_FILE,
                 at: section.header.at,
                 reason: Reason::Layout,
             });

@@ -13,7 +13,7 @@ use crate::elf::Elf;
 use crate::layout::{self, TOO_LARGE};
 use crate::output::{file_of, new_count};
 use dwz_def_reading::NewContent;
-use dwz_model::{Blob, Fault, NoMemory, ReadErr, Reason};
+use dwz_model::{Blob, Fault, NoMemory, ReadErr, Reason, WHOLE_FILE};
 use std::alloc::Global;
 use std::marker::Model;
 
@@ -86,7 +86,7 @@ impl<'a> Rebuild<'a> {
         match write_in_order(alloc, self.elf, &self.edits, input, keep, &order)? {
             Some(out) => Ok(out),
             None => Err(ReadErr::Refused(Fault {
-                section: 0,
+                section: WHOLE_FILE,
                 at: 0,
                 reason: Reason::TooLarge,
             })),

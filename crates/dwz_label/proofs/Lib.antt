@@ -1,7 +1,7 @@
 pub mod Bare
 pub mod Choices
 pub mod Codes
-pub mod Heads
+pub mod Filling
 pub mod LabelLemmas
 pub mod LeastAlike
 pub mod MadeLemmas
@@ -11,5 +11,6 @@ pub mod NumberLemmas
 pub mod Pairs
 pub mod Putting
 pub mod Rows
+pub mod Settled
 pub mod Together
 pub mod Wholes

@@ -12,10 +12,10 @@ use Rattle.dwz_label.proofs.Together.{contains_at}
 -- ---- gathered
 
 module _ {K : Type 0} where
-  kept : (rows : List (Keyed K)) (r s : Keyed K) → Contains rows r → Contains (rows ++ s ∷ []) r
+  pub kept : (rows : List (Keyed K)) (r s : Keyed K) → Contains rows r → Contains (rows ++ s ∷ []) r
   kept rows r s c = (c.0, (let l = c.1 in omega (arith, length-append rows (s ∷ []))), get_or-append rows (s ∷ []) r c.0 c.1 ∙ c.2)
 
-  cases : (rows : List (Keyed K)) (r s : Keyed K) → Contains (rows ++ s ∷ []) r → Contains rows r ⊎ (s ≡ r)
+  pub cases : (rows : List (Keyed K)) (r s : Keyed K) → Contains (rows ++ s ∷ []) r → Contains rows r ⊎ (s ≡ r)
   cases rows r s c = ⊎_elim
       (λ (l : c.0 < length rows). inl (c.0, l, sym (get_or-append rows (s ∷ []) r c.0 l) ∙ c.2))
       (λ (e : c.0 ≡ length rows). inr (sym (get_or-append_seam rows s [] r) ∙ ap (λ (k : ℕ). get_or (rows ++ s ∷ []) k r) (sym e) ∙ c.2))

@@ -2,10 +2,7 @@
 use Rattle.std.specs.Prelude.{◌≡◌, ℕ, suc, ◌-◌, ◌<◌, ◌≤◌, Bool, true, false, Contains, List, length, slice_index, slice_index_or}
 use Rattle.std.specs.declared.cmp.Ordering.{Ordering}
 use Rattle.std.specs.declared.cmp.Ordering.TheVariants.{Equal}
-use Rattle.dwz_bucket.specs.Fnv.{hash_of}
 use Rattle.dwz_label.specs.declared.equal.Keyed.{Keyed}
-use Rattle.dwz_label.specs.Shown.{AreLeastOf, nth_label}
-use denote.Ref.{Bor}
 
 abbrev pub Order : Type 0 → Type 0
 Order K = K → K → Ordering
@@ -51,24 +48,3 @@ pub record ArePutTo {K : Type 0} (cmp : Order K) (rows : List (Keyed K)) (old : 
 pub record AreKeyed {K : Type 0} (Picked : ℕ → Type 0) (IsKey : ℕ → K → Type 0) (count : ℕ) (rows : List (Keyed K)) : Type 0 where
   pub inside : (r : Keyed K) → Contains rows r → (r.number < count) × Picked r.number × IsKey r.number r.key
   pub all : (n : ℕ) → n < count → Picked n → (r : Keyed K) × Contains rows r × (r.number ≡ n)
-
--- ---- labels by their hashes
-
-abbrev pub hash_at : List (List ℕ) → ℕ → ℕ
-hash_at labels n = hash_of (nth_label labels n)
-
--- the rows of those that may move, each under the hash of its label
-abbrev pub AreHashed : List (List ℕ) → List Bool → ℕ → List (Keyed ℕ) → Type 0
-AreHashed labels movable count rows = AreKeyed (λ n. slice_index_or movable n false ≡ true) (λ n key. key ≡ hash_at labels n) count rows
-
--- of each that may move the least whose label has the same hash, and of each other one its own number
-abbrev pub AreHeads : List (List ℕ) → List Bool → List ℕ → Type 0
-AreHeads labels movable heads = AreLeastOf (λ n m. hash_at labels n ≡ hash_at labels m) movable heads
-
--- the label isn't that of the number beside it
-abbrev pub IsUnlike : List (List ℕ) → List ℕ → ℕ → Type 0
-IsUnlike labels heads n = nth_label labels n ≡ nth_label labels (slice_index heads n) → ⊥
-
--- the rows of those, each under its label
-abbrev pub AreUnlike : List (List ℕ) → List ℕ → ℕ → List (Keyed (Bor (List ℕ))) → Type 0
-AreUnlike labels heads count rows = AreKeyed (IsUnlike labels heads) (λ n key. key.now ≡ nth_label labels n) count rows

@@ -4,4 +4,5 @@ pub mod LabelLaws
 pub mod Nodes
 pub mod Pieces
 pub mod Shown
+pub mod Slots
 pub mod Stretches

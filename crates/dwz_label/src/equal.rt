@@ -2,18 +2,19 @@
 
 ghost use Rattle.std.specs.Prelude.{◌≡◌, ℕ, ◌+◌, ◌-◌, ◌<◌, ◌≤◌, ◌^◌, All, length, IfOk, slice_index};
 ghost use Rattle.dwz_label.specs.Shown.{AreFirstEquals};
-ghost use Rattle.dwz_label.specs.Keyed.{AreHashed, AreOneKey, AreUnlike, AreLeastPut, IsNewKey};
+ghost use Rattle.dwz_label.specs.Keyed.{AreOneKey, AreLeastPut, IsNewKey};
+ghost use Rattle.dwz_label.specs.Slots.{AreSlotted};
 
 use crate::labels::Labels;
-use dwz_bucket::hash;
+use crate::slots::Slots;
 use dwz_model::NoMemory;
 use std::alloc::Global;
 
 /// A number under a key. It is ordered by the key, and then by itself.
 #[derive(Clone, Copy, PartialEq, Eq, PartialOrd, Ord)]
 pub(crate) struct Keyed<K> {
-    key: K,
-    number: u32,
+    pub(crate) key: K,
+    pub(crate) number: u32,
 }
 
 // Whether a row's key is another one than that of the row before it.
@@ -55,60 +56,39 @@ fn numbers(alloc: Global, count: usize) -> Result<Vec<u32>, NoMemory>
     Ok(numbers)
 }
 
-// Those that may move, each under the hash of its label.
-fn hash_rows(alloc: Global, labels: &Labels, movable: &[bool]) -> Result<Vec<Keyed<u64>>, NoMemory>
-    requires many { length movable.now ≡ length labels.now }
-    requires few { length labels.now < 2 ^ 32 }
-    ensures { IfOk result (λ rows. AreHashed labels.now movable.now (length labels.now) rows.items) }
+// How many may move.
+fn count_free(movable: &[bool]) -> usize
+    ensures { result ≤ length movable.now }
 {
-    let mut rows = Vec::new(alloc);
-    for (n, free) in movable.iter().enumerate() {
-        if *free {
-            rows.push(Keyed {
-                key: hash(labels.get(n)),
-                number: n as u32,
-            })?;
-        }
-    }
-    Ok(rows)
+    movable.iter().filter(|free| **free).count()
 }
 
-// Those whose label isn't that of the one beside them, each under its label.
-fn unlike<'l>(
-    alloc: Global,
-    labels: &'l Labels,
-    firsts: &[u32],
-) -> Result<Vec<Keyed<&'l [u8]>>, NoMemory>
-    requires many { length firsts.now ≡ length labels.now }
+// The labels of those that may move in slots, one after the other.
+fn put_all<'l>(alloc: Global, labels: &'l Labels, movable: &[bool]) -> Result<Slots<'l>, NoMemory>
+    requires many { length movable.now ≡ length labels.now }
     requires few { length labels.now < 2 ^ 32 }
-    requires inside { All (λ first. first < length labels.now) firsts.now }
-    ensures { IfOk result (λ rows. AreUnlike labels.now firsts.now (length labels.now) rows.items) }
+    ensures len { IfOk result (λ slots. length slots.firsts.items ≡ length labels.now) }
+    ensures put { IfOk result (λ slots. AreSlotted labels.now movable.now (length labels.now) slots) }
 {
-    let mut rows = Vec::new(alloc);
-    for (n, first) in firsts.iter().enumerate() {
-        let label = labels.get(n);
-        if label != labels.get(*first as usize) {
-            rows.push(Keyed {
-                key: label,
-                number: n as u32,
-            })?;
+    let own = numbers(alloc, labels.len())?;
+    let mut slots = Slots::new(alloc, own, count_free(movable))?;
+    for (n, free) in movable.iter().enumerate() {
+        if *free {
+            slots.put(labels, n)?;
         }
     }
-    Ok(rows)
+    Ok(slots)
 }
 
 /// For each top that may move the least one that may and has an equal label, and for each other one its own number.
 ///
-/// Labels with one hash are compared with the first of these. Those that differ from it are put in order: so however many
-/// labels have one hash, it takes n log n comparisons.
+/// A label is looked for in a few slots, from the one that its hash gives on. Those in whose slots other labels stand are put in order: so
+/// however many labels have one hash, it takes n log n comparisons.
 pub fn firsts(alloc: Global, labels: &Labels, movable: &[bool]) -> Result<Vec<u32>, NoMemory>
     requires many { length movable.now ≡ length labels.now }
     requires few { length labels.now < 2 ^ 32 }
     ensures { IfOk result (λ firsts. AreFirstEquals labels.now movable.now firsts.items) }
 {
-    let own = numbers(alloc, labels.len())?;
-    let rows = hash_rows(alloc, labels, movable)?;
-    let heads = with_least(rows, own);
-    let others = unlike(alloc, labels, heads.as_slice())?;
-    Ok(with_least(others, heads))
+    let Slots { firsts, rest, .. } = put_all(alloc, labels, movable)?;
+    Ok(with_least(rest, firsts))
 }

@@ -15,6 +15,7 @@ mod labels;
 mod laws;
 mod made;
 mod pieces;
+mod slots;
 mod stretches;
 mod writer;
 

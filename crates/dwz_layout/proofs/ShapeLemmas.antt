@@ -1,24 +1,34 @@
 -- A shape that is put behind the others: its code, and those of the others, are found under their keys.
-use Rattle.std.proofs.Common.{◌≡◌, ℕ, suc, ◌+◌, Bool, true, false, List, [], ◌∷◌, ◌++◌, length, All, Option, Some, None, refl, sym, ap, ◌∙◌, arith}
+use Rattle.std.proofs.Common.{◌≡◌, ℕ, zero, suc, ◌+◌, ◌⊎◌, ◌&&◌, Bool, true, false, not, eqb, int_eq, Decides, List, [], ◌∷◌, ◌++◌, get_or, length, All, Option, Some, None, refl, sym, ap, ◌∙◌, arith}
+use Rattle.std.proofs.Math.Logic.{inl, inr}
+use Rattle.std.specs.Prelude.{nat_lt, slice_get}
+use Rattle.std.specs.Option.{option_map}
+use Rattle.std.specs.Bool.{beq}
+use Rattle.std.proofs.lemmas.Bool.{ltb-true}
+use Rattle.std.proofs.lemmas.Bool.Decides.{Decides-and, Decides-eqb, Decides-int_eq}
+use Rattle.std.proofs.lemmas.Option.{slice_get-map, slice_get_read}
 use Rattle.std.specs.BTreeMap.{BTreeMap}
 use Rattle.std.specs.Global.{Vec}
 use Rattle.std.specs.Map.{update}
 use Rattle.std.specs.Str.{bytes_eq}
 use Rattle.std.proofs.lemmas.List.{length-map}
 use Rattle.std.proofs.lemmas.Slice.Eq.{bytes_eq-Decides}
+use Rattle.dwz_model.specs.declared.place.Pair.{Pair}
+use Rattle.dwz_abbrev.specs.declared.decl.Decl.{Decl}
+use Rattle.dwz_abbrev.specs.Views.{decl_view, views}
 use Rattle.dwz_def_reading.specs.Abbrevs.{Declaration, with_code}
 use Rattle.dwz_def_encoding.specs.Writing.{DeclarationShape, code_in, same_shape, with_shape}
 use Rattle.dwz_def_encoding.proofs.SameLemmas.{same_shape-true}
-use Rattle.dwz_def_encoding.proofs.WriteCodes.{code_last}
+use Rattle.dwz_def_encoding.proofs.WriteCodes.{code_grows, code_last}
 use Rattle.dwz_layout.specs.Keys.{AreCodes, HasBits, key_of}
 use Rattle.dwz_layout.specs.Maps.{FindsNone, Puts, look}
-use Rattle.dwz_layout.specs.Shapes.{shape_in, shapes_in}
+use Rattle.dwz_layout.specs.Shapes.{shape_in, shape_of, shapes_in}
 use Rattle.dwz_layout.proofs.CodedLemmas.{entry_shape, shapes_grown, with_new}
 use Rattle.dwz_layout.proofs.KeyLemmas.{key_same}
 
 pub codes_none : (codes : BTreeMap (Vec ℕ) ℕ) → FindsNone codes → AreCodes codes []
 unfolding code_in
-codes_none codes none = record { found = λ s bits. none (key_of s) }
+codes_none codes none = record { found = λ s bits. none (key_of s); own = λ place s is. absurd cc }
 
 abbrev picked : Bool → ℕ → Option ℕ → Option ℕ
 picked test n o = elim test as (λ _. Option ℕ) [ true ↦ Some n | false ↦ o ]
@@ -31,6 +41,14 @@ code_other n [] s t other = go (same_shape s t) refl where
   go true e = absurd (other (same_shape-true s t e))
   go false e = refl
 code_other n (u ∷ shapes) s t other = ap (picked (same_shape u t) n) (code_other (suc n) shapes s t other)
+
+-- what stands at a place where one is behind the others
+placed : (shapes : List DeclarationShape) (s : DeclarationShape) (place : ℕ) (t : DeclarationShape) → slice_get (shapes ++ s ∷ []) place ≡ Some t
+    → (slice_get shapes place ≡ Some t) ⊎ ((place ≡ length shapes) × (s ≡ t))
+placed [] s zero t is = inr (refl, cc)
+placed [] s (suc place) t is = absurd cc
+placed (u ∷ shapes) s zero t is = inl is
+placed (u ∷ shapes) s (suc place) t is = elim (placed shapes s place t is) [ inl before ↦ inl before | inr last ↦ inr (ap suc last.0, last.1) ]
 
 -- it is put behind the others
 module _ (table new : List Declaration) (s : DeclarationShape) (code : ℕ) (none : code_in 1 (shapes_in table) s ≡ None) (next : code ≡ length table + 1)
@@ -47,7 +65,7 @@ module _ (table new : List Declaration) (s : DeclarationShape) (code : ℕ) (non
   shapes_after = behind ∙ sym (with_new (shapes_in table) s none)
 
   pub codes_after : (old codes : BTreeMap (Vec ℕ) ℕ) → All HasBits s.pairs → AreCodes old (shapes_in table) → Puts old codes (key_of s) (Some code) → AreCodes codes (shapes_in new)
-  codes_after old codes bits are puts = record { found = λ t more. puts (key_of t) ∙ go t more (bytes_eq (key_of s) (key_of t)) refl } where
+  codes_after old codes bits are puts = record { found = λ t more. puts (key_of t) ∙ go t more (bytes_eq (key_of s) (key_of t)) refl; own = own } where
     go : (t : DeclarationShape) → All HasBits t.pairs → (test : Bool) → bytes_eq (key_of s) (key_of t) ≡ test
         → update bytes_eq (look old) (key_of s) (Some code) (key_of t) ≡ code_in 1 (shapes_in new) t
     go t more true e =
@@ -56,3 +74,43 @@ module _ (table new : List Declaration) (s : DeclarationShape) (code : ℕ) (non
     go t more false e =
         let other : s ≡ t → ⊥ = λ same. absurd (let is : bytes_eq (key_of s) (key_of t) ≡ true = (bytes_eq-Decides (key_of s) (key_of t)).1 (ap key_of same) in cc) in
         (rw e refl) ∙ are.found t more ∙ sym (ap (λ (shapes : List DeclarationShape). code_in 1 shapes t) behind ∙ code_other 1 (shapes_in table) s t other)
+
+    own : (place : ℕ) (t : DeclarationShape) → slice_get (shapes_in new) place ≡ Some t → code_in 1 (shapes_in new) t ≡ Some (place + 1)
+    own place t is =
+        elim (placed (shapes_in table) s place t (ap (λ (shapes : List DeclarationShape). slice_get shapes place) (sym behind) ∙ is)) [
+          | inl before ↦ ap (λ (shapes : List DeclarationShape). code_in 1 shapes t) behind ∙ code_grows 1 (shapes_in table) (s ∷ []) t (place + 1) (are.own place t before)
+          | inr last ↦
+              let count : code ≡ place + 1 = omega (arith, next, last.0, length-map table shape_in) in
+              ap (code_in 1 (shapes_in new)) (sym last.1) ∙ code_after ∙ ap Some count
+        ]
+
+-- the shape of the declaration at a place stands there
+pub shape_at : (decls : List Decl) (table : List Declaration) (place : ℕ) (d : Decl) (s : DeclarationShape) → views decls ≡ table → true ≡ nat_lt place (length decls) → d ≡ get_or decls place d
+    → shape_in (decl_view d) ≡ s → slice_get (shapes_in table) place ≡ Some s
+shape_at decls table place d s same lt is shape =
+    let at : slice_get decls place ≡ Some d = slice_get_read decls (length decls) place d refl (ltb-true place (length decls) (sym lt)) is in
+    ap (λ (t : List Declaration). slice_get (shapes_in t) place) (sym same)
+    ∙ slice_get-map shape_in (views decls) place
+    ∙ ap (option_map shape_in) (slice_get-map decl_view decls place ∙ ap (option_map decl_view) at)
+    ∙ ap (λ (t : DeclarationShape). Some t) shape
+
+-- ---- a declaration that is compared with a shape
+
+pair_same : (p q : Pair) → p.name ≡ q.name → p.form ≡ q.form → p.constant ≡ q.constant → p ≡ q
+pair_same p q name form constant = (λ i. record { name = name i; form = form i; constant = constant i })
+
+pub pair_decides : (p q : Pair) → Decides (eqb p.name q.name && (eqb p.form q.form && int_eq p.constant q.constant)) (p ≡ q)
+pair_decides p q =
+    let parts =
+    Decides-and (eqb p.name q.name) (eqb p.form q.form && int_eq p.constant q.constant) (Decides-eqb p.name q.name)
+    (Decides-and (eqb p.form q.form) (int_eq p.constant q.constant) (Decides-eqb p.form q.form) (Decides-int_eq p.constant q.constant)) in
+    (λ e. pair_same p q (parts.0 e).0 (parts.0 e).1.0 (parts.0 e).1.1, λ e. parts.1 (ap (λ (r : Pair). r.name) e, (ap (λ (r : Pair). r.form) e, ap (λ (r : Pair). r.constant) e)))
+
+pub bools_same : (a b : Bool) → not (beq a b) ≡ false → a ≡ b
+bools_same true true e = refl
+bools_same false false e = refl
+bools_same true false e = absurd cc
+bools_same false true e = absurd cc
+
+pub decl_shape : (d : Decl) (tag : ℕ) (children : Bool) (pairs : List Pair) → d.tag ≡ tag → d.children ≡ children → d.pairs ≡ pairs → shape_in (decl_view d) ≡ shape_of tag children pairs
+decl_shape d tag children pairs a b e = (λ i. shape_of (a i) (b i) (e i))

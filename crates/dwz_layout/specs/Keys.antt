@@ -1,5 +1,5 @@
 -- Shapes as rows of words, under which their codes are kept.
-use Rattle.std.specs.Prelude.{◌≡◌, ℕ, ◌*◌, ◌%◌, ◌^◌, ◌∷◌, [], true, All, List, bit_xor, fold}
+use Rattle.std.specs.Prelude.{◌≡◌, ℕ, ◌+◌, ◌*◌, ◌%◌, ◌^◌, ◌∷◌, [], true, All, List, Some, bit_xor, fold, slice_get}
 use Rattle.std.specs.BTreeMap.{BTreeMap}
 use Rattle.std.specs.Global.{Vec}
 use Rattle.std.specs.Int.{cast_unsigned, w64}
@@ -29,6 +29,7 @@ key_of s = fold mixed 0 (shape_words s) ∷ shape_words s
 abbrev pub HasBits : Pair → Type 0
 HasBits pair = fits_i64 pair.constant ≡ true
 
--- the code of each shape is found under its key
+-- the code of each shape is found under its key, and is what its own place says: each stands once
 pub record AreCodes (codes : BTreeMap (Vec ℕ) ℕ) (shapes : List DeclarationShape) : Type 0 where
   pub found : (s : DeclarationShape) → All HasBits s.pairs → look codes (key_of s) ≡ code_in 1 shapes s
+  pub own : (place : ℕ) (s : DeclarationShape) → slice_get shapes place ≡ Some s → code_in 1 shapes s ≡ Some (place + 1)

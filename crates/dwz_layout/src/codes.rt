@@ -13,9 +13,9 @@ use std::collections::BTreeMap;
 // The odd number next to 2^64 divided by the golden ratio.
 const STEP: u64 = 0x9e37_79b9_7f4a_7c15;
 
-// A hash with one word more.
+/// A hash with one word more.
 #[inline(always)]
-fn mix(hash: u64, word: u64) -> u64
+pub(crate) fn mix(hash: u64, word: u64) -> u64
     ensures { result ≡ Keys.mixed hash word }
 {
     (hash ^ word).wrapping_mul(STEP)

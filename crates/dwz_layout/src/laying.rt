@@ -66,9 +66,13 @@ impl Laying {
     {
         let values = measure(room, known, here, entry.origin)?;
         let tag = tag_of(known, entry.origin);
-        let code = self
-            .shapes
-            .code_for(alloc, tag, entry.children, &mut room.pairs)?;
+        let code = self.shapes.code_by(
+            alloc,
+            tag,
+            entry.children,
+            &mut room.pairs,
+            &mut room.recent,
+        )?;
         self.codes.push(kept_code(code)?)?;
         note(known, entry.origin, self.at, places);
         let coded = more(uleb_len(code), values)?;

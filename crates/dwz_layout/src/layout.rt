@@ -7,6 +7,7 @@ use crate::Tables;
 use crate::known::EntryTable;
 use crate::laying::{header_size, lay};
 use crate::order::{FileItems, UnitItems};
+use crate::recent::Recent;
 use crate::sizes::{Scratch, more};
 use dwz_model::{DwzList, NoMemory};
 use std::alloc::{AllocError, Global};
@@ -149,6 +150,7 @@ impl Layout {
         let mut room = Scratch {
             pairs: Vec::new(alloc),
             operands: Vec::new(alloc),
+            recent: Recent::new(alloc)?,
         };
         let mut laid = Vec::new(alloc);
         let mut first = 0;

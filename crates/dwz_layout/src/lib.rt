@@ -17,6 +17,7 @@ mod laying;
 mod layout;
 mod order;
 mod pairs;
+mod recent;
 mod shapes;
 mod sizes;
 mod tables;

@@ -1,16 +1,19 @@
 //! The shapes of a unit's entries, each once, and their codes.
 //!
 //! They are found by an ordered map. A key is a row of words, a hash and then the shape itself: so the first words nearly always decide,
-//! and the hash needs no properties. It is made in room that is kept, and copied only where the shape is new.
+//! and the hash needs no properties. It is made in room that is kept, and copied only where the shape is new. Most shapes of a unit come many
+//! times: so a shape is first compared with the one that stands where an equal one stood lately (`Recent`).
 
-ghost use Rattle.std.specs.Prelude.{◌≡◌, ◌<◌, [], All, IfOk, None, OnErr, OnOk, Some};
+ghost use Rattle.std.specs.Prelude.{◌≡◌, ◌<◌, [], All, IfOk, IfSome, None, OnErr, OnOk, Some, slice_get, true};
+ghost use Rattle.dwz_abbrev.specs.Views.{decl_view};
 ghost use Rattle.dwz_def_encoding.specs.Writing.{code_in, with_shape};
 ghost use Rattle.dwz_def_reading.specs.Abbrevs.{IsPlainPair};
 ghost use Rattle.dwz_layout.specs.Keys.{AreCodes, HasBits, key_of};
-ghost use Rattle.dwz_layout.specs.Shapes.{IsCoded, shape_of, shapes_in, table_for};
+ghost use Rattle.dwz_layout.specs.Shapes.{IsCoded, shape_in, shape_of, shapes_in, table_for};
 
 use crate::codes::Codes;
-use dwz_abbrev::Table;
+use crate::recent::{Recent, slot_of};
+use dwz_abbrev::{Decl, Table};
 use dwz_model::{NoMemory, Pair, Pairs};
 use std::alloc::Global;
 use std::marker::Model;
@@ -69,6 +72,20 @@ fn add(
     }
 }
 
+// Whether a declaration is of that shape.
+#[inline(always)]
+fn is_decl(decl: &Decl, tag: u16, children: bool, pairs: &[Pair]) -> bool
+    ensures { result ≡ true → shape_in (decl_view decl.now) ≡ shape_of tag children pairs.now }
+{
+    if decl.tag != tag {
+        return false;
+    }
+    if decl.children != children {
+        return false;
+    }
+    decl.pairs.as_slice() == pairs
+}
+
 impl Shapes {
     /// No shapes.
     pub fn new(alloc: Global) -> Shapes
@@ -82,7 +99,7 @@ impl Shapes {
 
     /// The code of a shape, which is added if it is new. The pairs stand in the room that is lent, and stay there where the shape is
     /// known; where it is new, and after an error, there may be none.
-    #[inline(always)]
+    #[inline(never)]
     pub fn code_for(
         &mut self,
         alloc: Global,
@@ -101,6 +118,57 @@ impl Shapes {
             None => {
                 let pairs = Pairs::new(mem::replace(room, Vec::new(alloc)));
                 add(&mut self.table, &mut self.codes, tag, children, pairs)
+            }
+        }
+    }
+
+    // Whether the shape at a place among them, counted from 0, is this one.
+    #[inline(always)]
+    fn is_at(&self, place: u32, tag: u16, children: bool, pairs: &[Pair]) -> bool
+        ensures { result ≡ true → slice_get self.now place ≡ Some (shape_of tag children pairs.now) }
+    {
+        match self.table.decls().get(place as usize) {
+            Some(decl) => is_decl(decl, tag, children, pairs),
+            None => false,
+        }
+    }
+
+    // The code of a shape, if it is at a place among them, counted from 0.
+    #[inline(always)]
+    fn code_at(&self, place: u32, tag: u16, children: bool, pairs: &[Pair]) -> Option<u64>
+        ensures { IfSome result (λ code. code_in 1 self.now (shape_of tag children pairs.now) ≡ Some code) }
+    {
+        let _ = &self.table;
+        if self.is_at(place, tag, children, pairs) {
+            return Some(place as u64 + 1);
+        }
+        None
+    }
+
+    /// As `code_for`. The shape is looked for first where an equal one stood when it was last asked for, in whatever unit: nearly always it is
+    /// there, and the code is the same wherever it is found.
+    #[inline(always)]
+    pub(crate) fn code_by(
+        &mut self,
+        alloc: Global,
+        tag: u16,
+        children: bool,
+        room: &mut Vec<Pair>,
+        recent: &mut Recent,
+    ) -> Result<u64, NoMemory>
+        requires some_tag { 0 < tag }
+        requires plain { All IsPlainPair room.old.items }
+        ensures code { IfOk result (λ code. code_in 1 self.new (shape_of tag children room.old.items) ≡ Some code) }
+        ensures shapes { OnOk result (self.new ≡ with_shape self.old (shape_of tag children room.old.items)) }
+        ensures err { OnErr result (self.new ≡ self.old) }
+    {
+        let slot = slot_of(tag, children, room.as_slice());
+        match self.code_at(recent.get(slot), tag, children, room.as_slice()) {
+            Some(code) => Ok(code),
+            None => {
+                let code = self.code_for(alloc, tag, children, room)?;
+                recent.keep(slot, code);
+                Ok(code)
             }
         }
     }

@@ -17,6 +17,7 @@ ghost use Rattle.dwz_layout.specs.Stored.{pairs_of, values_bytes};
 use crate::exprs::read_operands;
 use crate::known::{EntryTable, Row, SpaceRow, TextAt, ValueCounts};
 use crate::pairs::{entry_pair, expr_pair, file_pair, import_pair, line_pair, text_pair};
+use crate::recent::Recent;
 use crate::walk::Origin;
 use crate::ways::{Rewrite, UnitRole, WritingContext, way_of};
 use dwz_codes::{
@@ -31,11 +32,12 @@ use std::alloc::AllocError;
 // How many bytes the number of an entry or the offset of a text has.
 const OFFSET: u64 = 4;
 
-/// Room for the names and forms of an entry, and for the operands of an expression.
+/// Room for the names and forms of an entry, and for the operands of an expression; and where shapes stood lately.
 #[derive(Drop)]
 pub(crate) struct Scratch {
     pub(crate) pairs: Vec<Pair>,
     pub(crate) operands: Vec<Operand>,
+    pub(crate) recent: Recent,
 }
 
 /// So many bytes more. More than can be counted count as memory that there isn't.

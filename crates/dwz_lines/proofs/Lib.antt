@@ -8,3 +8,4 @@ pub mod FileLemmas
 pub mod HeadLemmas
 pub mod SectionLemmas
 pub mod WriteLemmas
+pub mod MarkLemmas

@@ -61,7 +61,7 @@ as_they_are {X} item n i = by (times_in item n i) where
   by None = refl
   by (Some y) = ap (λ (w : List X). Some (w, y.1)) (map_same y.0)
 
-counted_down : (n k : ℕ) → k < n → n - k ≡ suc (n - (k + 1))
+pub counted_down : (n k : ℕ) → k < n → n - k ≡ suc (n - (k + 1))
 counted_down n k lt = omega (arith, lt)
 
 module _ {X Y : Type 0} (f : X → Y) (item : Input → Option (X × Input)) (ys : List Y) (n k : ℕ) (i : Input) (lt : k < n) where

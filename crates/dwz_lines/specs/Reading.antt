@@ -147,9 +147,12 @@ path_or_none [] n = []
 path_or_none (path ∷ paths) zero = path
 path_or_none (path ∷ paths) (suc n) = path_or_none paths n
 
+-- the path of a file whose directory has a path, seen from the first directory
+abbrev pub path_with : List ℕ → List ℕ → PathRow → List ℕ
+path_with first dir row = if row.dir == 0 then join first row.path else join (join first dir) row.path
+
 abbrev pub path_in : List (List ℕ) → PathRow → List ℕ
-path_in dirs row = if row.dir == 0 then join (path_or_none dirs 0) row.path else join
-    (join (path_or_none dirs 0) (path_or_none dirs row.dir)) row.path
+path_in dirs row = path_with (path_or_none dirs 0) (path_or_none dirs row.dir) row
 
 abbrev pub files_of : Dirs → List Pair → List PathRow × Input → Option (FileTable × Input)
 files_of d pairs r = Some (record { paths = map (path_in d.paths) r.0; has_strp = d.strp || names_strs pairs }, r.1)

@@ -12,15 +12,15 @@ ghost use Rattle.dwz_def_reading.specs.LineTables.{bad_line_table, file_table_at
 ghost use Rattle.dwz_lines.specs.TableViews.{sections};
 
 use crate::header::tables_of;
-use crate::paths::{append, room};
+use crate::paths::joined_in;
 use crate::rows::{Row, Strings};
 use crate::tables::{read_directories, read_files};
 use dwz_model::{DEBUG_LINE, Fault, NoMemory, ReadErr, Reason};
 use std::alloc::Global;
 use std::marker::Model;
 
-// The line table at a place is bad.
-fn bad_at(place: u64) -> Fault
+/// The line table at a place is bad.
+pub(crate) fn bad_at(place: u64) -> Fault
     ensures { result ≡ bad_line_table place }
 {
     Fault {
@@ -92,9 +92,8 @@ impl<'a> KeptRows<'a> {
         match self.rows.get(index as usize) {
             None => Ok(None),
             Some(row) => {
-                let mut out = Vec::with_capacity(alloc, room(&self.dirs, row))?;
-                append(&mut out, &self.dirs, row)?;
-                Ok(Some(out))
+                let path = joined_in(alloc, &self.dirs, row)?;
+                Ok(Some(path))
             }
         }
     }

@@ -1,9 +1,9 @@
 //! Line tables (DWARF 5, 6.2.4): the paths of their files, and a header of given paths.
 //!
 //! `TableRows::read` reads the header of a table in `.debug_line`, or answers that none stands there; `path` joins the path of a row
-//! with its directories, and `path_into` appends it; `has_strp` says whether a path stands in `.debug_str`. No path is kept. `uses_strp`
-//! asks for forms in a whole section, which has to be a row of tables. `write_header` writes the header of a table without a program. Line
-//! programs are never read.
+//! with its directories; `has_strp` says whether a path stands in `.debug_str`. No path is kept, and of tables that begin inside one another
+//! not all rows are. `uses_strp` asks for forms in a whole section, which has to be a row of tables. `write_header` writes the header of a
+//! table without a program. Line programs are never read.
 //!
 //! Read first: `FileTable` (`LineTables.antt` of `dwz_def_reading`), and `LinesWritten.antt` there.
 #![tactic(auto)]
@@ -11,6 +11,8 @@
 mod formats;
 mod header;
 mod kept_rows;
+mod marked_rows;
+mod marked_table;
 mod paths;
 mod rows;
 mod section;

@@ -1,36 +1,35 @@
-//! Line tables whose rows are kept, or that are read again.
+//! Line tables whose rows are kept, or of which some are marked.
 //!
 //! Tables may begin inside one another, so all together they may have far more rows than their section has bytes. So of tables whose rows
-//! are too many it is kept where they stand, and one is read again where a path of it is asked for.
+//! are too many it is kept where some of them begin, and from the nearest of these on it is read again where a path is asked for.
 
 ghost use Rattle.std.specs.Prelude.{◌≡◌, ◌<◌, ◌≤◌, ◌^◌, IfOk, length};
 ghost use Rattle.std.specs.Option.{is_some, option_map};
 ghost use Rattle.dwz_def_reading.specs.Faults.{Answers};
 ghost use Rattle.dwz_def_reading.specs.LineTables.{file_table_at, nth_path};
-ghost use Rattle.dwz_lines.specs.KeptTables;
 ghost use Rattle.dwz_lines.specs.TableViews.{sections};
 
+use crate::header::tables_of;
 use crate::kept_rows::KeptRows;
+use crate::marked_table::MarkedTable;
 use dwz_model::{NoMemory, ReadErr};
-use std::alloc::{AllocError, Global};
+use std::alloc::Global;
 use std::marker::Model;
 
-/// Where a table stands, how many files it has, and whether a format of it has the form strp.
-#[derive(Clone, Copy)]
-pub(crate) struct TablePlace<'a> {
-    pub(crate) line: &'a [u8],
-    pub(crate) line_strs: &'a [u8],
-    pub(crate) strs: &'a [u8],
-    pub(crate) at: u64,
-    pub(crate) files: u64,
-    pub(crate) has_strp: bool,
-}
+// Into how many runs of bytes marks divide a table at least, of which not all rows are kept.
+const RUNS: usize = 16;
 
-/// What is kept of a table: its rows, or where it stands.
+// For how many rows that may still be kept a table gets one mark, if these are more.
+const ROWS_FOR_MARK: usize = 64;
+
+// More files than any table has.
+const MOST: u64 = 1 << 63;
+
+/// What is kept of a table: its rows, or where some of them begin.
 #[derive(Drop)]
 pub(crate) enum Kept<'a> {
     Rows(KeptRows<'a>),
-    Place(TablePlace<'a>),
+    Marked(MarkedTable<'a>),
 }
 
 /// The files of a line table, by their numbers. No path is kept: one is joined when it is asked for. Clauses see a `FileTable`.
@@ -50,23 +49,19 @@ impl<'a> Model for TableRows<'a> {
     ghost invariant = { λ t. IsTable t.kept };
 }
 
-impl<'a> TablePlace<'a> {
-    // The rows of the table, which was read before.
-    fn rows(&self, alloc: Global) -> Result<KeptRows<'a>, NoMemory>
-        ensures { IfOk result (λ rows. rows ≡ KeptTables.table_at self.now) }
-    {
-        match KeptRows::read(alloc, self.line, self.line_strs, self.strs, self.at) {
-            Ok(rows) => Ok(rows),
-            Err(_) => Err(AllocError),
-        }
+// How many bytes the directories and files of the line table at a place have at most, if one stands there.
+fn bytes_at(line: &[u8], at: u64) -> usize {
+    match tables_of(line, at) {
+        Some(cursor) => cursor.bytes().len() - cursor.at(),
+        None => 0,
     }
 }
 
 impl<'a> TableRows<'a> {
     /// Reads the line table at a place of `.debug_line`, in bytes from the section's first (DWARF 5, 6.2.4). Its texts stand
     /// in it, in `.debug_line_str` or in `.debug_str`. Refused as `BadLineTable`, at the place, exactly where no table of
-    /// version 5 that is read stands there. At most `left` rows of directories and files are kept, and `left` is made less by these; a
-    /// table that has more is read again for each path.
+    /// version 5 that is read stands there. At most `left` rows of directories and files are kept, and `left` is made less by these; of a
+    /// table that has more some are marked, which makes `left` less too, and from the nearest mark on it is read again for each path.
     pub fn read(
         alloc: Global,
         line: &'a [u8],
@@ -78,24 +73,22 @@ impl<'a> TableRows<'a> {
         ensures table { Answers (λ t. t) result (file_table_at (sections strs.now line_strs.now) line.now at) }
         ensures left { left.new ≤ left.old }
     {
-        let rows = KeptRows::read(alloc, line, line_strs, strs, at)?;
-        let size = rows.size();
-        if size <= *left {
-            *left -= size;
-            return Ok(TableRows {
-                kept: Kept::Rows(rows),
-            });
+        let bytes = bytes_at(line, at);
+        if bytes > *left {
+            let marks = RUNS.max(*left / ROWS_FOR_MARK);
+            let step = bytes / marks + 1;
+            let table = MarkedTable::read(alloc, line, line_strs, strs, at, step)?;
+            if table.size() > *left as u64 && table.files() < MOST {
+                *left = left.saturating_sub(marks);
+                return Ok(TableRows {
+                    kept: Kept::Marked(table),
+                });
+            }
         }
-        let place = TablePlace {
-            line,
-            line_strs,
-            strs,
-            at,
-            files: rows.files(),
-            has_strp: rows.has_strp(),
-        };
+        let rows = KeptRows::read(alloc, line, line_strs, strs, at)?;
+        *left = left.saturating_sub(rows.size());
         Ok(TableRows {
-            kept: Kept::Place(place),
+            kept: Kept::Rows(rows),
         })
     }
 
@@ -106,7 +99,7 @@ impl<'a> TableRows<'a> {
     {
         match &self.kept {
             Kept::Rows(rows) => index < rows.files(),
-            Kept::Place(place) => index < place.files,
+            Kept::Marked(table) => index < table.files(),
         }
     }
 
@@ -118,7 +111,7 @@ impl<'a> TableRows<'a> {
     {
         match &self.kept {
             Kept::Rows(rows) => rows.path(alloc, index),
-            Kept::Place(place) => place.rows(alloc)?.path(alloc, index),
+            Kept::Marked(table) => table.path(alloc, index),
         }
     }
 
@@ -128,7 +121,7 @@ impl<'a> TableRows<'a> {
     {
         match &self.kept {
             Kept::Rows(rows) => rows.has_strp(),
-            Kept::Place(place) => place.has_strp,
+            Kept::Marked(table) => table.has_strp(),
         }
     }
 }

@@ -87,8 +87,8 @@ fn rows_of_files<'a>(
     Ok(rows)
 }
 
-// Whether there is a directory wherever there is a file.
-fn has_dir(files: u64, dirs: usize) -> bool
+/// Whether there is a directory wherever there is a file.
+pub(crate) fn has_dir(files: u64, dirs: u64) -> bool
     ensures { result ≡ Reading.has_dir files dirs }
 {
     files == 0 || dirs > 0
@@ -116,11 +116,11 @@ pub(crate) fn read_files<'a>(
     let Ok(count) = cursor.uleb() else {
         return Err(ReadErr::Refused(bad));
     };
-    let many = dirs.paths.len();
+    let many = dirs.paths.len() as u64;
     if !has_dir(count, many) {
         return Err(ReadErr::Refused(bad));
     }
-    let rows = rows_of_files(alloc, cursor, &formats, count, many as u64, strings, bad)?;
+    let rows = rows_of_files(alloc, cursor, &formats, count, many, strings, bad)?;
     let has_strp = either(dirs.strp, names_strs(&formats));
     Ok(KeptRows {
         dirs: dirs.paths,

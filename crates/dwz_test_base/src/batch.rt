@@ -5,13 +5,11 @@ ghost use Rattle.std.specs.Prelude.{◌≡◌, ℕ, [], ◌∷◌};
 ghost use Rattle.dwz_batch.specs.declared.job.Outcome.{Outcome as Came};
 ghost use Rattle.dwz_batch.specs.declared.job.Outcome.TheVariants.{Bytes as BytesOf};
 
+use crate::expect::holds;
+use crate::watch::new_watch;
 use dwz_batch::{Job, Outcome, batch};
-use dwz_gate::{Gate, MeetGate, OpenGate};
 use dwz_model::{Blob, NoMemory};
-use dwz_table::Pass;
 use std::alloc::Global;
-use std::test::Fail;
-use std::thread::Threads;
 
 // So many jobs, each of which gives its number in one byte.
 #[derive(Drop)]
@@ -53,44 +51,25 @@ fn are_numbered(outcomes: &[Outcome], count: u32) -> bool {
     true
 }
 
-#[test]
-fn gives_all_in_order(rt: HostRuntime) -> Result<(), Fail> {
-    for count in [0, 1, 2, 3, 70, 1000] {
-        for workers in [1, 2, 7, 64] {
-            let found = batch(&rt, rt.alloc(), &Numbered { count }, workers, &OpenGate)?;
-            assert!(rt;
-                are_numbered(found.as_slice(), count),
-                "{count} jobs, {workers} workers"
-            );
-        }
-    }
-    Ok(())
-}
-
-// It passes each call on to two gates, to the second with the workers exchanged.
-#[derive(Drop)]
-struct BothWays {
-    straight: MeetGate,
-    crossed: MeetGate,
-}
-
-impl Gate for BothWays {
-    fn enter(&self, worker: u32, turn: u32) {
-        self.straight.enter(worker, turn);
-        self.crossed.enter(if worker == 0 { 1 } else { 0 }, turn);
-    }
-
-    fn leave(&self, _worker: u32, _turn: u32, _pass: &Pass) {}
-}
+// Numbers of jobs and of workers, and the job from which two of them meet.
+const ROWS: [(u32, u32, u32); 6] = [
+    (0, 2, u32::MAX),
+    (1, 64, u32::MAX),
+    (2, 2, 0),
+    (3, 7, u32::MAX),
+    (70, 1, u32::MAX),
+    (1000, 64, u32::MAX),
+];
 
 #[test]
-fn batch_meets(rt: HostRuntime) -> Result<(), Fail> {
-    let gate = BothWays {
-        straight: MeetGate::new(100_000_000),
-        crossed: MeetGate::new(100_000_000),
-    };
-    let found = batch(&rt, rt.alloc(), &Numbered { count: 2 }, 2, &gate)?;
-    assert!(rt; are_numbered(found.as_slice(), 2));
-    assert!(rt; gate.straight.met() && gate.crossed.met());
-    Ok(())
+fn gives_all_in_order_and_two_meet(rt: HostRuntime) {
+    for (count, workers, meet_from) in ROWS {
+        let are_few = 0 < workers && workers <= 64;
+        assert!(rt; are_few);
+        let watch = new_watch(&rt, rt.alloc(), meet_from);
+        let found = batch(&rt, rt.alloc(), &Numbered { count }, workers, &watch);
+        let found = found.expect(&rt, "memory");
+        holds(&rt, "in order", are_numbered(found.as_slice(), count));
+        holds(&rt, "two meet", watch.met() == (meet_from == 0));
+    }
 }

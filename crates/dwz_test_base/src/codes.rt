@@ -1,7 +1,7 @@
 //! Look-ups in the five tables, with the names and codes of the standard.
 
-use crate::expect::same_for;
-use dwz_codes::{Row, Shape, attribute_names, forms, list_kinds, operators, tag_names};
+use crate::expect::holds;
+use dwz_codes::{Row, attribute_names, forms, list_kinds, operators, tag_names};
 
 #[derive(Clone, Copy)]
 enum Table {
@@ -23,38 +23,35 @@ fn row_of(table: Table, code: u64) -> Option<Row> {
     }
 }
 
-// Names, and None where no row has the code.
-const NAMES: &[(Table, u64, Option<&str>)] = &[
-    (Table::Forms, 0x0e, Some("strp")),
-    (Table::Forms, 0x2c, Some("addrx4")),
-    (Table::Operators, 0x8f, Some("breg31")),
-    (Table::Operators, 0xfd, Some("GNU_variable_value")),
-    (Table::ListKinds, 5, Some("default_location")),
-    (Table::TagNames, 0x3d, Some("imported_unit")),
-    (Table::AttributeNames, 0x49, Some("type")),
-    (Table::Forms, 0x00, None),
-    (Table::Forms, 0x02, None),
-    (Table::Forms, 0x2d, None),
-    (Table::Operators, 0xff, None),
-    (Table::ListKinds, 10, None),
-    (Table::TagNames, 0x4109, None),
-    (Table::AttributeNames, 0x2137, None),
-];
+// Whether a row has this name, or there is none where the name is empty.
+fn is_named(row: Option<Row>, name: &str) -> bool {
+    match row {
+        Some(row) => row.name == name,
+        None => name.is_empty(),
+    }
+}
 
-const SHAPES: &[(Table, u64, Shape)] = &[
-    (Table::Forms, 0x0e, Shape::Fixed4),
-    (Table::Forms, 0x01, Shape::Address),
-    (Table::Operators, 0x98, Shape::Refused),
+// Names, each with its code; an empty one where no row has the code.
+const NAMES: &[(Table, u64, &str)] = &[
+    (Table::Forms, 0x0e, "strp"),
+    (Table::Forms, 0x2c, "addrx4"),
+    (Table::Operators, 0x8f, "breg31"),
+    (Table::Operators, 0xfd, "GNU_variable_value"),
+    (Table::ListKinds, 5, "default_location"),
+    (Table::TagNames, 0x3d, "imported_unit"),
+    (Table::AttributeNames, 0x49, "type"),
+    (Table::Forms, 0x00, ""),
+    (Table::Forms, 0x02, ""),
+    (Table::Forms, 0x2d, ""),
+    (Table::Operators, 0xff, ""),
+    (Table::ListKinds, 10, ""),
+    (Table::TagNames, 0x4109, ""),
+    (Table::AttributeNames, 0x2137, ""),
 ];
 
 #[test]
 fn finds_rows_by_code(rt: HostRuntime) {
     for &(table, code, name) in NAMES {
-        let found = row_of(table, code).map(|row| row.name);
-        same_for(&rt, &(code, name), &found, &name);
-    }
-    for &(table, code, shape) in SHAPES {
-        let found = row_of(table, code).map(|row| row.shape);
-        same_for(&rt, &(code, shape), &found, &Some(shape));
+        holds(&rt, name, is_named(row_of(table, code), name));
     }
 }

@@ -1,10 +1,9 @@
-//! Tests of the crates that know nothing of DWARF but codes and bytes: plain data, bytes, the shared table, nodes, rounds, chains, and
-//! batches of jobs.
+//! Tests of the crates that know nothing of DWARF but codes and bytes: bytes, the shared table, nodes, rounds, chains, and batches of jobs.
 //!
 //! A module for each crate that it tests. A crate with tests of its own is proved twice, so these stand on the libraries as their users do.
-//! What no clause says is tested here: that calls succeed with ample memory, that two workers are at work at once (`MeetGate`), the
-//! published hashes of FNV-1a, and small graphs that were worked out by hand. Compare by `same` and `same_for` of `expect`, which are
-//! proved once.
+//! What no clause says is tested here: that calls succeed with ample memory, that two workers are at work at once (`Watch`), the published
+//! hashes of FNV-1a, and small graphs that were worked out by hand. A test ends where memory runs out, so no test hands on an error; graphs
+//! are texts, of which only one function is proved (`graph`).
 #![tactic(auto)]
 
 #[cfg(test)]
@@ -18,18 +17,16 @@ mod chains;
 #[cfg(test)]
 mod codes;
 #[cfg(test)]
-mod core_steps;
-#[cfg(test)]
 mod expect;
 #[cfg(test)]
 mod gate;
-#[cfg(test)]
-mod model;
 #[cfg(test)]
 mod nodes;
 #[cfg(test)]
 mod rounds;
 #[cfg(test)]
-mod rounds_turns;
+mod shapes;
 #[cfg(test)]
 mod table;
+#[cfg(test)]
+mod watch;

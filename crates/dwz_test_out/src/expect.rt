@@ -1,19 +1,8 @@
 //! How tests compare: a comparison that stands here is proved once, and each test only calls it.
 
-use std::fmt::Debug;
 use std::process::Abort;
 
-/// Ends the test, with both values, unless what is found is what is expected.
-pub(crate) fn same<R: Abort, T: PartialEq + Debug>(rt: &R, found: &T, expected: &T) {
-    assert_eq!(rt; found, expected);
-}
-
-/// The same, and says of which row of a table they are.
-pub(crate) fn same_for<R: Abort, W: Debug, T: PartialEq + Debug>(
-    rt: &R,
-    row: &W,
-    found: &T,
-    expected: &T,
-) {
-    assert_eq!(rt; found, expected, "for {row:?}");
+/// Ends the test, and says of which row, unless this holds.
+pub(crate) fn holds(rt: &impl Abort, row: &str, is: bool) {
+    assert!(rt; is, "{row}");
 }

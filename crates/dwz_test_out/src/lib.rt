@@ -1,14 +1,11 @@
-//! Tests of what leaves the program: files that are made, texts, the command line, and files on a disk.
+//! Tests of what leaves the program: texts, the command line, common files, demonstrations, and files on a disk.
 //!
 //! A module for each crate that it tests. A crate with tests of its own is proved twice, so these stand on the libraries as their users do.
-//! Here a real file is written, read back and replaced, and some 90 command lines are read, whose answers come from a model that was
-//! written independently. Compare by `same` and `same_for` of `expect`, which are proved once.
+//! Here some 90 command lines are read, whose answers come from a model that was written independently, and files are put on a disk. Whole
+//! runs, with the files that are put and the texts, are rows of `dwz_test_rows`. A test ends where memory runs out; to hand on an error costs
+//! more proof, as each value that is there is dropped.
 #![tactic(auto)]
 
-#[cfg(test)]
-mod after;
-#[cfg(test)]
-mod course;
 #[cfg(test)]
 mod demo;
 #[cfg(test)]
@@ -17,8 +14,6 @@ mod expect;
 mod outside;
 #[cfg(test)]
 mod report;
-#[cfg(test)]
-mod small_file;
 #[cfg(test)]
 mod sup;
 #[cfg(test)]

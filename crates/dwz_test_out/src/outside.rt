@@ -1,143 +1,13 @@
-//! Files in memory and on a disk, and consoles: what is done to them, step by step, and what is then seen of them.
+//! Files on a disk, and the console: what is done to them, step by step, and what is then seen of them. Files and consoles in memory are
+//! those of the rows of `dwz_test_rows`.
 
-use crate::expect::same_for;
-use dwz_outside::{Console, DiskFiles, Failed, Files, GetErr, MemConsole, MemFiles, StdConsole};
-use std::alloc::{AllocError, Global};
+use crate::expect::holds;
+use dwz_outside::{Console, DiskFiles, Files, GetErr, StdConsole};
+use std::alloc::Global;
 use std::fs::Permissions;
 use std::os::unix::fs::PermissionsExt;
-use std::test::Fail;
-use std::{fs, process};
-
-/// Whether a get of this name gives these bytes, or fails, other than for want of memory, where there are none.
-fn gives<F: Files>(alloc: Global, files: &mut F, name: &[u8], expected: Option<&[u8]>) -> bool {
-    match files.get(alloc, name) {
-        Ok(content) => expected == Some(content.as_slice()),
-        Err(GetErr::Failed) => expected.is_none(),
-        Err(GetErr::NoMemory) => false,
-    }
-}
-
-/// Whether a put of this name is done.
-fn is_put<F: Files>(
-    alloc: Global,
-    files: &mut F,
-    name: &[u8],
-    bytes: &[u8],
-) -> Result<bool, AllocError> {
-    let name = Vec::from_slice(alloc, name)?;
-    Ok(files.put(name, bytes).is_ok())
-}
-
-/// Whether this is held, or nothing.
-fn holds(files: &MemFiles, name: &[u8], expected: Option<&[u8]>) -> bool {
-    match files.content(name) {
-        Some(content) => match expected {
-            Some(bytes) => content == bytes,
-            None => false,
-        },
-        None => expected.is_none(),
-    }
-}
-
-/// What is done to files in memory.
-enum InMemory {
-    Add(&'static str, &'static [u8]),
-    /// For so many puts, of so many bytes.
-    Reserve(u32, u64),
-    FailGet(u32),
-    FailPut(u32),
-    /// With what it gives. None: it fails.
-    Get(&'static str, Option<&'static [u8]>),
-    /// With whether it is done.
-    Put(&'static str, &'static [u8], bool),
-    /// With what is held.
-    Look(&'static str, Option<&'static [u8]>),
-}
-
-use InMemory::{Add, FailGet, FailPut, Get, Look, Put, Reserve};
-
-/// Steps, each with what it shows.
-const GIVE: &[(&str, InMemory)] = &[
-    ("adds", Add("a", b"first")),
-    ("adds another", Add("b", b"other")),
-    ("has room", Reserve(2, 9)),
-    ("gives what was added", Get("a", Some(b"first"))),
-    ("puts", Put("a", b"second", true)),
-    ("adds once more", Add("c", b"")),
-    ("gives what was put", Get("a", Some(b"second"))),
-    ("keeps the other", Get("b", Some(b"other"))),
-    ("gives an empty one", Get("c", Some(b""))),
-    ("puts a new one", Put("new", b"xyz", true)),
-    ("holds it", Look("new", Some(b"xyz"))),
-    ("holds no more", Look("d", None)),
-];
-
-const FAIL: &[(&str, InMemory)] = &[
-    ("adds", Add("a", b"first")),
-    ("not held", Get("b", None)),
-    ("tells a get", FailGet(1)),
-    ("told to fail", Get("a", None)),
-    ("no more told", Get("a", Some(b"first"))),
-    ("no room for a put", Put("a", b"", false)),
-    ("has room", Reserve(1, 3)),
-    ("no room for its bytes", Put("a", b"1234", false)),
-    ("tells a put", FailPut(2)),
-    ("told to fail", Put("a", b"123", false)),
-    ("keeps its content", Look("a", Some(b"first"))),
-    ("puts", Put("a", b"123", true)),
-    ("the room is used", Put("a", b"", false)),
-    ("holds it", Look("a", Some(b"123"))),
-];
-
-/// Whether a step is done as it says.
-fn is_done(alloc: Global, files: &mut MemFiles, step: &InMemory) -> Result<bool, AllocError> {
-    match step {
-        InMemory::Add(name, bytes) => Ok(files.add(name.as_bytes(), bytes).is_ok()),
-        InMemory::Reserve(puts, bytes) => Ok(files.reserve(*puts, *bytes).is_ok()),
-        InMemory::FailGet(call) => Ok(files.fail(true, *call).is_ok()),
-        InMemory::FailPut(call) => Ok(files.fail(false, *call).is_ok()),
-        InMemory::Get(name, gives_it) => Ok(gives(alloc, files, name.as_bytes(), *gives_it)),
-        InMemory::Put(name, bytes, done) => {
-            Ok(is_put(alloc, files, name.as_bytes(), bytes)? == *done)
-        }
-        InMemory::Look(name, content) => Ok(holds(files, name.as_bytes(), *content)),
-    }
-}
-
-#[test]
-fn files_in_memory_give_what_was_put_or_fail_as_told(rt: HostRuntime) -> Result<(), Fail> {
-    for steps in [GIVE, FAIL] {
-        let mut files = MemFiles::new(rt.alloc())?;
-        for (shows, step) in steps {
-            let answer = is_done(rt.alloc(), &mut files, step)?;
-            same_for(&rt, shows, &answer, &true);
-        }
-    }
-    Ok(())
-}
-
-/// Bytes that are put on a console with room for four bytes, whose third put is told to fail.
-const ON_CONSOLE: &[(&str, &[u8], Result<(), Failed>)] = &[
-    ("room", b"ab", Ok(())),
-    ("told to fail", b"c", Err(Failed)),
-    ("not enough room", b"cde", Err(Failed)),
-    ("just enough room", b"cd", Ok(())),
-];
-
-#[test]
-fn consoles_keep_or_write_what_was_put(rt: HostRuntime) -> Result<(), Fail> {
-    let mut console = MemConsole::new(rt.alloc())?;
-    same_for(&rt, &"no room", &console.put(b"x"), &Err(Failed));
-    console.reserve(4)?;
-    console.fail(2)?;
-    for (shows, bytes, answer) in ON_CONSOLE {
-        same_for(&rt, shows, &console.put(bytes), answer);
-    }
-    same_for(&rt, &"kept", &console.text(), &b"abcd".as_slice());
-    let answer = StdConsole::new(&rt).put(b"written by a test\n");
-    same_for(&rt, &"written", &answer, &Ok(()));
-    Ok(())
-}
+use std::process::Abort;
+use std::{fs, process, rt};
 
 /// What is done to a file on a disk, or seen of it.
 #[derive(Clone, Copy)]
@@ -221,57 +91,92 @@ const FOLDERS: &[Folder] = &[
     },
 ];
 
+/// Whether a get of this name gives these bytes, or fails, other than for want of memory, where there are none.
+fn gives<R: rt::Files>(
+    alloc: Global,
+    files: &mut DiskFiles<'_, R>,
+    name: &[u8],
+    expected: Option<&[u8]>,
+) -> bool {
+    match files.get(alloc, name) {
+        Ok(content) => expected == Some(content.as_slice()),
+        Err(GetErr::Failed) => expected.is_none(),
+        Err(GetErr::NoMemory) => false,
+    }
+}
+
+/// Whether a put of this name is done.
+fn is_put<R: rt::Files + Abort>(
+    rt: &R,
+    alloc: Global,
+    files: &mut DiskFiles<'_, R>,
+    name: &[u8],
+    bytes: &[u8],
+) -> bool {
+    let name = Vec::from_slice(alloc, name).expect(rt, "memory");
+    files.put(name, bytes).is_ok()
+}
+
 /// The permission bits of a file.
-fn mode_of(rt: &HostRuntime, path: &str) -> Result<u32, Fail> {
-    Ok(fs::metadata(rt, path)?.permissions().mode() & 0o777)
+fn mode_of<R: rt::Files + Abort>(rt: &R, path: &str) -> u32 {
+    let metadata = fs::metadata(rt, path).expect(rt, "a file");
+    metadata.permissions().mode() & 0o777
 }
 
 /// Whether a step with this path goes as it says.
-fn goes(
-    rt: &HostRuntime,
+fn goes<R: rt::Files + Abort>(
+    rt: &R,
     alloc: Global,
-    files: &mut DiskFiles<'_, HostRuntime>,
+    files: &mut DiskFiles<'_, R>,
     path: &str,
     step: OnDisk,
-) -> Result<bool, Fail> {
+) -> bool {
     match step {
-        OnDisk::Write(bytes) => Ok(fs::write(rt, path, bytes).is_ok()),
+        OnDisk::Write(bytes) => fs::write(rt, path, bytes).is_ok(),
         OnDisk::SetMode(mode) => {
-            Ok(fs::set_permissions(rt, path, Permissions::from_mode(mode)).is_ok())
+            fs::set_permissions(rt, path, Permissions::from_mode(mode)).is_ok()
         }
-        OnDisk::Got(content) => Ok(gives(alloc, files, path.as_bytes(), content)),
-        OnDisk::Puts(bytes, done) => Ok(is_put(alloc, files, path.as_bytes(), bytes)? == done),
-        OnDisk::Exists(exists) => Ok(fs::exists(rt, path)? == exists),
-        OnDisk::HasMode(mode) => Ok(mode_of(rt, path)? == mode),
+        OnDisk::Got(content) => gives(alloc, files, path.as_bytes(), content),
+        OnDisk::Puts(bytes, done) => is_put(rt, alloc, files, path.as_bytes(), bytes) == done,
+        OnDisk::Exists(exists) => fs::exists(rt, path).expect(rt, "an answer") == exists,
+        OnDisk::HasMode(mode) => mode_of(rt, path) == mode,
         OnDisk::HasModeOf(ending) => {
-            let other = format!(in alloc; "{path}{ending}")?;
-            Ok(mode_of(rt, path)? == mode_of(rt, other.as_str())?)
+            let other = format!(in alloc; "{path}{ending}").expect(rt, "memory");
+            mode_of(rt, path) == mode_of(rt, other.as_str())
         }
         OnDisk::Link(ending) => {
-            let link = format!(in alloc; "{path}{ending}")?;
-            Ok(fs::hard_link(rt, path, link.as_str()).is_ok())
+            let link = format!(in alloc; "{path}{ending}").expect(rt, "memory");
+            fs::hard_link(rt, path, link.as_str()).is_ok()
         }
         OnDisk::NoText => {
-            Ok(!is_put(alloc, files, b"\xff", b"not text")? && gives(alloc, files, b"\xff", None))
+            !is_put(rt, alloc, files, b"\xff", b"not text") && gives(alloc, files, b"\xff", None)
         }
+    }
+}
+
+/// Goes through the steps of a folder, which is new and goes again.
+fn go_through<R: rt::Files + Abort + AllocGlobal>(rt: &R, alloc: Global, id: u32, folder: &Folder) {
+    let name = format!(in alloc; "/tmp/dwz_outside_{}_{id}", folder.ending).expect(rt, "memory");
+    fs::create_dir(rt, name.as_str()).expect(rt, "a folder");
+    let longest = name.len().saturating_add(folder.longest.len());
+    let mut files = DiskFiles::new(rt, alloc, longest).expect(rt, "memory");
+    for &(shows, end, step) in folder.steps {
+        let path = format!(in alloc; "{name}{end}").expect(rt, "memory");
+        holds(rt, shows, goes(rt, alloc, &mut files, path.as_str(), step));
+    }
+    fs::remove_dir_all(rt, name.as_str()).expect(rt, "the folder");
+}
+
+#[test]
+fn files_on_a_disk_are_got_and_replaced(rt: HostRuntime) {
+    let id = process::id(rt.process());
+    for folder in FOLDERS {
+        go_through(&rt, rt.alloc(), id, folder);
     }
 }
 
 #[test]
-fn files_on_a_disk_are_got_and_replaced(rt: HostRuntime) -> Result<(), Fail> {
-    let alloc = rt.alloc();
-    let id = process::id(rt.process());
-    for folder in FOLDERS {
-        let name = format!(in alloc; "/tmp/dwz_outside_{}_{id}", folder.ending)?;
-        fs::create_dir(&rt, name.as_str())?;
-        let longest = format!(in alloc; "{name}{}", folder.longest)?;
-        let mut files = DiskFiles::new(&rt, alloc, longest.len())?;
-        for &(shows, end, step) in folder.steps {
-            let path = format!(in alloc; "{name}{end}")?;
-            let answer = goes(&rt, alloc, &mut files, path.as_str(), step)?;
-            same_for(&rt, &(end, shows), &answer, &true);
-        }
-        fs::remove_dir_all(&rt, name.as_str())?;
-    }
-    Ok(())
+fn a_text_is_printed(rt: HostRuntime) {
+    let is_done = StdConsole::new(&rt).put(b"written by a test\n").is_ok();
+    holds(&rt, "written", is_done);
 }

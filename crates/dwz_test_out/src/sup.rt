@@ -1,28 +1,24 @@
 //! Bytes from outside: the digest of `abc` that the standard gives, and a file that an independent model makes.
 
-use crate::expect::same;
+use crate::expect::holds;
 use dwz_model::{Blob, Sections};
 use dwz_sup::{checksum, common_file, debug_sup};
 use std::test::Fail;
 
-const ABC: [u8; 32] = [
-    0xba, 0x78, 0x16, 0xbf, 0x8f, 0x01, 0xcf, 0xea, 0x41, 0x41, 0x40, 0xde, 0x5d, 0xae, 0x22, 0x23,
-    0xb0, 0x03, 0x61, 0xa3, 0x96, 0x17, 0x7a, 0x9c, 0xb4, 0x10, 0xff, 0x61, 0xf2, 0x00, 0x15, 0xad,
-];
+const ABC: &[u8; 32] = b"\
+    \xba\x78\x16\xbf\x8f\x01\xcf\xea\x41\x41\x40\xde\x5d\xae\x22\x23\
+    \xb0\x03\x61\xa3\x96\x17\x7a\x9c\xb4\x10\xff\x61\xf2\x00\x15\xad";
 
 #[test]
-fn sums_and_names(rt: HostRuntime) -> Result<(), Fail> {
-    let sums = [checksum(b"a", b"b", b"c"), checksum(b"", b"abc", b"")];
-    same(&rt, &sums, &[ABC; 2]);
-    let mut bytes = debug_sup(rt.alloc(), false, b"x.debug", &ABC)?.into_vec();
-    assert!(rt; bytes.len() == 44);
-    bytes.truncate(14);
-    same(
-        &rt,
-        &bytes.as_slice(),
-        &b"\x05\0\0x.debug\0\x20\xba\x78".as_slice(),
-    );
-    Ok(())
+fn sums_and_names(rt: HostRuntime) {
+    holds(&rt, "three", checksum(b"a", b"b", b"c") == *ABC);
+    holds(&rt, "one", checksum(b"", b"abc", b"") == *ABC);
+    let bytes = debug_sup(rt.alloc(), false, b"x.debug", ABC).expect(&rt, "memory");
+    let bytes = bytes.as_slice();
+    let told = b"\x05\0\0x.debug\0\x20\xba\x78";
+    holds(&rt, "its length", bytes.len() == 44);
+    holds(&rt, "its start", bytes.starts_with(told.as_slice()));
+    holds(&rt, "its sum", bytes.ends_with(ABC.as_slice()));
 }
 
 // The file of `.debug_info` 1, 2, 3, `.debug_abbrev` 4 and `.debug_str` `a`, for machine 183: the file header, the contents, the
@@ -64,10 +60,7 @@ fn makes_the_file_of_the_model(rt: HostRuntime) -> Result<(), Fail> {
         loclists: None,
         aranges: None,
     };
-    same(
-        &rt,
-        &common_file(alloc, 183, 0x0500_0400, &sections)?.as_slice(),
-        &FILE,
-    );
+    let file = common_file(alloc, 183, 0x0500_0400, &sections)?;
+    holds(&rt, "all bytes", file.as_slice() == FILE);
     Ok(())
 }

@@ -1,11 +1,12 @@
-use crate::expect::same_for;
+use crate::expect::holds;
 use dwz_model::Blob;
 use dwz_words::{Options, WordsErr, parse};
-use std::alloc::{AllocError, Global};
+use std::alloc::Global;
+use std::process::Abort;
 use std::str;
-use std::test::Fail;
 
-/// In a line words, apart at single blanks, and their answer: "usage", or the options as plain words.
+/// In a line words, apart at single blanks, and their answer: "usage", or the options as plain words. In a word `!` stands for a zero byte,
+/// and `?` for one that is no text.
 const ANSWERS: &str = r"# no job, or two
  => usage
 -q => usage
@@ -104,106 +105,110 @@ a b a => usage
 -o  a => usage
 -o= a => usage
 -m= a => usage
--m c -M  a => usage";
+-m c -M  a => usage
+# with zero bytes, and with a byte that is no text
+a! => usage
+-o! a => usage
+a? => usage";
 
 /// The words between the blanks.
-pub(crate) fn words_of(alloc: Global, line: &str) -> Result<Vec<Vec<u8>>, AllocError> {
+fn words_of(rt: &impl Abort, alloc: Global, line: &str) -> Vec<Vec<u8>> {
     let mut words = Vec::new(alloc);
-    if !line.is_empty() {
-        for word in line.split(' ') {
-            words.push(Vec::from_slice(alloc, word.as_bytes())?)?;
-        }
+    if line.is_empty() {
+        return words;
     }
-    Ok(words)
+    for text in line.split(' ') {
+        let mut word = Vec::new(alloc);
+        for &byte in text.as_bytes() {
+            let byte = match byte {
+                b'!' => 0,
+                b'?' => 0xff,
+                _ => byte,
+            };
+            word.push(byte).expect(rt, "memory");
+        }
+        words.push(word).expect(rt, "memory");
+    }
+    words
 }
 
-/// FILEs `f0`, `f1` and so on.
-fn files(alloc: Global, count: u32) -> Result<Vec<Vec<u8>>, AllocError> {
-    let mut words = Vec::new(alloc);
-    for i in 0..count {
-        words.push(format!(in alloc; "f{i}")?.into_bytes())?;
-    }
-    Ok(words)
+fn put(rt: &impl Abort, text: &mut String, part: &str) {
+    text.push_str(part).expect(rt, "memory");
 }
 
-fn push_option(text: &mut String, letter: &str, value: &Option<Blob>) -> Result<(), AllocError> {
-    match value {
-        Some(value) => {
-            let value = str::from_utf8(value.as_slice()).unwrap_or("no text");
-            write!(text, "{letter} {value} ")
-        }
-        None => Ok(()),
+fn put_option(rt: &impl Abort, text: &mut String, letter: &str, value: &Option<Blob>) {
+    if let Some(value) = value {
+        put(rt, text, letter);
+        put(
+            rt,
+            text,
+            str::from_utf8(value.as_slice()).unwrap_or("no text"),
+        );
+        put(rt, text, " ");
     }
 }
 
 /// The options as plain words, always in this order, with FILEs after `--`.
-fn plain(alloc: Global, options: &Options) -> Result<String, AllocError> {
+fn plain(rt: &impl Abort, alloc: Global, options: &Options) -> String {
     let mut text = String::new(alloc);
     if options.quiet {
-        text.push_str("-q ")?;
+        put(rt, &mut text, "-q ");
     }
-    push_option(&mut text, "-m", &options.common)?;
-    push_option(&mut text, "-M", &options.name)?;
-    push_option(&mut text, "-o", &options.out)?;
-    write!(text, "-j {}", options.workers)?;
+    put_option(rt, &mut text, "-m ", &options.common);
+    put_option(rt, &mut text, "-M ", &options.name);
+    put_option(rt, &mut text, "-o ", &options.out);
+    write!(text, "-j {}", options.workers).expect(rt, "memory");
     if let Some(number) = options.demo {
-        write!(text, " --demo {number}")?;
+        write!(text, " --demo {number}").expect(rt, "memory");
     }
-    text.push_str(" --")?;
+    put(rt, &mut text, " --");
     for file in options.files.as_slice() {
-        let file = str::from_utf8(file.as_slice()).unwrap_or("no text");
-        write!(text, " {file}")?;
+        put(rt, &mut text, " ");
+        put(
+            rt,
+            &mut text,
+            str::from_utf8(file.as_slice()).unwrap_or("no text"),
+        );
     }
-    Ok(text)
+    text
 }
 
-fn answer(alloc: Global, words: &[Vec<u8>]) -> Result<String, AllocError> {
+// Whether that is the answer to words.
+fn is_answer(rt: &impl Abort, alloc: Global, words: &[Vec<u8>], want: &str) -> bool {
     match parse(alloc, words) {
-        Ok(options) => plain(alloc, &options),
-        Err(WordsErr::Usage) => format!(in alloc; "usage"),
-        Err(WordsErr::NoMemory) => format!(in alloc; "no memory"),
-    }
-}
-
-/// Words that no line has: with zero bytes, and with a byte that is no text.
-const REFUSED: &[&[&[u8]]] = &[&[b"a\0"], &[b"-o\0", b"a"], &[b"a\xff"]];
-
-fn answer_to(alloc: Global, words: &[&[u8]]) -> Result<String, AllocError> {
-    let mut all = Vec::new(alloc);
-    for word in words {
-        all.push(Vec::from_slice(alloc, word)?)?;
-    }
-    answer(alloc, &all)
-}
-
-fn answer_to_line(alloc: Global, line: &str) -> Result<String, AllocError> {
-    answer(alloc, words_of(alloc, line)?.as_slice())
-}
-
-/// How many FILEs there are in an answer to so many; none where it is another one.
-fn files_of(alloc: Global, count: u32) -> Result<usize, AllocError> {
-    match parse(alloc, files(alloc, count)?.as_slice()) {
-        Ok(options) => Ok(options.files.len()),
-        Err(WordsErr::Usage) => Ok(0),
-        Err(WordsErr::NoMemory) => Err(AllocError),
+        Ok(options) => plain(rt, alloc, &options).as_str() == want,
+        Err(WordsErr::Usage) => want == "usage",
+        Err(WordsErr::NoMemory) => false,
     }
 }
 
 #[test]
-fn words_have_their_answers(rt: HostRuntime) -> Result<(), Fail> {
+fn words_have_their_answers(rt: HostRuntime) {
     for line in ANSWERS.lines() {
         if !line.starts_with('#') {
-            let (words, want) = line.split_once(" => ").ok_or("a line")?;
-            let got = answer_to_line(rt.alloc(), words)?;
-            same_for(&rt, &words, &got.as_str(), &want);
+            let (told, want) = line.split_once(" => ").expect(&rt, "a line");
+            let words = words_of(&rt, rt.alloc(), told);
+            let is = is_answer(&rt, rt.alloc(), words.as_slice(), want);
+            holds(&rt, line, is);
         }
     }
-    for words in REFUSED {
-        let got = answer_to(rt.alloc(), words)?;
-        same_for(&rt, words, &got.as_str(), &"usage");
+}
+
+/// How many FILEs are taken where there are so many, `f0`, `f1` and so on; none where the words aren't lawful.
+fn taken(rt: &impl Abort, alloc: Global, count: u32) -> usize {
+    let mut words = Vec::new(alloc);
+    for i in 0..count {
+        let word = format!(in alloc; "f{i}").expect(rt, "memory");
+        words.push(word.into_bytes()).expect(rt, "memory");
     }
-    for (count, want) in [(256, 256), (257, 0)] {
-        same_for(&rt, &count, &files_of(rt.alloc(), count)?, &want);
+    match parse(alloc, words.as_slice()) {
+        Ok(options) => options.files.len(),
+        Err(_) => 0,
     }
-    Ok(())
+}
+
+#[test]
+fn takes_256_files_and_no_more(rt: HostRuntime) {
+    holds(&rt, "256", taken(&rt, rt.alloc(), 256) == 256);
+    holds(&rt, "257", taken(&rt, rt.alloc(), 257) == 0);
 }

@@ -1,6 +1,6 @@
-//! How tests compare: a comparison that stands here is proved once, and each test only calls it.
+//! How tests compare, and how they read tables. What stands here is proved once, and each test only calls it.
 
-use dwz_model::ReadErr;
+use std::alloc::Global;
 use std::fmt::Debug;
 use std::process::Abort;
 
@@ -9,25 +9,29 @@ pub(crate) fn same<R: Abort, T: PartialEq + Debug>(rt: &R, found: &T, expected: 
     assert_eq!(rt; found, expected);
 }
 
-/// The same, and says of which row of a table they are.
-pub(crate) fn same_for<R: Abort, W: Debug, T: PartialEq + Debug>(
+/// Ends the test, with the row of a table, unless a value is printed as is expected.
+pub(crate) fn prints_as<R: Abort, T: Debug>(
     rt: &R,
-    row: &W,
+    alloc: Global,
+    row: &str,
     found: &T,
-    expected: &T,
+    expected: &str,
 ) {
-    assert_eq!(rt; found, expected, "for {row:?}");
+    let printed = format!(in alloc; "{found:?}").expect(rt, "no memory");
+    assert_eq!(rt; printed.as_str(), expected, "for {row}");
 }
 
-/// The same of what is read, or is refused.
-pub(crate) fn same_read<R: Abort, W: Debug, T: PartialEq + Debug>(
-    rt: &R,
-    row: &W,
-    found: &Result<Vec<T>, ReadErr>,
-    expected: &Result<&[T], ReadErr>,
-) {
-    match found {
-        Ok(list) => same_for(rt, row, &Ok(list.as_slice()), expected),
-        Err(error) => same_for(rt, row, &Err(*error), expected),
-    }
+/// The text before the first bar, and what stands behind it.
+pub(crate) fn split_bar<'a, R: Abort>(rt: &R, text: &'a str) -> (&'a str, &'a str) {
+    text.split_once('|').expect(rt, "a bar")
+}
+
+/// The bytes that are spelled in hexadecimal.
+pub(crate) fn bytes_of<R: Abort>(rt: &R, alloc: Global, digits: &str) -> Vec<u8> {
+    hex::decode(alloc, digits).expect(rt, "bytes in hexadecimal")
+}
+
+/// The number that is spelled in decimal.
+pub(crate) fn number_of<R: Abort>(rt: &R, digits: &str) -> u32 {
+    digits.parse::<u32>().expect(rt, "a number")
 }

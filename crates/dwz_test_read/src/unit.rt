@@ -1,289 +1,238 @@
-//! Units spelled by hand, by the standard's section 7.5.
+//! Units spelled by hand, by the standard's section 7.5: of files, of finished common files, and of files that may refer to one (7.3.6).
 
 ghost use Rattle.std.specs.Prelude.{◌<◌, ◌^◌, length};
 
-use crate::expect::{same, same_for};
-use dwz_model::{Fault, NoMemory, ReadErr, Reason};
-use dwz_unit::Units;
+use crate::expect::{bytes_of, number_of, prints_as, same, split_bar};
+use dwz_forms::Raw;
+use dwz_model::{Pair, ReadErr};
+use dwz_unit::{RawAttr, RawEntry, RawUnit, Units};
 use std::alloc::Global;
-use std::test::Fail;
 
-// A compile unit with children, and a base type with a name, a size and an encoding.
-pub(crate) const TABLE: &[u8] = &[
-    1, 0x11, 1, 0, 0, 2, 0x24, 0, 0x03, 0x08, 0x0b, 0x0b, 0x3e, 0x0b, 0, 0, 0,
-];
+// How a file is read, how many entries there may be, its units, their tables; and how many units and entries there are, or the first
+// fault. The files have two compile units; a partial unit; a partial unit with the root of a compile unit; an entry with a text and a type
+// in a supplementary file, in a compile unit and in a partial one; an offset of another section below the root of a partial unit and of a
+// compile unit; an entry with one value, of a form that is read or isn't read there; two units where there is room for their entries and
+// where there isn't; and no unit.
+const READ: &str = "\
+given|9|1100000005000108000000000102696e74000405001100000005000108000000000102696e7400040500|011101000002240003080b0b3e0b000000|\
+Ok((2, 4))
+common|9|1100000005000108000000000102696e74000405001100000005000108000000000102696e7400040500|011101000002240003080b0b3e0b000000|\
+Err(Refused(Fault { section: 1, at: 0, reason: UnitType }))
+back|9|1100000005000108000000000102696e74000405001100000005000108000000000102696e7400040500|011101000002240003080b0b3e0b000000|\
+Ok((2, 4))
+beside|9|1100000005000108000000000102696e74000405001100000005000108000000000102696e7400040500|011101000002240003080b0b3e0b000000|\
+Ok((2, 4))
+given|9|140000000500030800000000010000000002050000000400|013c0110170000022400030e0b0b000000|\
+Err(Refused(Fault { section: 1, at: 0, reason: UnitType }))
+common|9|140000000500030800000000010000000002050000000400|013c0110170000022400030e0b0b000000|\
+Ok((1, 2))
+back|9|140000000500030800000000010000000002050000000400|013c0110170000022400030e0b0b000000|\
+Ok((1, 2))
+beside|9|140000000500030800000000010000000002050000000400|013c0110170000022400030e0b0b000000|\
+Ok((1, 2))
+common|9|140000000500030800000000010000000002050000000400|011101000002240003080b0b3e0b000000|\
+Err(Refused(Fault { section: 1, at: 12, reason: BadRoot }))
+back|9|140000000500030800000000010000000002050000000400|011101000002240003080b0b3e0b000000|\
+Err(Refused(Fault { section: 1, at: 12, reason: BadRoot }))
+given|9|1300000005000108000000000102050000000c00000000|0111010000023400031d491c000000|\
+Err(Refused(Fault { section: 1, at: 13, reason: UnsupportedForm { form: 29 } }))
+back|9|1300000005000108000000000102050000000c00000000|0111010000023400031d491c000000|\
+Err(Refused(Fault { section: 1, at: 13, reason: UnsupportedForm { form: 29 } }))
+beside|9|1300000005000108000000000102050000000c00000000|0111010000023400031d491c000000|\
+Ok((1, 2))
+common|9|1300000005000308000000000102050000000c00000000|013c010000023400031d491c000000|\
+Err(Refused(Fault { section: 1, at: 13, reason: UnsupportedForm { form: 29 } }))
+back|9|1300000005000308000000000102050000000c00000000|013c010000023400031d491c000000|\
+Err(Refused(Fault { section: 1, at: 13, reason: UnsupportedForm { form: 29 } }))
+beside|9|1300000005000308000000000102050000000c00000000|013c010000023400031d491c000000|\
+Ok((1, 2))
+common|9|0f000000050003080000000001020500000000|013c0100000234000217000000|\
+Err(Refused(Fault { section: 1, at: 13, reason: UnsupportedForm { form: 23 } }))
+back|9|0f000000050003080000000001020500000000|013c0100000234000217000000|\
+Err(Refused(Fault { section: 1, at: 13, reason: UnsupportedForm { form: 23 } }))
+beside|9|0f000000050003080000000001020500000000|013c0100000234000217000000|\
+Err(Refused(Fault { section: 1, at: 13, reason: UnsupportedForm { form: 23 } }))
+given|9|0f000000050001080000000001020500000000|01110100000234000217000000|\
+Ok((1, 2))
+back|9|0f000000050001080000000001020500000000|01110100000234000217000000|\
+Ok((1, 2))
+beside|9|0f000000050001080000000001020500000000|01110100000234000217000000|\
+Ok((1, 2))
+beside|9|0d00000005000108000000000102010203|0111010000023400031c000000|\
+Err(Refused(Fault { section: 1, at: 14, reason: Truncated }))
+beside|9|1300000005000108000000000102000000000000000000|01110100000234000324000000|\
+Err(Refused(Fault { section: 1, at: 13, reason: UnsupportedForm { form: 36 } }))
+beside|9|0f000000050001080000000001020c00000000|01110100000234000313000000|\
+Ok((1, 2))
+common|9|0f000000050003080000000001020c00000000|013c0100000234000310000000|\
+Ok((1, 2))
+common|9|0c000000050003080000000001020c00|013c0100000234000311000000|\
+Err(Refused(Fault { section: 1, at: 13, reason: UnsupportedForm { form: 17 } }))
+common|9|0c000000050003080000000001020000|013c010000023400031a000000|\
+Err(Refused(Fault { section: 1, at: 13, reason: UnsupportedForm { form: 26 } }))
+common|9|0f000000050003080000000001020000000000|013c010000023400031c000000|\
+Err(Refused(Fault { section: 1, at: 13, reason: UnsupportedForm { form: 28 } }))
+common|9|0f000000050003080000000001020000000000|013c010000023400031f000000|\
+Err(Refused(Fault { section: 1, at: 13, reason: UnsupportedForm { form: 31 } }))
+beside|9|1300000005000108000000000102000000000000000000|01110100000234000301000000|\
+Ok((1, 2))
+beside|9|1300000005000308000000000102000000000000000000|013c0100000234000301000000|\
+Err(Refused(Fault { section: 1, at: 13, reason: UnsupportedForm { form: 1 } }))
+beside|9|0c000000050003080000000001020000|013c0100000234000323000000|\
+Err(Refused(Fault { section: 1, at: 13, reason: UnsupportedForm { form: 35 } }))
+beside|9|0f000000050003080000000001020000000000|013c010000023400032c000000|\
+Err(Refused(Fault { section: 1, at: 13, reason: UnsupportedForm { form: 44 } }))
+back|9|0f000000050003080000000001020c00000000|013c0100000234000313000000|\
+Ok((1, 2))
+given|9|0f000000050001080000000001020000000000|0111010000023400031c000000|\
+Err(Refused(Fault { section: 1, at: 13, reason: UnsupportedForm { form: 28 } }))
+given|4|1100000005000108000000000102696e74000405001100000005000108000000000102696e7400040500|011101000002240003080b0b3e0b000000|\
+Ok((2, 4))
+given|3|1100000005000108000000000102696e74000405001100000005000108000000000102696e7400040500|011101000002240003080b0b3e0b000000|\
+Err(Refused(Fault { section: 1, at: 34, reason: TooMany }))
+given|2|1100000005000108000000000102696e74000405001100000005000108000000000102696e7400040500|011101000002240003080b0b3e0b000000|\
+Err(Refused(Fault { section: 1, at: 33, reason: TooMany }))
+given|0|1100000005000108000000000102696e74000405001100000005000108000000000102696e7400040500|011101000002240003080b0b3e0b000000|\
+Err(Refused(Fault { section: 1, at: 12, reason: TooMany }))
+given|0|||\
+Ok((0, 0))";
 
-// The same, where the size has the form DW_FORM_indirect.
-const INDIRECT: &[u8] = &[
-    1, 0x11, 1, 0, 0, 2, 0x24, 0, 0x03, 0x08, 0x0b, 0x16, 0x3e, 0x0b, 0, 0, 0,
-];
-
-// The same, where the size has the form DW_FORM_udata.
-const UDATA: &[u8] = &[
-    1, 0x11, 1, 0, 0, 2, 0x24, 0, 0x03, 0x08, 0x0b, 0x0f, 0x3e, 0x0b, 0, 0, 0,
-];
-
-// Two units, each a compile unit with the base type int, 4, 5.
-pub(crate) const TWO: &[u8] = &[
-    0x11, 0, 0, 0, 5, 0, 1, 8, 0, 0, 0, 0, 1, 2, 0x69, 0x6e, 0x74, 0, 4, 5, 0, // the second
-    0x11, 0, 0, 0, 5, 0, 1, 8, 0, 0, 0, 0, 1, 2, 0x69, 0x6e, 0x74, 0, 4, 5, 0,
-];
-
-// The bytes, as far as a call takes them.
-fn few(bytes: &[u8]) -> &[u8]
-    ensures { length result.now < 2 ^ 32 }
-{
-    &bytes[..bytes.len().min(4096)]
-}
-
-/// The units of these bytes, if there are at most so many entries.
-pub(crate) fn read<'a>(
+fn read_how<'a>(
     alloc: Global,
+    how: &str,
     info: &'a [u8],
     abbrevs: &'a [u8],
     room: u32,
-) -> Result<Units<'a>, ReadErr> {
-    Units::read(alloc, few(info), few(abbrevs), room)
-}
-
-/// The fault of reading units, or None.
-pub(crate) fn fault_of(alloc: Global, info: &[u8], abbrevs: &[u8], room: u32) -> Option<Fault> {
-    match read(alloc, info, abbrevs, room) {
-        Err(ReadErr::Refused(fault)) => Some(fault),
-        _ => None,
-    }
-}
-
-/// A fault in `.debug_info`.
-pub(crate) fn in_info(at: u64, reason: Reason) -> Option<Fault> {
-    Some(Fault {
-        section: 1,
-        at,
-        reason,
-    })
-}
-
-// A base type, and at 5 a compile unit with children.
-pub(crate) const ENDING: &[u8] = &[2, 0x24, 0, 0, 0, 1, 0x11, 1, 0, 0, 0];
-
-// Units, their tables, and how many entries there may be; and the first fault: its section, its place and what it is.
-struct Row {
-    shows: &'static str,
-    info: &'static [u8],
-    abbrevs: &'static [u8],
-    room: u32,
-    fault: Option<(u8, u64, Reason)>,
-}
-
-const ROWS: &[Row] = &[
-    Row {
-        shows: "a length that isn't whole",
-        info: &[0x11, 0, 0],
-        abbrevs: TABLE,
-        room: 9,
-        fault: Some((1, 0, Reason::Truncated)),
-    },
-    Row {
-        shows: "a length that is reserved",
-        info: &[0xf0, 0xff, 0xff, 0xff],
-        abbrevs: TABLE,
-        room: 9,
-        fault: Some((1, 0, Reason::DwarfFormat)),
-    },
-    Row {
-        shows: "a unit that ends past the section, and has the version 4",
-        info: &[9, 0, 0, 0, 4, 0, 1, 8, 0, 0, 0, 0],
-        abbrevs: TABLE,
-        room: 9,
-        fault: Some((1, 0, Reason::Truncated)),
-    },
-    Row {
-        shows: "a header that isn't whole",
-        info: &[7, 0, 0, 0, 5, 0, 1, 8, 0, 0, 0],
-        abbrevs: TABLE,
-        room: 9,
-        fault: Some((1, 0, Reason::Truncated)),
-    },
-    Row {
-        shows: "the version 4, and a partial unit",
-        info: &[8, 0, 0, 0, 4, 0, 3, 8, 0, 0, 0, 0],
-        abbrevs: TABLE,
-        room: 9,
-        fault: Some((1, 0, Reason::Version)),
-    },
-    Row {
-        shows: "a partial unit, and addresses of four bytes",
-        info: &[8, 0, 0, 0, 5, 0, 3, 4, 0, 0, 0, 0],
-        abbrevs: TABLE,
-        room: 9,
-        fault: Some((1, 0, Reason::UnitType)),
-    },
-    Row {
-        shows: "a type unit, and addresses of four bytes",
-        info: &[8, 0, 0, 0, 5, 0, 2, 4, 0, 0, 0, 0],
-        abbrevs: TABLE,
-        room: 9,
-        fault: Some((1, 0, Reason::AddressSize)),
-    },
-    Row {
-        shows: "a type unit of 23 bytes",
-        info: &[
-            19, 0, 0, 0, 5, 0, 2, 8, 99, 0, 0, 0, 0, 0, 0, 0, 0, 0, 0, 0, 0, 0, 0,
-        ],
-        abbrevs: TABLE,
-        room: 9,
-        fault: Some((1, 0, Reason::Truncated)),
-    },
-    Row {
-        shows: "a table past the section",
-        info: &[8, 0, 0, 0, 5, 0, 1, 8, 18, 0, 0, 0],
-        abbrevs: TABLE,
-        room: 9,
-        fault: Some((2, 18, Reason::BadAbbrev)),
-    },
-    Row {
-        shows: "a table with a code twice",
-        info: TWO,
-        abbrevs: &[1, 0x11, 1, 0, 0, 1, 0x24, 0, 0, 0, 0],
-        room: 9,
-        fault: Some((2, 5, Reason::BadAbbrev)),
-    },
-    Row {
-        shows: "a code of the table that ends with the unit's",
-        info: &[
-            11, 0, 0, 0, 5, 0, 1, 8, 0, 0, 0, 0, 1, 2, 0, // with a base type in the second unit
-            11, 0, 0, 0, 5, 0, 1, 8, 5, 0, 0, 0, 1, 2, 0,
-        ],
-        abbrevs: ENDING,
-        room: 9,
-        fault: Some((1, 28, Reason::NoSuchCode)),
-    },
-    Row {
-        shows: "room for the entries of both units",
-        info: TWO,
-        abbrevs: TABLE,
-        room: 4,
-        fault: None,
-    },
-    Row {
-        shows: "room for one entry less",
-        info: TWO,
-        abbrevs: TABLE,
-        room: 3,
-        fault: Some((1, 0x22, Reason::TooMany)),
-    },
-    Row {
-        shows: "room for the first unit's",
-        info: TWO,
-        abbrevs: TABLE,
-        room: 2,
-        fault: Some((1, 0x21, Reason::TooMany)),
-    },
-    Row {
-        shows: "no room",
-        info: TWO,
-        abbrevs: TABLE,
-        room: 0,
-        fault: Some((1, 0x0c, Reason::TooMany)),
-    },
-];
-
-#[test]
-fn names_first_faults(rt: HostRuntime) {
-    for row in ROWS {
-        let fault = match row.fault {
-            None => None,
-            Some((section, at, reason)) => Some(Fault {
-                section,
-                at,
-                reason,
-            }),
-        };
-        let found = fault_of(rt.alloc(), row.info, row.abbrevs, row.room);
-        same_for(&rt, &row.shows, &found, &fault);
-    }
-}
-
-// The bytes of a tree, its table, and the place of its first fault.
-const TREES: &[(&[u8], &[u8], u64, Reason)] = &[
-    // The code 3, and a code of eleven bytes.
-    (&[1, 3, 0], TABLE, 13, Reason::NoSuchCode),
-    (
-        &[
-            1, 0x80, 0x80, 0x80, 0x80, 0x80, 0x80, 0x80, 0x80, 0x80, 0x80, 0,
-        ],
-        TABLE,
-        13,
-        Reason::BadNumber,
-    ),
-    // A root that is the end of a list, one that is a base type, and other bytes behind the tree.
-    (&[0, 0], TABLE, 12, Reason::BadRoot),
-    (&[2, 0, 4, 5], TABLE, 12, Reason::BadRoot),
-    (&[1, 0, 7], TABLE, 14, Reason::BadRoot),
-    (&[1, 0, 0, 0, 7], TABLE, 16, Reason::BadRoot),
-    (
-        &[1, 2, 0x69, 0, 4, 5, 0],
-        INDIRECT,
-        13,
-        Reason::UnsupportedForm { form: 0x16 },
-    ),
-    // The text, the second number, the list and a code are cut off.
-    (&[1, 2, 0x69], TABLE, 14, Reason::Truncated),
-    (&[1, 2, 0x69, 0, 4], TABLE, 17, Reason::Truncated),
-    (&[1, 2, 0x69, 0, 4, 5], TABLE, 18, Reason::Truncated),
-    (&[1, 0x81, 0x80], TABLE, 15, Reason::Truncated),
-    (&[1], TABLE, 13, Reason::Truncated),
-    // A size of more than 64 bits.
-    (
-        &[
-            1, 2, 0x69, 0, 0xff, 0xff, 0xff, 0xff, 0xff, 0xff, 0xff, 0xff, 0xff, 0x02, 5, 0,
-        ],
-        UDATA,
-        16,
-        Reason::BadNumber,
-    ),
-];
-
-#[test]
-fn refuses_tables_and_entries(rt: HostRuntime) {
-    for &(tree, abbrevs, at, reason) in TREES {
-        let mut bytes = [7; 64];
-        let end = 12 + tree.len().min(52);
-        bytes[..12].copy_from_slice(&[end as u8 - 4, 0, 0, 0, 5, 0, 1, 8, 0, 0, 0, 0]);
-        bytes[12..end].copy_from_slice(&tree[..end - 12]);
-        // What stands behind the unit is no part of it.
-        let found = fault_of(rt.alloc(), &bytes, abbrevs, 9);
-        same_for(&rt, &(at, reason), &found, &in_info(at, reason));
-    }
-}
-
-// A unit with so many namespaces, each in the one before.
-fn nested_spaces(alloc: Global, count: u16) -> Result<Vec<u8>, NoMemory>
-    requires { count < 1000 }
+) -> Result<Units<'a>, ReadErr>
+    requires info { length info.now < 2 ^ 32 }
+    requires abbrevs { length abbrevs.now < 2 ^ 32 }
 {
-    let [low, high] = (10 + 2 * count).to_le_bytes();
-    let mut bytes = [low, high, 0, 0, 5, 0, 1, 8, 0, 0, 0, 0, 1].to_vec(alloc)?;
-    for byte in [2, 0] {
-        for _ in 0..count {
-            bytes.push(byte)?;
-        }
+    match how {
+        "given" => Units::read(alloc, info, abbrevs, room),
+        "common" => Units::read_common(alloc, info, abbrevs, room),
+        "back" => Units::read_back(alloc, info, abbrevs, room, false),
+        _ => Units::read_back(alloc, info, abbrevs, room, true),
     }
-    bytes.push(0)?;
-    Ok(bytes)
 }
 
 #[test]
-fn refuses_depth_257(rt: HostRuntime) -> Result<(), Fail> {
-    let table = [1, 0x11, 1, 0, 0, 2, 0x39, 1, 0, 0, 0];
-    let deep = nested_spaces(rt.alloc(), 255)?;
-    let units = read(rt.alloc(), &deep, &table, 1000)?;
-    assert!(rt; units.entries() == 256);
-    same(&rt, &units.entry(255).depth, &256);
-    let too_deep = nested_spaces(rt.alloc(), 256)?;
-    same(
-        &rt,
-        &fault_of(rt.alloc(), &too_deep, &table, 1000),
-        &in_info(268, Reason::TooDeep),
-    );
-    Ok(())
+fn reads_units_by_mode(rt: HostRuntime) {
+    let alloc = rt.alloc();
+    for row in READ.lines() {
+        let (how, row) = split_bar(&rt, row);
+        let (room, row) = split_bar(&rt, row);
+        let (info, row) = split_bar(&rt, row);
+        let (abbrevs, outcome) = split_bar(&rt, row);
+        let info = bytes_of(&rt, alloc, info);
+        let info = info.as_slice();
+        let abbrevs = bytes_of(&rt, alloc, abbrevs);
+        let abbrevs = abbrevs.as_slice();
+        assert!(rt; info.len() < 100 && abbrevs.len() < 100);
+        let found = match read_how(alloc, how, info, abbrevs, number_of(&rt, room)) {
+            Ok(units) => Ok((units.len(), units.entries())),
+            Err(error) => Err(error),
+        };
+        prints_as(&rt, alloc, row, &found, outcome);
+    }
+}
+
+// A compile unit with a base type, and a zero byte behind its tree; and a type unit over the table at 17, whose type has a constant.
+const INFO: &[u8] = b"\x12\0\0\0\x05\0\x01\x08\0\0\0\0\x01\x02int\0\x04\x05\0\0\
+\x17\0\0\0\x05\0\x02\x08\x11\0\0\0\x01\x02\x03\x04\x05\x06\x07\x08\x19\0\0\0\x01\x02\0";
+
+const ABBREVS: &[u8] = b"\x01\x11\x01\0\0\x02\x24\0\x03\x08\x0b\x0b\x3e\x0b\0\0\0\
+\x01\x41\x01\0\0\x02\x24\0\x0b\x21\x7f\0\0\0";
+
+const TYPE_UNIT: RawUnit = RawUnit {
+    at: 22,
+    end: 49,
+    abbrev: 17,
+    kind: 2,
+    signature: 0x0807060504030201,
+    type_offset: 25,
+    first: 2,
+};
+
+const BASE_TYPE: RawEntry = RawEntry {
+    at: 13,
+    tag: 0x24,
+    unit: 0,
+    depth: 2,
+    end: 2,
+    attrs: 3,
+};
+
+// Values, with the number of their entry and their number in it.
+const VALUES: [(u32, u32, RawAttr<'static>); 3] = [
+    (
+        1,
+        0,
+        RawAttr {
+            at: 14,
+            end: 18,
+            pair: Pair {
+                name: 0x03,
+                form: 0x08,
+                constant: 0,
+            },
+            raw: Raw::Bytes(b"int"),
+        },
+    ),
+    (
+        1,
+        2,
+        RawAttr {
+            at: 19,
+            end: 20,
+            pair: Pair {
+                name: 0x3e,
+                form: 0x0b,
+                constant: 0,
+            },
+            raw: Raw::Number(5),
+        },
+    ),
+    (
+        3,
+        0,
+        RawAttr {
+            at: 48,
+            end: 48,
+            pair: Pair {
+                name: 0x0b,
+                form: 0x21,
+                constant: -1,
+            },
+            raw: Raw::Number(-1),
+        },
+    ),
+];
+
+#[test]
+fn shows_units_entries_and_values(rt: HostRuntime) {
+    let units = Units::read(rt.alloc(), INFO, ABBREVS, 4).expect(&rt, "units");
+    assert!(rt; units.len() == 2);
+    same(&rt, &units.unit(1), &TYPE_UNIT);
+    assert!(rt; units.entries() == 4);
+    same(&rt, &units.entry(1), &BASE_TYPE);
+    for (i, k, value) in VALUES {
+        assert!(rt; i < units.entries() && k < units.entry(i).attrs);
+        same(&rt, &units.attr(i, k), &value);
+    }
+}
+
+// A compile unit with an entry that has a text and a type in a supplementary file.
+const REFERS: &[u8] = b"\x13\0\0\0\x05\0\x01\x08\0\0\0\0\x01\x02\x05\0\0\0\x0c\0\0\x80\0";
+
+const REFERS_ABBREVS: &[u8] = b"\x01\x11\x01\0\0\x02\x34\0\x03\x1d\x49\x1c\0\0\0";
+
+#[test]
+fn shows_values_that_lead_to_a_supplementary_file(rt: HostRuntime) {
+    let units = Units::read_back(rt.alloc(), REFERS, REFERS_ABBREVS, 9, true).expect(&rt, "units");
+    assert!(rt; units.entries() == 2);
+    for (k, at, number) in [(0, 14, 5), (1, 18, 0x8000_000c)] {
+        assert!(rt; k < units.entry(1).attrs);
+        let attr = units.attr(1, k);
+        same(&rt, &(attr.at, attr.raw), &(at, Raw::Number(number)));
+    }
 }

@@ -1,29 +1,21 @@
 //! Small ELF64 files, whose sections stand behind each other without gaps.
 
-use anyhow::Result;
+use crate::spelling::{key_and_value, number_of, put_bytes};
+use crate::wrong::Wrong;
 use std::alloc::{AllocError, Global};
-
-/// What the table of section headers says of a section, but for its place.
-#[derive(Clone, Copy, PartialEq, Eq)]
-pub(crate) struct Kind {
-    pub(crate) name: &'static str,
-    code: u32,
-    flags: u64,
-    /// The bytes of an element, in a section that has elements of one size.
-    element: u64,
-}
 
 /// A section, with its bytes.
 #[derive(Drop)]
-pub(crate) struct Section {
-    pub(crate) kind: Kind,
-    pub(crate) bytes: Vec<u8>,
+struct Section<'a> {
+    /// What a table calls it.
+    key: &'a str,
+    bytes: Vec<u8>,
 }
 
 // Types of sections.
-const BYTES: u32 = 1;
+const BYTES: u64 = 1;
 
-const NAMES: u32 = 3;
+const NAMES: u64 = 3;
 
 // SHF_ALLOC
 const LOADED: u64 = 2;
@@ -31,17 +23,14 @@ const LOADED: u64 = 2;
 // SHF_MERGE and SHF_STRINGS: texts that a linker may merge.
 const MERGED_TEXTS: u64 = 0x30;
 
-const NAMES_OF_SECTIONS: Kind = Kind {
-    name: ".shstrtab",
-    code: NAMES,
-    flags: 0,
-    element: 0,
-};
+const NAMES_OF_SECTIONS: &str = ".shstrtab";
 
-const SECTIONS: [&str; 10] = [
+const SECTIONS: [&str; 12] = [
+    ".text",
     ".debug_info",
     ".debug_abbrev",
     ".debug_str",
+    "merged .debug_str",
     ".debug_line_str",
     ".debug_str_offsets",
     ".debug_line",
@@ -51,122 +40,159 @@ const SECTIONS: [&str; 10] = [
     ".debug_sup",
 ];
 
-/// The kind of section that a table calls so: code, which is loaded, texts that a linker may merge, or a plain section by its name.
-pub(crate) fn kind_of(word: &str) -> Option<Kind> {
-    let (name, flags, element) = match word {
-        ".text" => (".text", LOADED, 0),
-        "merged .debug_str" => (".debug_str", MERGED_TEXTS, 1),
-        _ => (SECTIONS.into_iter().find(|name| *name == word)?, 0, 0),
-    };
-    Some(Kind {
-        name,
-        code: BYTES,
-        flags,
-        element,
-    })
-}
-
-// What is written of the sections so far.
-#[derive(Drop)]
-struct Parts {
-    names: Vec<u8>,
-    body: Vec<u8>,
-    headers: Vec<u8>,
-}
-
-/// The file of these sections, of one with the names of all, and of these behind it.
-pub(crate) fn file_of(alloc: Global, sections: &[Section], behind: &[Section]) -> Result<Vec<u8>> {
-    let mut parts = Parts {
-        names: Vec::from_slice(alloc, b"\0")?,
-        body: Vec::new(alloc),
-        headers: Vec::from_slice(alloc, &[0; 64])?,
-    };
-    for section in sections {
-        put_section(&mut parts, section)?;
+impl<'a> Section<'a> {
+    fn name(&self) -> &'a str {
+        self.key.strip_prefix("merged ").unwrap_or(self.key)
     }
-    put_names(alloc, &mut parts, behind)?;
-    let Parts {
-        names: _,
-        mut body,
+
+    // The eight words of its header, if its name stands there among the names, and its bytes there in the file.
+    fn header(&self, name: u64, at: u64) -> [u64; 8] {
+        let (code, flags, element) = match self.key {
+            NAMES_OF_SECTIONS => (NAMES, 0, 0),
+            ".text" => (BYTES, LOADED, 0),
+            "merged .debug_str" => (BYTES, MERGED_TEXTS, 1),
+            _ => (BYTES, 0, 0),
+        };
+        let len = self.bytes.len() as u64;
+        [name | code << 32, flags, 0, at, len, 0, 1, element]
+    }
+}
+
+// The eight words of the header of a file, if so many section headers stand there, and the names are the section of this number.
+fn file_header(headers: u64, count: u64, names: u64) -> [u64; 8] {
+    [
+        0x0001_0102_464c_457f,
+        0,
+        0x0001_003e_0003,
+        0,
+        0,
         headers,
-    } = parts;
-    let missing = (8 - body.len() % 8) % 8;
-    for _ in 0..missing {
-        body.push(0)?;
-    }
-    let mut file = Vec::new(alloc);
-    put_file_header(&mut file, body.len(), headers.len() / 64, sections.len())?;
-    file.extend_from_slice(&body)?;
-    file.extend_from_slice(&headers)?;
-    Ok(file)
+        0x0040_0000_0000,
+        0x0040_0000 | count << 32 | names << 48,
+    ]
 }
 
-fn put_section(parts: &mut Parts, section: &Section) -> Result<()> {
-    let name = parts.names.len();
-    put_header(parts, section.kind, name, section.bytes.len())?;
-    put_name(&mut parts.names, section.kind.name)?;
-    parts.body.extend_from_slice(&section.bytes)?;
-    Ok(())
-}
-
-// Puts the section with the names of all sections, and those behind it.
-fn put_names(alloc: Global, parts: &mut Parts, behind: &[Section]) -> Result<()> {
-    let name = parts.names.len();
-    put_name(&mut parts.names, NAMES_OF_SECTIONS.name)?;
-    let mut places = Vec::new(alloc);
-    for section in behind {
-        places.push(parts.names.len())?;
-        put_name(&mut parts.names, section.kind.name)?;
-    }
-    let len = parts.names.len();
-    put_header(parts, NAMES_OF_SECTIONS, name, len)?;
-    parts.body.extend_from_slice(&parts.names)?;
-    for (section, name) in behind.iter().zip(places) {
-        put_header(parts, section.kind, name, section.bytes.len())?;
-        parts.body.extend_from_slice(&section.bytes)?;
+fn put_header(out: &mut Vec<u8>, header: [u64; 8]) -> Result<(), AllocError> {
+    for word in header {
+        out.extend_from_slice(&word.to_le_bytes())?;
     }
     Ok(())
 }
 
-fn put_name(names: &mut Vec<u8>, name: &str) -> Result<(), AllocError> {
-    names.extend_from_slice(name.as_bytes())?;
-    names.extend_from_slice(b"\0")
-}
-
-// The header of the section that is put next: where its name stands among the names, and how many bytes it has.
-fn put_header(parts: &mut Parts, kind: Kind, name: usize, len: usize) -> Result<()> {
-    let name = u32::try_from(name)?;
-    let at = 64u64.wrapping_add(parts.body.len() as u64);
-    let len = len as u64;
-    let headers = &mut parts.headers;
-    headers.extend_from_slice(&name.to_le_bytes())?;
-    headers.extend_from_slice(&kind.code.to_le_bytes())?;
-    headers.extend_from_slice(&kind.flags.to_le_bytes())?;
-    headers.extend_from_slice(&[0; 8])?;
-    headers.extend_from_slice(&at.to_le_bytes())?;
-    headers.extend_from_slice(&len.to_le_bytes())?;
-    headers.extend_from_slice(&[0; 8])?;
-    headers.extend_from_slice(&1u64.to_le_bytes())?;
-    headers.extend_from_slice(&kind.element.to_le_bytes())?;
-    Ok(())
-}
-
-// The ELF header of a file with so many bytes of sections and so many headers of them, where the names stand behind so many sections.
-fn put_file_header(
+/// Adds the file of the sections that lines spell, of one with the names of all, and of these behind it. Of its units the first so many bytes
+/// are there, if that is told.
+pub(crate) fn put_file(
+    alloc: Global,
     out: &mut Vec<u8>,
-    body: usize,
-    count: usize,
-    before_names: usize,
-) -> Result<()> {
-    let headers = 64u64.wrapping_add(body as u64);
-    let names = u16::try_from(before_names)?.wrapping_add(1);
-    let count = u16::try_from(count)?;
-    out.extend_from_slice(&[0x7f, 0x45, 0x4c, 0x46, 2, 1, 1, 0, 0, 0, 0, 0, 0, 0, 0, 0])?;
-    out.extend_from_slice(&[3, 0, 62, 0, 1, 0, 0, 0])?;
-    out.extend_from_slice(&[0; 16])?;
-    out.extend_from_slice(&headers.to_le_bytes())?;
-    out.extend_from_slice(&[0, 0, 0, 0, 64, 0, 0, 0, 0, 0, 64, 0])?;
-    out.extend_from_slice(&count.to_le_bytes())?;
-    out.extend_from_slice(&names.to_le_bytes())?;
+    lines: &str,
+    units: Option<&str>,
+    behind: &str,
+) -> Result<(), Wrong> {
+    let mut sections = Vec::new(alloc);
+    put_sections(alloc, &mut sections, lines)?;
+    if let Some(len) = units {
+        cut_units(&mut sections, number_of(len)?)?;
+    }
+    let names = sections.len();
+    let bytes = Vec::new(alloc);
+    sections.push(Section {
+        key: NAMES_OF_SECTIONS,
+        bytes,
+    })?;
+    put_sections(alloc, &mut sections, behind)?;
+    put_names(alloc, &mut sections, names)?;
+    put_all(out, &sections, names)?;
+    Ok(())
+}
+
+// Adds the sections that lines spell. Lines of one key that follow each other spell one section.
+fn put_sections<'a>(
+    alloc: Global,
+    sections: &mut Vec<Section<'a>>,
+    lines: &'a str,
+) -> Result<(), Wrong> {
+    for line in lines.lines() {
+        let (key, value) = key_and_value(line)?;
+        match sections.last_mut() {
+            Some(section) if section.key == key => put_bytes(alloc, &mut section.bytes, value)?,
+            _ => sections.push(section_of(alloc, key, value)?)?,
+        }
+    }
+    Ok(())
+}
+
+fn section_of<'a>(alloc: Global, key: &'a str, spelled: &str) -> Result<Section<'a>, Wrong> {
+    if !SECTIONS.contains(&key) {
+        return Err(Wrong("no section is called so"));
+    }
+    let mut bytes = Vec::new(alloc);
+    put_bytes(alloc, &mut bytes, spelled)?;
+    Ok(Section { key, bytes })
+}
+
+// Leaves the first so many bytes of the units.
+fn cut_units(sections: &mut [Section<'_>], len: usize) -> Result<(), Wrong> {
+    for section in sections {
+        if section.key == ".debug_info" {
+            cut_to(&mut section.bytes, len)?;
+        }
+    }
+    Ok(())
+}
+
+/// Leaves the first so many bytes.
+pub(crate) fn cut_to(bytes: &mut Vec<u8>, len: usize) -> Result<(), Wrong> {
+    if bytes.len() < len {
+        return Err(Wrong("there are not so many bytes"));
+    }
+    bytes.truncate(len);
+    Ok(())
+}
+
+// Fills the section with the names of all, which is the one of this number.
+fn put_names(alloc: Global, sections: &mut [Section<'_>], number: usize) -> Result<(), AllocError> {
+    let mut names = Vec::from_slice(alloc, b"\0")?;
+    for section in sections.iter() {
+        names.extend_from_slice(section.name().as_bytes())?;
+        names.extend_from_slice(b"\0")?;
+    }
+    if let Some(section) = sections.get_mut(number) {
+        section.bytes = names;
+    }
+    Ok(())
+}
+
+// Adds the file of sections, where the one of this number, from 0, has their names.
+fn put_all(out: &mut Vec<u8>, sections: &[Section<'_>], names: usize) -> Result<(), AllocError> {
+    let mut end = 64usize;
+    for section in sections {
+        end = end.wrapping_add(section.bytes.len());
+    }
+    let missing = (8 - end % 8) % 8;
+    let headers = end.wrapping_add(missing) as u64;
+    // The first section header is empty.
+    let count = (sections.len() as u64).wrapping_add(1);
+    let names = (names as u64).wrapping_add(1);
+    put_header(out, file_header(headers, count, names))?;
+    for section in sections {
+        out.extend_from_slice(&section.bytes)?;
+    }
+    for _ in 0..missing {
+        out.extend_from_slice(b"\0")?;
+    }
+    put_header(out, [0; 8])?;
+    put_section_headers(out, sections)
+}
+
+fn put_section_headers(out: &mut Vec<u8>, sections: &[Section<'_>]) -> Result<(), AllocError> {
+    let mut name = 1u64;
+    let mut at = 64u64;
+    for section in sections {
+        put_header(out, section.header(name, at))?;
+        name = name
+            .wrapping_add(section.name().len() as u64)
+            .wrapping_add(1);
+        at = at.wrapping_add(section.bytes.len() as u64);
+    }
     Ok(())
 }

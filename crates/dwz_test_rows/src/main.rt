@@ -8,83 +8,100 @@
 //! refusals. Expected bytes and texts come from a model that was written independently. A new rule of what is written is a row.
 #![tactic(auto)]
 
-mod blocks;
 mod compare;
 mod content;
 mod disk;
 mod elf;
-mod memory;
 mod row;
 mod spelling;
 mod table;
+mod wrong;
 
-use anyhow::{Context, ensure};
-use disk::check_on_disk;
-use memory::check_in_memory;
-use row::{Place, Row};
 use std::alloc::Global;
+use std::process::ExitCode;
 use std::rt::{Env, Files};
 use std::thread::Threads;
 use std::{env, fs, process};
-use table::rows_of;
+use table::{Table, below_remarks, check_block};
+use wrong::Wrong;
 
-// Whether all runs of a row come out as they should.
-fn check_row<R: Files + Print + AllocGlobal + Threads + Sync>(
-    rt: &R,
-    alloc: Global,
-    id: u32,
-    row: &Row,
-) -> anyhow::Result<bool> {
-    for options in &row.options {
-        let options = options.as_str();
-        let holds = match row.place {
-            Place::Memory => check_in_memory(rt, alloc, row, options)?,
-            Place::Disk => check_on_disk(rt, alloc, row, options, id)?,
-        };
-        if !holds {
-            println!(rt; "  in line {}: {}", row.number, row.shows)?;
-            return Ok(false);
-        }
-    }
-    Ok(true)
-}
-
-// Runs the rows of a table, and answers how many don't hold.
+// Runs the rows of a table, and answers whether all hold.
 fn check_table<R: Files + Print + AllocGlobal + Threads + Sync>(
     rt: &R,
     alloc: Global,
-    id: u32,
+    folder: &str,
     name: &str,
-) -> anyhow::Result<usize> {
-    let text = fs::read_to_string(rt, name).context(format_args!("reading {name}"))?;
-    let rows = rows_of(alloc, text.as_str()).context(format_args!("{name}"))?;
-    let mut held = 0usize;
-    let mut runs = 0usize;
-    for row in &rows {
-        let holds = check_row(rt, alloc, id, row).context(format_args!(
-            "{name}: line {}",
-            row.number
-        ))?;
-        held = held.saturating_add(usize::from(holds));
-        runs = runs.saturating_add(row.runs());
-    }
-    println!(rt; "{name}: {held} of {} rows hold, {runs} runs", rows.len())?;
-    Ok(rows.len().saturating_sub(held))
+) -> Result<bool, Wrong> {
+    let Ok(text) = fs::read_to_string(rt, name) else {
+        println!(rt; "{name}: not read")?;
+        return Ok(false);
+    };
+    let text = text.as_str().replace(alloc, "{folder}", folder)?;
+    check_text(rt, alloc, name, text.as_str())
 }
 
-fn check_tables<R: Env + Files + Print + AllocGlobal + Threads + Sync>(
+fn check_text<R: Files + Print + AllocGlobal + Threads + Sync>(
     rt: &R,
     alloc: Global,
-    id: u32,
-) -> anyhow::Result<()> {
-    let mut failed = 0usize;
-    for name in env::args(rt)?.skip(1) {
-        failed = failed.saturating_add(check_table(rt, alloc, id, name.as_str())?);
+    name: &str,
+    text: &str,
+) -> Result<bool, Wrong> {
+    let mut table = Table::new(alloc);
+    let mut number = 1usize;
+    for block in text.trim_ascii_end().split("\n\n") {
+        let told = below_remarks(block);
+        if let Err(Wrong(what)) = check_block(rt, alloc, &mut table, told) {
+            table.wrong = table.wrong.saturating_add(1);
+            tell(rt, name, number, told, what)?;
+        }
+        number = number
+            .saturating_add(block.lines().count())
+            .saturating_add(1);
     }
-    ensure!(failed == 0, "{failed} rows don't hold");
+    let (rows, held, runs) = (table.rows, table.held, table.runs);
+    println!(rt; "{name}: {held} of {rows} rows hold, {runs} runs")?;
+    Ok(rows != 0 && table.wrong == 0)
+}
+
+// Tells what is wrong with the block in this line.
+fn tell(rt: &impl Print, name: &str, number: usize, block: &str, what: &str) -> Result<(), Wrong> {
+    let (title, _) = block.split_once('\n').unwrap_or((block, ""));
+    println!(rt; "  {name}: line {number}: {title}: {what}")?;
     Ok(())
 }
 
-fn main(rt: HostRuntime) -> anyhow::Result<()> {
-    check_tables(&rt, rt.alloc(), process::id(rt.process()))
+// Runs the rows of all tables, with this folder for files on a disk.
+fn check_tables<R: Env + Files + Print + AllocGlobal + Threads + Sync>(
+    rt: &R,
+    alloc: Global,
+    folder: &str,
+) -> Result<bool, Wrong> {
+    let mut hold = true;
+    for name in env::args(rt)?.skip(1) {
+        hold = check_table(rt, alloc, folder, name.as_str())? && hold;
+    }
+    Ok(hold)
+}
+
+fn check_all<R: Env + Files + Print + AllocGlobal + Threads + Sync>(
+    rt: &R,
+    alloc: Global,
+    id: u32,
+) -> Result<bool, Wrong> {
+    let folder = format!(in alloc; "/tmp/dwz_test_rows_{id}")?;
+    fs::create_dir(rt, folder.as_str())?;
+    let hold = check_tables(rt, alloc, folder.as_str());
+    fs::remove_dir_all(rt, folder.as_str())?;
+    hold
+}
+
+fn main(rt: HostRuntime) -> ExitCode {
+    match check_all(&rt, rt.alloc(), process::id(rt.process())) {
+        Ok(true) => ExitCode::SUCCESS,
+        Ok(false) => ExitCode::FAILURE,
+        Err(Wrong(what)) => {
+            let _ = println!(&rt; "{what}");
+            ExitCode::FAILURE
+        }
+    }
 }

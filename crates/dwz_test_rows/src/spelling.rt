@@ -1,11 +1,22 @@
-//! Bytes and numbers as they are spelled in tables.
+//! Lines, bytes and numbers as they are spelled in tables.
 
-use anyhow::{Context, Result, ensure};
+use crate::wrong::Wrong;
 use std::alloc::Global;
+
+/// The key and the value of a line `KEY: VALUE`, where the value may be empty.
+pub(crate) fn key_and_value(line: &str) -> Result<(&str, &str), Wrong> {
+    match line.split_once(": ") {
+        Some(pair) => Ok(pair),
+        None => match line.strip_suffix(":") {
+            Some(key) => Ok((key, "")),
+            None => Err(Wrong("a line is no key and its value")),
+        },
+    }
+}
 
 /// Adds bytes that are spelled in hexadecimal with texts between quotes, as `02 'int' 00 04 05`. A byte that stands `n` times in a row is
 /// written `02*n`.
-pub(crate) fn put_bytes(alloc: Global, out: &mut Vec<u8>, spelled: &str) -> Result<()> {
+pub(crate) fn put_bytes(alloc: Global, out: &mut Vec<u8>, spelled: &str) -> Result<(), Wrong> {
     let mut is_text = true;
     for piece in spelled.split('\'') {
         is_text = !is_text;
@@ -15,17 +26,17 @@ pub(crate) fn put_bytes(alloc: Global, out: &mut Vec<u8>, spelled: &str) -> Resu
             put_words(alloc, out, piece)?;
         }
     }
-    ensure!(!is_text, "a text without its last quote");
+    if is_text {
+        return Err(Wrong("a text without its last quote"));
+    }
     Ok(())
 }
 
 // Adds the bytes of words in hexadecimal.
-fn put_words(alloc: Global, out: &mut Vec<u8>, words: &str) -> Result<()> {
+fn put_words(alloc: Global, out: &mut Vec<u8>, words: &str) -> Result<(), Wrong> {
     for word in words.split(' ') {
-        let (digits, count) = match word.split_once('*') {
-            Some((digits, count)) => (digits, count.parse::<usize>()?),
-            None => (word, 1),
-        };
+        let (digits, count) = word.split_once('*').unwrap_or((word, "1"));
+        let count = count.parse::<usize>()?;
         let once = hex::decode(alloc, digits)?;
         for _ in 0..count {
             out.extend_from_slice(&once)?;
@@ -35,9 +46,9 @@ fn put_words(alloc: Global, out: &mut Vec<u8>, words: &str) -> Result<()> {
 }
 
 /// A number in hexadecimal, as `0x1f`.
-pub(crate) fn number_of(spelled: &str) -> Result<usize> {
-    let digits = spelled
-        .strip_prefix("0x")
-        .context(format_args!("{spelled:?} is not a number as 0x1f"))?;
-    Ok(usize::from_str_radix(digits, 16)?)
+pub(crate) fn number_of(spelled: &str) -> Result<usize, Wrong> {
+    match spelled.strip_prefix("0x") {
+        Some(digits) => Ok(usize::from_str_radix(digits, 16)?),
+        None => Err(Wrong("not a number as 0x1f")),
+    }
 }

@@ -1,243 +1,162 @@
-//! Tables: their blocks as rows.
+//! Tables: blocks with an empty line between them.
+//!
+//! A block begins with its title, and below it stand lines `KEY: VALUE`. Above the title may stand lines that begin with `#`, which say
+//! nothing. `{folder}` in it is a folder for files on a disk.
+//!
+//! A block `content NAME` has the lines of a content (`content.rt`).
 //!
 //! A block `row SHOWS` has these lines; the first two may be repeated, and those in brackets may be left out.
 //!
-//! - `held: NAME CONTENT`: what a name holds before. The content is one of the blocks above, and what is done with it (`bytes_told`).
+//! - `held: NAME CONTENT`: what a name holds before. The content is one of the blocks above, and what is done with it (`put_content`).
 //! - `put: NAME CONTENT`: what is put, in order.
-//! - `run: WORDS`: the words of a run, with spaces between them. Below it `status: STATUS`, a line `text: LINE` for each line that it writes,
-//!   and [`done: N`], how many puts are done then, if not all. Further runs go on over the same files and the same console.
 //! - [`workers: N N`]: the row is for each of these numbers of workers, by `-j N`, or without it (`none`).
 //! - [`each: 0x0 0x3f`]: the row stands for as many rows, in which `{n}` is a number of these, from the first to the last.
 //! - [`fails: get N`], `put N` or `say N`: that call fails. [`room: N`]: there is room for so many puts, if not for just the ones that are told.
-//! - [`memory: may run out`]: then nothing is put. [`on: disk`]: the files stand in a folder, which words call `{folder}`.
+//! - [`memory: may run out`]: then nothing is put. [`on: disk`]: the names are files on the disk, and a run has no text.
+//! - `run: WORDS`: the words of a run, with spaces between them. Below it `status: STATUS`, a line `text: LINE` for each line that it writes,
+//!   and [`done: N`], how many puts are done then, if not all. Further runs go on over the same files and the same console.
 //!
 //! A block `fault TEXT` has the lines of a content, or `of: CONTENT`: `dwz a` refuses this file with that text, and there is no room for a put.
 
-use crate::blocks::{Block, Line, Topic, blocks_of, with_number};
-use crate::content::{Content, bytes_of_file, bytes_told, file_of_lines};
-use crate::row::{Call, Held, Place, Row, Step};
+use crate::content::{Content, named, put_content};
+use crate::row::{check_row, value_of};
 use crate::spelling::number_of;
-use anyhow::{Context, Result, bail, ensure};
-use dwz_run::Status;
+use crate::wrong::Wrong;
 use std::alloc::Global;
+use std::rt::Files;
+use std::thread::Threads;
 
-fn status_of(word: &str) -> Result<Status> {
-    Ok(match word {
-        "Done" => Status::Done,
-        "Refused" => Status::Refused,
-        "Usage" => Status::Usage,
-        "ReadFault" => Status::ReadFault,
-        "WriteFault" => Status::WriteFault,
-        "NoMemory" => Status::NoMemory,
-        "ConsoleFault" => Status::ConsoleFault,
-        _ => bail!("no status is called {word}"),
-    })
+/// The name of the content of a fault that spells one.
+const FAULTY: &str = "of a fault";
+
+/// The contents of a table so far, how many rows it has, how many hold, how many runs that took, and how many blocks are wrong.
+#[derive(Drop)]
+pub(crate) struct Table<'a> {
+    contents: Vec<Content<'a>>,
+    pub(crate) rows: usize,
+    pub(crate) held: usize,
+    pub(crate) runs: usize,
+    pub(crate) wrong: usize,
 }
 
-fn call_of(words: &str) -> Result<Call> {
-    let (call, number) = words.split_once(' ').context("a number is missing")?;
-    let number = number.parse::<u32>()?;
-    Ok(match call {
-        "get" => Call::Get(number),
-        "put" => Call::Put(number),
-        "say" => Call::Say(number),
-        _ => bail!("no call is called {call}"),
-    })
-}
-
-fn held_of(alloc: Global, contents: &[Content], told: &str) -> Result<Held> {
-    let (name, content) = told.split_once(' ').context("a content is missing")?;
-    Ok(Held {
-        name: String::from_str(alloc, name)?,
-        bytes: bytes_told(alloc, contents, content)?,
-    })
-}
-
-// The options for these numbers of workers.
-fn options_of(alloc: Global, numbers: &str) -> Result<Vec<String>> {
-    let mut options = Vec::new(alloc);
-    for number in numbers.split(' ') {
-        options.push(match number {
-            "none" => String::new(alloc),
-            _ => format!(in alloc; "-j {number} ")?,
-        })?;
-    }
-    Ok(options)
-}
-
-// Adds what a line says of a run.
-fn put_in_step(step: &mut Step, line: &Line) -> Result<()> {
-    let value = line.value.as_str();
-    match line.key.as_str() {
-        "status" => step.status = Some(status_of(value)?),
-        "text" => {
-            step.text.push_str(value)?;
-            step.text.push_str("\n")?;
+impl<'a> Table<'a> {
+    /// Nothing stands above.
+    pub(crate) fn new(alloc: Global) -> Table<'a> {
+        Table {
+            contents: Vec::new(alloc),
+            rows: 0,
+            held: 0,
+            runs: 0,
+            wrong: 0,
         }
-        "done" => step.done = Some(value.parse::<usize>()?),
-        key => bail!("no line of a row is called {key}"),
+    }
+}
+
+/// The block without the lines above its title.
+pub(crate) fn below_remarks(block: &str) -> &str {
+    let mut skipped = 0usize;
+    for line in block.lines() {
+        if !line.starts_with("#") {
+            break;
+        }
+        skipped = skipped.saturating_add(line.len()).saturating_add(1);
+    }
+    block.get(skipped..).unwrap_or("")
+}
+
+/// Takes a content, or runs the rows of a block. A row that doesn't hold is told.
+pub(crate) fn check_block<'a, R: Files + Print + AllocGlobal + Threads + Sync>(
+    rt: &R,
+    alloc: Global,
+    table: &mut Table<'a>,
+    block: &'a str,
+) -> Result<(), Wrong> {
+    let (title, lines) = block.split_once('\n').unwrap_or((block, ""));
+    match title.split_once(' ') {
+        Some(("content", name)) => add_content(alloc, table, Content { name, lines }),
+        Some(("row", _)) => match value_of(lines, "each") {
+            None => check(rt, alloc, table, block),
+            Some(numbers) => check_each(rt, alloc, table, block, numbers),
+        },
+        Some(("fault", text)) => check_fault(rt, alloc, table, text, lines),
+        _ if block.is_empty() => Ok(()),
+        _ => Err(Wrong("no block is called so")),
+    }
+}
+
+// Adds a content, if its lines spell one.
+fn add_content<'a>(
+    alloc: Global,
+    table: &mut Table<'a>,
+    content: Content<'a>,
+) -> Result<(), Wrong> {
+    if named(&table.contents, content.name).is_some() {
+        return Err(Wrong("this content stands above"));
+    }
+    table.contents.push(content)?;
+    let mut bytes = Vec::new(alloc);
+    put_content(alloc, &mut bytes, &table.contents, content.name)
+}
+
+// Counts a row, and whether it holds.
+fn check<R: Files + Print + AllocGlobal + Threads + Sync>(
+    rt: &R,
+    alloc: Global,
+    table: &mut Table<'_>,
+    text: &str,
+) -> Result<(), Wrong> {
+    table.rows = table.rows.saturating_add(1);
+    let runs = check_row(rt, alloc, &table.contents, text)?;
+    table.held = table.held.saturating_add(1);
+    table.runs = table.runs.saturating_add(runs);
+    Ok(())
+}
+
+fn check_each<R: Files + Print + AllocGlobal + Threads + Sync>(
+    rt: &R,
+    alloc: Global,
+    table: &mut Table<'_>,
+    text: &str,
+    numbers: &str,
+) -> Result<(), Wrong> {
+    let (first, last) = numbers.split_once(' ').unwrap_or((numbers, ""));
+    for number in number_of(first)?..=number_of(last)? {
+        check_number(rt, alloc, table, text, number)?;
     }
     Ok(())
 }
 
-// Adds what a line says of a row.
-fn put_in_row(alloc: Global, contents: &[Content], row: &mut Row, line: &Line) -> Result<()> {
-    let value = line.value.as_str();
-    match line.key.as_str() {
-        "held" => row.held.push(held_of(alloc, contents, value)?)?,
-        "put" => row.puts.push(held_of(alloc, contents, value)?)?,
-        "fails" => row.fails.push(call_of(value)?)?,
-        "room" => row.room = Some(value.parse::<u32>()?),
-        "workers" => row.options = options_of(alloc, value)?,
-        "memory" => {
-            ensure!(
-                value == "may run out",
-                "memory may run out, or nothing is said of it"
-            );
-            row.may_lack_memory = true;
+fn check_number<R: Files + Print + AllocGlobal + Threads + Sync>(
+    rt: &R,
+    alloc: Global,
+    table: &mut Table<'_>,
+    text: &str,
+    number: usize,
+) -> Result<(), Wrong> {
+    let digits = format!(in alloc; "{number:x}")?;
+    let text = text.replace(alloc, "{n}", digits.as_str())?;
+    check(rt, alloc, table, text.as_str())
+}
+
+fn check_fault<'a, R: Files + Print + AllocGlobal + Threads + Sync>(
+    rt: &R,
+    alloc: Global,
+    table: &mut Table<'a>,
+    text: &str,
+    lines: &'a str,
+) -> Result<(), Wrong> {
+    let told = match lines.strip_prefix("of: ") {
+        Some(told) => told,
+        None => {
+            table.contents.push(Content {
+                name: FAULTY,
+                lines,
+            })?;
+            FAULTY
         }
-        "on" => {
-            ensure!(
-                value == "disk",
-                "files are on a disk, or nothing is said of it"
-            );
-            row.place = Place::Disk;
-        }
-        "run" => row.steps.push(Step {
-            words: String::from_str(alloc, value)?,
-            status: None,
-            text: String::new(alloc),
-            done: None,
-        })?,
-        _ => {
-            let step = row.steps.last_mut().context("no run stands above")?;
-            put_in_step(step, line)?;
-        }
-    }
-    Ok(())
-}
-
-// A row of which nothing is said yet.
-fn empty_row(alloc: Global, block: &Block) -> Result<Row> {
-    Ok(Row {
-        number: block.number,
-        shows: block.title.clone()?,
-        place: Place::Memory,
-        options: vec![in alloc; String::new(alloc)]?,
-        held: Vec::new(alloc),
-        fails: Vec::new(alloc),
-        room: None,
-        may_lack_memory: false,
-        steps: Vec::new(alloc),
-        puts: Vec::new(alloc),
-    })
-}
-
-fn row_of(alloc: Global, contents: &[Content], block: &Block) -> Result<Row> {
-    let mut row = empty_row(alloc, block)?;
-    for line in &block.lines {
-        if line.key.as_str() != "each" {
-            put_in_row(alloc, contents, &mut row, line).context(format_args!(
-                "line {}",
-                line.number
-            ))?;
-        }
-    }
-    ensure_whole(&row).context(format_args!("line {}", block.number))?;
-    Ok(row)
-}
-
-// A row says all that a run is compared with, and no more.
-fn ensure_whole(row: &Row) -> Result<()> {
-    ensure!(!row.steps.is_empty(), "no run");
-    for step in &row.steps {
-        ensure!(step.status.is_some(), "a run without a status");
-        let done = step.done.unwrap_or(0);
-        ensure!(done <= row.puts.len(), "more puts are done than there are");
-    }
-    let is_plain = row.fails.is_empty() && row.room.is_none();
-    ensure!(
-        row.place == Place::Memory || is_plain,
-        "on a disk no call is made to fail"
-    );
-    Ok(())
-}
-
-fn content_of(alloc: Global, contents: &[Content], block: &Block) -> Result<Content> {
-    for content in contents {
-        let is_new = content.name.as_str() != block.title.as_str();
-        ensure!(is_new, "line {}: this content stands above", block.number);
-    }
-    Ok(Content {
-        name: block.title.clone()?,
-        file: file_of_lines(alloc, &block.lines)?,
-    })
-}
-
-// The file of a block that tells a fault.
-fn faulty(alloc: Global, contents: &[Content], lines: &[Line]) -> Result<Vec<u8>> {
-    if let [line] = lines {
-        if line.key.as_str() == "of" {
-            return bytes_told(alloc, contents, line.value.as_str());
-        }
-    }
-    let file = file_of_lines(alloc, lines)?;
-    bytes_of_file(alloc, &file, &[])
-}
-
-fn fault_of(alloc: Global, contents: &[Content], block: &Block) -> Result<Row> {
-    let mut row = empty_row(alloc, block)?;
-    let bytes = faulty(alloc, contents, &block.lines).context(format_args!(
-        "line {}",
-        block.number
-    ))?;
-    row.held.push(Held {
-        name: String::from_str(alloc, "a")?,
-        bytes,
-    })?;
-    row.steps.push(Step {
-        words: String::from_str(alloc, "a")?,
-        status: Some(Status::Refused),
-        text: format!(in alloc; "dwz: a: {}\n", block.title)?,
-        done: None,
-    })?;
-    Ok(row)
-}
-
-// The first and the last number that a row is for, if it is for several.
-fn numbers_of(block: &Block) -> Result<Option<(usize, usize)>> {
-    for line in &block.lines {
-        if line.key.as_str() == "each" {
-            let (first, last) = line.value.as_str().split_once(' ').context(format_args!(
-                "line {}: two numbers are wanted",
-                line.number
-            ))?;
-            return Ok(Some((number_of(first)?, number_of(last)?)));
-        }
-    }
-    Ok(None)
-}
-
-/// The rows of a table. It fails with the number of a line that says nothing.
-pub(crate) fn rows_of(alloc: Global, table: &str) -> Result<Vec<Row>> {
-    let mut contents = Vec::new(alloc);
-    let mut rows = Vec::new(alloc);
-    let blocks = blocks_of(alloc, table)?;
-    for block in &blocks {
-        match block.topic {
-            Topic::Content => contents.push(content_of(alloc, &contents, block)?)?,
-            Topic::Fault => rows.push(fault_of(alloc, &contents, block)?)?,
-            Topic::Row => match numbers_of(block)? {
-                None => rows.push(row_of(alloc, &contents, block)?)?,
-                Some((first, last)) => {
-                    for number in first..=last {
-                        let block = with_number(alloc, block, number)?;
-                        rows.push(row_of(alloc, &contents, &block)?)?;
-                    }
-                }
-            },
-        }
-    }
-    ensure!(!rows.is_empty(), "no rows");
-    Ok(rows)
+    };
+    let row = format!(in alloc;
+        "fault\nheld: a {told}\nrun: a\nstatus: Refused\ntext: dwz: a: {text}"
+    )?;
+    check(rt, alloc, table, row.as_str())
 }

@@ -1,0 +1,4 @@
+mod PairLemmas
+pub mod SmallLemmas
+pub mod WayEnds
+pub mod ChainTops

@@ -1,0 +1,130 @@
+//! Why two tops aren't shared.
+
+ghost use Rattle.std.specs.Prelude.{◌≡◌, ◌-◌, ◌<◌, ◌≤◌, ◌^◌, All, IfOk, IfSome, List, None, length};
+ghost use Rattle.dwz_def_explain.specs.Chain.{DifferThemselves};
+ghost use Rattle.dwz_def_explain.specs.Explained.{IsExplained};
+ghost use Rattle.dwz_def_reading.specs.Lists.{In};
+ghost use Rattle.dwz_def_tops.specs.Alike.{Alike, Movable};
+ghost use Rattle.dwz_def_tops.specs.Spots.{EntryName, FileUnit, Top, tops_of, units_of};
+ghost use Rattle.dwz_explain.specs.Verdicts.{HaveFewTargets, LeadsApart, TellsDifference};
+ghost use Rattle.dwz_graph.specs.declared.file.File.{File};
+ghost use Rattle.dwz_graph.specs.Files.{AreKept, docs_of};
+ghost use Rattle.dwz_graph.specs.Indexed.{AreIndexes};
+ghost use Rattle.dwz_label.specs.Labels.{label_of};
+ghost use Rattle.dwz_label.specs.Shown.{AreShown, nth_label};
+ghost use Rattle.dwz_label_differences.specs.Told.{IsShort};
+ghost use Rattle.dwz_label_files.specs.Shown.{ShowTargets};
+
+use dwz_def_explain::Verdict;
+use dwz_graph::{Graph, Index};
+use dwz_groups::Groups;
+use dwz_label::{Labels, firsts, nodes};
+use dwz_label_differences::what_differs;
+use dwz_label_files::labels;
+use dwz_model::{NoMemory, Numbers};
+use dwz_nodes_chains::{Difference, find_chain};
+use std::alloc::Global;
+use std::thread::Threads;
+
+// The number, which 32 bits hold.
+#[inline(always)]
+fn narrow(number: usize) -> u32
+    ensures { number < 2 ^ 32 → result ≡ number }
+{
+    number.min(u32::MAX as usize) as u32
+}
+
+// The same numbers, which 32 bits hold.
+fn narrowed(alloc: Global, chain: &[usize]) -> Result<Numbers, NoMemory>
+    ensures { All (λ n. n < 2 ^ 32) chain.now → IfOk result (λ numbers. numbers ≡ chain.now) }
+{
+    let mut numbers = Vec::with_capacity(alloc, chain.len())?;
+    for number in chain {
+        numbers.push(narrow(*number))?;
+    }
+    Ok(Numbers::new(numbers))
+}
+
+// What is said of two tops where a chain leads from them to two that differ by themselves, whose labels are kept.
+fn verdict_at(alloc: Global, labels: &Labels, apart: &Difference) -> Result<Verdict, NoMemory>
+    requires first { apart.now.first < length labels.now }
+    requires second { apart.now.second < length labels.now }
+    ensures { (c d : Top) → nth_label labels.now apart.now.first ≡ label_of c → nth_label labels.now apart.now.second ≡ label_of d
+        → IsShort c → DifferThemselves c d → All (λ n. n < 2 ^ 32) apart.now.chain.items
+        → IfOk result (TellsDifference c d apart.now.chain.items) }
+{
+    let first = labels.get(apart.first as usize);
+    let second = labels.get(apart.second as usize);
+    match what_differs(alloc, first, second)? {
+        None => Ok(Verdict::Alike),
+        Some(what) => {
+            let chain = narrowed(alloc, apart.chain.as_slice())?;
+            Ok(Verdict::Differ { chain, what })
+        }
+    }
+}
+
+// The least chain that leads from two tops to two that differ by themselves, or None where they are alike: from the labels of tops,
+// whether they may move, and the tops that their references go into.
+fn chain_of(
+    alloc: Global,
+    labels: &Labels,
+    targets: &Groups,
+    movable: &[bool],
+    a: u32,
+    b: u32,
+) -> Result<Option<Difference>, NoMemory>
+    requires movable { length movable.now ≡ length labels.now }
+    requires targets { length targets.now ≡ length labels.now }
+    requires few { length labels.now < 2 ^ 32 - 1 }
+    requires inside { All (λ ts. All (λ t. t < length targets.now) ts) targets.now }
+    requires first { a < length movable.now }
+    requires second { b < length movable.now }
+    ensures alike { (units : List (FileUnit EntryName)) (x y : Top) → AreShown units labels.now movable.now targets.now
+        → In x (tops_of units) → In y (tops_of units) → Movable units x.number → Movable units y.number → x.number ≡ a → y.number ≡ b
+        → IfOk result (λ found. found ≡ None → Alike units x.number y.number) }
+    ensures apart { (units : List (FileUnit EntryName)) (x y : Top) → AreShown units labels.now movable.now targets.now
+        → In x (tops_of units) → In y (tops_of units) → Movable units x.number → Movable units y.number → x.number ≡ a → y.number ≡ b
+        → IfOk result (λ found. IfSome found (LeadsApart units x y)) }
+    ensures inside { IfOk result (λ found. IfSome found (λ apart. (apart.first < length labels.now) × (apart.second < length labels.now))) }
+    ensures narrow { (units : List (FileUnit EntryName)) → AreShown units labels.now movable.now targets.now → HaveFewTargets units
+        → IfOk result (λ found. IfSome found (λ apart. All (λ n. n < 2 ^ 32) apart.chain.items)) }
+{
+    let firsts = firsts(alloc, labels, movable)?;
+    let nodes = nodes(alloc, firsts.as_slice(), movable, targets)?;
+    let found = find_chain(alloc, &nodes, a, b)?;
+    Ok(found)
+}
+
+/// Why two tops that may move aren't alike: the least chain of references that leads from them to two tops that differ by themselves, and
+/// what differs there; or that they are alike. The tops are `a` and `b`, by their numbers among those of all files; `movable` says of each
+/// top whether it may move, and `targets` has those of the tops that may. It is the same for every number of workers.
+pub fn explain<R: Threads + Sync>(
+    rt: &R,
+    alloc: Global,
+    graph: &Graph,
+    indexes: &[Index],
+    targets: &Groups,
+    movable: &[bool],
+    workers: u32,
+    a: u32,
+    b: u32,
+) -> Result<Verdict, NoMemory>
+    requires indexes { AreIndexes (docs_of graph.now) indexes.now }
+    requires movable { length movable.now ≡ length (tops_of (units_of (docs_of graph.now))) }
+    requires targets { length targets.now ≡ length (tops_of (units_of (docs_of graph.now))) }
+    requires inside { All (λ ts. All (λ t. t < length targets.now) ts) targets.now }
+    requires workers { (0 < workers) × (workers ≤ 64) }
+    requires first { a < length movable.now }
+    requires second { b < length movable.now }
+    ensures { (files : List File) (x y : Top) → AreKept graph.now files → ShowTargets (units_of (docs_of graph.now)) movable.now targets.now
+        → In x (tops_of (units_of (docs_of graph.now))) → In y (tops_of (units_of (docs_of graph.now)))
+        → Movable (units_of (docs_of graph.now)) x.number → Movable (units_of (docs_of graph.now)) y.number → x.number ≡ a → y.number ≡ b
+        → IfOk result (IsExplained (units_of (docs_of graph.now)) x y) }
+{
+    let labels = labels(rt, alloc, graph, indexes, movable, workers)?;
+    match chain_of(alloc, &labels, targets, movable, a, b)? {
+        None => Ok(Verdict::Alike),
+        Some(apart) => verdict_at(alloc, &labels, &apart),
+    }
+}

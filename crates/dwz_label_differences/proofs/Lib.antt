@@ -1,0 +1,9 @@
+pub mod Numbers
+pub mod PieceLemmas
+pub mod SamePieces
+pub mod Flats
+pub mod Trees
+pub mod AttributeLemmas
+pub mod EntryLemmas
+pub mod DifferenceLemmas
+pub mod TopLemmas

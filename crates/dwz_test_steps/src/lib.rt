@@ -1,0 +1,13 @@
+//! Tests of the steps from tops to sections that no whole run shows.
+//!
+//! A call that `run` makes is tried by the tables of `dwz_test_rows`; here stand those that no run makes, or not on such values.
+#![tactic(auto)]
+
+#[cfg(test)]
+mod explained;
+#[cfg(test)]
+mod labels;
+#[cfg(test)]
+mod sections;
+#[cfg(test)]
+mod workers;

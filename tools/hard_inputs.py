@@ -4,11 +4,13 @@ abbreviation table (in ascending, descending and random order of offset), units 
 spelled, 4,000 units over tables that begin inside one declaration, 40,000 abbreviations whose shapes have one hash, beside as
 many that haven't, and 80,000 types whose labels have one hash, beside as many whose labels haven't. Others ask again and again for what is behind many things: for attributes of a root or of a namespace that come behind
 thousands, of many units, or for many tops; for location lists, that are named by many units, or whose suffixes are lists as well; and
-for files of line tables, whose paths are long, or whose rows are those of other tables as well.
+for files of line tables, whose paths are long, or whose rows are those of other tables as well. And of files with long ways between their
+entries it is asked why two aren't shared (`--explain`).
 
     tools/hard_inputs.py [--program PROGRAM] [--times N]
 
-Each file is written elsewhere (`-o`) by one worker, N times; of each are told the least processor time and the most memory. It belongs to no gate.
+Each file is written elsewhere (`-o`), or explained, by one worker, N times; of each are told the least processor time and the most memory. It
+belongs to no gate.
 """
 
 import argparse
@@ -20,9 +22,9 @@ import tempfile
 from bench_runs import best_of
 from many_units import elf
 
-SIBLING, LOCATION, NAME, BYTE_SIZE, STMT_LIST, DECL_FILE, ENCODING, FIRST_USER_NAME = 0x01, 0x02, 0x03, 0x0B, 0x10, 0x3A, 0x3E, 0x2000
-ADDR, STRING, DATA1, SEC_OFFSET, FLAG_PRESENT, IMPLICIT_CONST = 0x01, 0x08, 0x0B, 0x17, 0x19, 0x21
-COMPILE_UNIT, BASE_TYPE, VARIABLE, NAMESPACE, TYPE_UNIT, FIRST_USER_TAG = 0x11, 0x24, 0x34, 0x39, 0x41, 0x4080
+SIBLING, LOCATION, NAME, BYTE_SIZE, STMT_LIST, DECL_FILE, ENCODING, SPECIFICATION, TYPE, FIRST_USER_NAME = 0x01, 0x02, 0x03, 0x0B, 0x10, 0x3A, 0x3E, 0x47, 0x49, 0x2000
+ADDR, STRING, DATA1, REF4, SEC_OFFSET, FLAG_PRESENT, IMPLICIT_CONST = 0x01, 0x08, 0x0B, 0x13, 0x17, 0x19, 0x21
+COMPILE_UNIT, TYPEDEF, STRUCTURE, BASE_TYPE, VARIABLE, NAMESPACE, TYPE_UNIT, FIRST_USER_TAG = 0x11, 0x16, 0x13, 0x24, 0x34, 0x39, 0x41, 0x4080
 
 # How a shape is hashed (dwz_layout): from 0 on, for each word the exclusive or with it, times this, of which 64 bits stay.
 STEP, MASK = 0x9E3779B97F4A7C15, (1 << 64) - 1
@@ -263,6 +265,40 @@ def named_types(count, one_hash):
     return two_units(declaration(3, BASE_TYPE, 0, [(NAME, STRING)]), b"".join(body))
 
 
+# The place of the first top of a unit, in bytes from where the unit begins.
+FIRST_TOP = 13
+
+
+def linked(*rows):
+    """Units of tops that refer to tops of their unit, and the words that ask why the first tops of the first and of the last aren't shared. A row has
+    for each of its tops the numbers of those that its references lead to, one or two of them, or a size in bytes, of a type without references."""
+    table = (declaration(1, COMPILE_UNIT, 1, []) + declaration(2, BASE_TYPE, 0, [(BYTE_SIZE, DATA1)]) + declaration(3, TYPEDEF, 0, [(TYPE, REF4)])
+             + declaration(4, STRUCTURE, 0, [(TYPE, REF4), (SPECIFICATION, REF4)]))
+    info, begins = b"", 0
+    for row in rows:
+        begins = len(info)
+        places, at = [], FIRST_TOP
+        for top in row:
+            places.append(at)
+            at += 2 if isinstance(top, int) else 1 + 4 * len(top)
+        tops = (bytes([2, top]) if isinstance(top, int) else bytes([2 + len(top)]) + struct.pack("<%dI" % len(top), *(places[to] for to in top)) for top in row)
+        info += unit(0, uleb(1) + b"".join(tops) + b"\0")
+    return elf(info, table + b"\0"), (FIRST_TOP, begins + FIRST_TOP)
+
+
+def chain(count, size):
+    return [(number + 1,) for number in range(count)] + [size]
+
+
+def cycle(count):
+    return [((number + 1) % count,) for number in range(count)]
+
+
+def ladder(count, first, second):
+    """Tops that lead to two of those behind them, and types at the end that aren't the same."""
+    return [(number + first, number + second) for number in range(count)] + [4, 8]
+
+
 def main():
     parser = argparse.ArgumentParser(description=__doc__, formatter_class=argparse.RawDescriptionHelpFormatter)
     parser.add_argument("--program", default=os.path.join(os.path.dirname(__file__), "../crates/dwz/out/dwz"))
@@ -301,6 +337,18 @@ def main():
             file.write(content)
             file.flush()
             run = best_of(options.times, [os.path.abspath(options.program), "-j", "1", "-o", "out", file.name])
+        print("%s, %d bytes: %s" % (name, len(content), "refused" if run is None else "%.3f s, %d MB" % (run.cpu, run.memory // 1024)))
+    explained = (
+        ("100,000 typedefs to types of two sizes", linked(chain(100000, 4), chain(100000, 8))),
+        ("cycles of 50,021 and 49,999 typedefs", linked(cycle(50021), cycle(49999))),
+        ("50,000 structures that lead to the next two, and to the same the other way round", linked(ladder(50000, 1, 2), ladder(50000, 2, 1))),
+    )
+    for name, (content, (one, two)) in explained:
+        with tempfile.NamedTemporaryFile() as file:
+            file.write(content)
+            file.flush()
+            words = [os.path.abspath(options.program), "-j", "1", "--explain", file.name, "0x%x" % one, file.name, "0x%x" % two]
+            run = best_of(options.times, words)
         print("%s, %d bytes: %s" % (name, len(content), "refused" if run is None else "%.3f s, %d MB" % (run.cpu, run.memory // 1024)))
 
 

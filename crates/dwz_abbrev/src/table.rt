@@ -91,15 +91,8 @@ impl Table {
         self.rows.decl(code)
     }
 
-    /// The declaration with a code, of those behind the first so many. None exactly where they have none.
-    #[inline(always)]
-    pub fn decl_behind(&self, skip: usize, code: u64) -> Option<&Decl>
-        ensures { option_map decl_view (option_copied result) ≡ find_decl (drop skip self.now) code }
-    {
-        self.decls().get(self.place_behind(skip, code)?)
-    }
-
-    /// The place of that declaration among all of the table, counted from 0.
+    /// The place of the declaration with a code, of those behind the first so many, among all of the table, counted from 0. None exactly
+    /// where they have none.
     #[inline(always)]
     pub fn place_behind(&self, skip: usize, code: u64) -> Option<usize>
         ensures decl { option_and_then (slice_get self.now) result ≡ find_decl (drop skip self.now) code }

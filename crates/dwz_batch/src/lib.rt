@@ -7,13 +7,18 @@
 //! In: a job, a number of workers, a gate that is told of each job. Out: `Outcomes`, in the order of the numbers; or want of memory, where one
 //! job wanted it. No call of the program makes a batch yet.
 //!
-//! Read first: `AreOutcomes` (`specs/Jobs.antt`).
+//! `outcome_text` is what is said of one file, by its outcome: a line in the words of `dwz_report`. Where it is to be quiet, it is the line
+//! of a refusal, and else no byte.
+//!
+//! Read first: `AreOutcomes` (`specs/Jobs.antt`), and `outcome_text` (`specs/Texts.antt`).
 #![tactic(auto)]
 
 mod gathering;
 mod job;
+mod texts;
 mod turns;
 mod workers;
 
 pub use job::{Job, Outcome, Outcomes};
+pub use texts::outcome_text;
 pub use workers::batch;

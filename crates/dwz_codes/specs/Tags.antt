@@ -1,4 +1,4 @@
--- Inner: the names of tags (DWARF 5, 7.5.3) that are printed by name.
+-- The names of tags (DWARF 5, 7.5.3) that are printed by name.
 use Rattle.std.specs.Prelude.{List, [], ◌∷◌, codes}
 use Rattle.dwz_codes.specs.declared.shape.Shape.TheVariants.{Nothing}
 use Rattle.dwz_codes.specs.Rows.{RowView, row}

@@ -35,7 +35,7 @@ zip_all R S (u ∷ xs) [] h f = absurd h
 
 -- ---- two tops are the same by themselves or not
 
-same_or_not : (a b : Top) → SameTop Whichever a b ⊎ DifferThemselves a b
+pub same_or_not : (a b : Top) → SameTop Whichever a b ⊎ DifferThemselves a b
 same_or_not a b = elim (found a b) [
   | inl same ↦ inl same
   | inr differ ↦ inr (what_tells a b differ.0 differ.1)

@@ -1,6 +1,8 @@
 pub mod WhatLemmas
 pub mod FoundLemmas
 pub mod ChainLemmas
-pub mod SearchLemmas
+pub mod LeadLemmas
+pub mod LeastLemmas
 pub mod VerdictLemmas
+pub mod PlaceLemmas
 pub mod WorkedRows

@@ -1,4 +1,4 @@
--- Inner: why two tops aren't alike: the same references lead from both to two tops that differ by themselves.
+-- Why two tops aren't alike: the same references lead from both to two tops that differ by themselves.
 use Rattle.std.specs.Prelude.{◌≡◌, ◌⊎◌, ℕ, suc, ◌<◌, List, [], ◌∷◌, length, Some, slice_get}
 use Rattle.dwz_model.specs.Lists.{In}
 use Rattle.dwz_def_tops.specs.Alike.{SameTop}

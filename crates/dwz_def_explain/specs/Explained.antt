@@ -1,4 +1,4 @@
--- Inner: what is said of two tops that may move: that they are alike, or why not.
+-- What is said of two tops that may move: that they are alike, or why not.
 use Rattle.std.specs.Prelude.{List}
 use Rattle.dwz_def_tops.specs.Alike.{Alike}
 use Rattle.dwz_def_tops.specs.Spots.{EntryName, FileUnit, Top, tops_of}

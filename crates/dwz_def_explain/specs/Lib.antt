@@ -3,5 +3,6 @@ pub mod ChainLaws
 pub mod What
 pub mod Explained
 pub mod WhatLaws
-pub mod Search
 pub mod Texts
+pub mod Places
+pub mod PlaceLaws

@@ -1,4 +1,4 @@
--- Inner: what is printed of two tops: whether they are alike, or the least chain, and what differs at its end.
+-- What is printed of two tops: whether they are alike, or the least chain, and what differs at its end.
 use Rattle.std.specs.Prelude.{ℕ, zero, suc, ◌+◌, List, [], ◌∷◌, ◌++◌, length, Option, Some, None, codes, decimal, slice_get, true, false}
 use Rattle.dwz_codes.specs.Attributes.{attribute_rows}
 use Rattle.dwz_codes.specs.Rows.{RowView, row_of}

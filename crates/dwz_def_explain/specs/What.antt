@@ -1,4 +1,4 @@
--- Inner: what differs between two tops by themselves: language, then spaces, then the first entries in preorder that differ.
+-- What differs between two tops by themselves: language, then spaces, then the first entries in preorder that differ.
 use Rattle.std.specs.Prelude.{◌≡◌, ◌≢◌, ℕ, zero, suc, List, [], ◌∷◌, length}
 use Rattle.dwz_def_reading.specs.Documents.{Attr, Entries, Node}
 use Rattle.dwz_def_reading.specs.Trees.{Entry}

@@ -1,7 +1,7 @@
 -- Inner: laws on what differs between two tops, and on what is said of them.
 use Rattle.std.specs.Prelude.{◌≡◌, ◌⊎◌, List}
 use Rattle.dwz_model.specs.Lists.{In}
-use Rattle.dwz_def_tops.specs.Alike.{SameTop}
+use Rattle.dwz_def_tops.specs.Alike.{Movable, SameTop}
 use Rattle.dwz_def_tops.specs.Spots.{EntryName, FileUnit, Top, tops_of}
 use Rattle.dwz_def_explain.specs.Chain.{DifferThemselves, Whichever}
 use Rattle.dwz_def_explain.specs.Explained.{IsExplained}
@@ -26,3 +26,9 @@ abbrev pub OneVerdictLaw : Type 0
 OneVerdictLaw =
     (units : List (FileUnit EntryName)) (a b : Top) → In a (tops_of units) → In b (tops_of units)
     → (verdict other : Verdict) → IsExplained units a b verdict → IsExplained units a b other → verdict ≡ other
+
+-- of two tops that may move there is one
+abbrev pub SomeVerdictLaw : Type 0
+SomeVerdictLaw =
+    (units : List (FileUnit EntryName)) (a b : Top) → In a (tops_of units) → In b (tops_of units)
+    → Movable units a.number → Movable units b.number → (verdict : Verdict) × IsExplained units a b verdict

@@ -1,4 +1,4 @@
--- Contents that were got and read are whole.
+-- Contents that were got and read are whole; and which files are got that are slimmed.
 use Rattle.std.proofs.Common.{◌≡◌, ℕ, suc, ◌+◌, ◌^◌, ◌≤◌, Bool, true, false, cond, List, [], ◌∷◌, length, take, get_or, Option, Some, None, refl, sym, ap, subst, ◌∙◌, inl, inr, arith}
 use Rattle.std.specs.Prelude.{nat_lt, option_and_then, option_map, if◌then◌else◌}
 use Rattle.std.proofs.lemmas.Bool.{ltb-true, or_cases}
@@ -8,6 +8,8 @@ use Rattle.dwz_def_reading.specs.Documents.{Doc}
 use Rattle.dwz_def_reading.specs.Files.{Limits, ReadAll, Reads, limits_after, longest_file, longest_files, no_files_before}
 use Rattle.dwz_def_tops.specs.Lists.{Nth}
 use Rattle.dwz_outside.specs.Store.{Store, got, most_got}
+use Rattle.dwz_words.specs.Asked.{names_got, names_of_places}
+use Rattle.dwz_words.specs.declared.options.Options.{Options}
 use Rattle.dwz_run_course.specs.Gets.{content_is_too_long, gets}
 
 -- of the files before so many bytes were got, and so many may still come
@@ -119,3 +121,7 @@ are_held store names contents docs is read n name nth =
     let at = o.is_index in
     let index : o.index ≡ n = omega (arith, at) in
     subst (λ (k : ℕ). store name ≡ Some (get_or contents k [])) index o.held
+
+-- files that are slimmed are got by their names
+pub got_files : (o : Options) → o.explain ≡ false → names_got o ≡ o.files
+got_files o slims = ap (λ (b : Bool). if b then names_of_places o.files else o.files) slims

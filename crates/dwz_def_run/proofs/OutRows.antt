@@ -18,16 +18,18 @@ use Rattle.dwz_def_plan.specs.Plan.{distinct, joined_parts, local_partials, part
 use Rattle.dwz_def_images.specs.Units.{changes}
 use Rattle.dwz_def_readback.specs.Files.{imports_common}
 use Rattle.dwz_outside.specs.declared.puts.Put.{Put}
-use Rattle.dwz_report.specs.Texts.{summary_text}
 use Rattle.dwz_words.specs.declared.options.Options.{Options}
 use Rattle.dwz_run_course.specs.declared.output.Output.{Output}
+use Rattle.dwz_run_course.specs.declared.output.Said.{Said}
+use Rattle.dwz_run_course.specs.declared.output.Said.TheVariants.{Parts, Slimmed}
+use Rattle.dwz_run_course.specs.Ends.{done_text}
 use Rattle.dwz_def_run.specs.Out.{files_puts_by, summary_lines_by}
 use Rattle.dwz_def_output.specs.FilesAfter.{has_common}
 use Rattle.dwz_def_run.specs.Out.{output_of, run_for}
 
 -- the words `a` and `-o out`, or `-m common` and these FILEs
 abbrev options : Option (List ℕ) → Option (List ℕ) → List (List ℕ) → Options
-options common out files = record { quiet = false; common = common; name = None; out = out; workers = 4; files = files; demo = None }
+options common out files = record { quiet = false; common = common; name = None; out = out; workers = 4; files = files; demo = None; explain = false }
 
 -- what comes of contents that read as these documents; whatever unfolds this unfolds all by which it is found
 come : Options → List (List ℕ) → List (Doc ℕ) → Output
@@ -45,12 +47,15 @@ put name bytes = record { name = name; bytes = bytes }
 abbrev ints : Doc ℕ
 ints = record { machine = 62; units = unit 0 [] (then (int_type 0x0d) End) ∷ unit 0x15 [] (then (int_type 0x22) End) ∷ [] }
 
+abbrev single : Options
+single = options None (Some (codes "out")) (codes "a" ∷ [])
+
 -- OUT gets the bytes of the file
-nothing_moves : (bytes : List ℕ) → (come (options None (Some (codes "out")) (codes "a" ∷ [])) (bytes ∷ []) (ints ∷ [])).puts ≡ put (codes "out") bytes ∷ []
+nothing_moves : (bytes : List ℕ) → (come single (bytes ∷ []) (ints ∷ [])).puts ≡ put (codes "out") bytes ∷ []
 unfolding come
 nothing_moves bytes = refl
 
-nothing_said : (bytes : List ℕ) → summary_text (come (options None (Some (codes "out")) (codes "a" ∷ [])) (bytes ∷ []) (ints ∷ [])).summary ≡ codes "a: nothing moves\n"
+nothing_said : (bytes : List ℕ) → done_text single (come single (bytes ∷ []) (ints ∷ [])) ≡ codes "a: nothing moves\n"
 unfolding come
 nothing_said bytes = refl
 
@@ -75,7 +80,7 @@ nothing_common : (a b : List ℕ) → (come two (a ∷ b ∷ []) (short ∷ othe
 unfolding come
 nothing_common a b = refl
 
-none_said : (a b : List ℕ) → summary_text (come two (a ∷ b ∷ []) (short ∷ other ∷ [])).summary ≡ codes "one: nothing moves\ntwo: nothing moves\n"
+none_said : (a b : List ℕ) → done_text two (come two (a ∷ b ∷ []) (short ∷ other ∷ [])) ≡ codes "one: nothing moves\ntwo: nothing moves\n"
 unfolding come
 none_said a b = refl
 
@@ -88,7 +93,12 @@ one_common : (a b : List ℕ) → names (come two (a ∷ b ∷ []) (short ∷ sh
 unfolding come
 one_common a b = refl
 
-one_part : (a b : List ℕ) → (come two (a ∷ b ∷ []) (short ∷ short ∷ [])).partials ≡ 1
+-- the partial units of which a summary tells
+abbrev parts_in : Said → ℕ
+parts_in (Slimmed summary partials) = partials
+parts_in (Parts parts) = 0
+
+one_part : (a b : List ℕ) → parts_in (come two (a ∷ b ∷ []) (short ∷ short ∷ [])).said ≡ 1
 unfolding come
 one_part a b = refl
 

@@ -1,9 +1,9 @@
 -- After the first puts, however many, each FILE is as it was, or as it is made.
 use Rattle.std.proofs.Common.{◌≡◌, ◌⊎◌, ℕ, zero, suc, Bool, true, false, List, [], ◌∷◌, ◌++◌, length, take, get_or, Option, Some, None, refl, sym, ap, subst, ◌∙◌, inl, inr, arith}
-use Rattle.std.specs.Prelude.{◌||◌, ◌&&◌, ◌==◌, not, is_none, if◌then◌else◌}
+use Rattle.std.specs.Prelude.{not, if◌then◌else◌}
 use Rattle.std.specs.Option.{option_map_or}
 use Rattle.std.specs.Str.{bytes_eq}
-use Rattle.std.proofs.lemmas.Bool.{and_parts, eqb-true, or_parts}
+use Rattle.std.proofs.lemmas.Bool.{and_parts, or_parts}
 use Rattle.std.proofs.lemmas.Slice.Eq.{bytes_eq-Decides}
 use Rattle.dwz_def_reading.specs.Documents.{Doc}
 use Rattle.dwz_def_tops.specs.Lists.{Nth}
@@ -12,6 +12,7 @@ use Rattle.dwz_def_readback.specs.Files.{Run}
 use Rattle.dwz_outside.specs.declared.puts.Put.{Put}
 use Rattle.dwz_outside.specs.Store.{Store, done, put_in}
 use Rattle.dwz_words.specs.Conditions.{FitTogether, are_distinct, is_among}
+use Rattle.dwz_words.proofs.Fits.{files_differ, with_out}
 use Rattle.dwz_words.specs.declared.options.Options.{Options}
 use Rattle.dwz_run_course.specs.Gets.{gets}
 use Rattle.dwz_run_course.specs.Puts.{AreApart, AreOthers, Prefixes}
@@ -123,7 +124,7 @@ module _ (o : Options) (r : Run) (in_place : o.out ≡ None) where
 
   -- ---- with the common file before them
 
-  module _ (fit : FitTogether o) (store : Store) (held : (file : ℕ) (name : List ℕ) → Nth 0 o.files file name → store name ≡ Some (r.input.bytes file)) where
+  module _ (fit : FitTogether o) (distinct : are_distinct o.files ≡ true) (store : Store) (held : (file : ℕ) (name : List ℕ) → Nth 0 o.files file name → store name ≡ Some (r.input.bytes file)) where
     abbrev puts : List Put
     puts = files_puts o r 0 o.files
 
@@ -132,9 +133,9 @@ module _ (o : Options) (r : Run) (in_place : o.out ≡ None) where
 
     -- no common file is put
     without : ((common : List ℕ) → o.common ≡ Some common → has_common r ≡ true → ⊥) → (k file : ℕ) (name : List ℕ) → Nth 0 o.files file name → Is (done (take k puts) store) file name
-    without none k file name nth = elim (prefixes puts store (apart 0 o.files fit.distinct_files) k name) [
+    without none k file name nth = elim (prefixes puts store (apart 0 o.files distinct) k name) [
       | inl same ↦ inl (same ∙ held file name nth)
-      | inr e ↦ elim (left 0 o.files fit.distinct_files store file name nth) [
+      | inr e ↦ elim (left 0 o.files distinct store file name nth) [
         | inl s ↦ inl (e ∙ s ∙ held file name nth)
         | inr made ↦ inr (record { changed = made.0; bytes = e ∙ made.1; common = λ c is has. absurd (none c is has) })
       ]
@@ -147,9 +148,9 @@ module _ (o : Options) (r : Run) (in_place : o.out ≡ None) where
     behind c is free (suc k) file name nth =
         let st = put_in c (common_bytes r) store in
         let other : st name ≡ store name = put_other name c (common_bytes r) store (not_named c o.files free 0 file name nth) in
-        elim (prefixes puts st (apart 0 o.files fit.distinct_files) k name) [
+        elim (prefixes puts st (apart 0 o.files distinct) k name) [
           | inl same ↦ inl (same ∙ other ∙ held file name nth)
-          | inr e ↦ elim (left 0 o.files fit.distinct_files st file name nth) [
+          | inr e ↦ elim (left 0 o.files distinct st file name nth) [
             | inl s ↦ inl (e ∙ s ∙ other ∙ held file name nth)
             | inr made ↦ inr (record {
               changed = made.0;
@@ -184,14 +185,8 @@ no_puts (suc k) store = refl
 
 module _ (o : Options) (r : Run) (out : List ℕ) (elsewhere : o.out ≡ Some out) (fit : FitTogether o) (store : Store)
     (held : (file : ℕ) (name : List ℕ) → Nth 0 o.files file name → store name ≡ Some (r.input.bytes file)) where
-  alone : (length o.files == 1) && is_none o.common ≡ true
-  alone = sym (ap (λ (w : Option (List ℕ)). is_none w || ((length o.files == 1) && is_none o.common)) elsewhere) ∙ fit.out_only_for_one
-
   no_common : o.common ≡ None
-  no_common = by o.common (and_parts (length o.files == 1) (is_none o.common) alone).1 where
-    by : (w : Option (List ℕ)) → is_none w ≡ true → w ≡ None
-    by None e = refl
-    by (Some c) e = absurd cc
+  no_common = (with_out o fit out elsewhere).1
 
   abbrev Stays : Store → ℕ → List ℕ → Type 0
   Stays now file name = (now name ≡ Some (r.input.bytes file)) ⊎ IsMade o r now file name
@@ -236,16 +231,16 @@ module _ (o : Options) (r : Run) (out : List ℕ) (elsewhere : o.out ≡ Some ou
   pub elsewhere_stops : Prefixes (all_puts o r) store (AreOldOrMade o r)
   elsewhere_stops k file name nth =
       subst (λ (w : Option (List ℕ)). Stays (done (take k (common_puts w r ++ files_puts o r 0 o.files)) store) file name) (sym no_common)
-      (one_file o.files (eqb-true (length o.files) 1 (and_parts (length o.files == 1) (is_none o.common) alone).0) k file name nth held)
+      (one_file o.files (with_out o fit out elsewhere).0 k file name nth held)
 
 -- ---- either way
 
-pub stops : (o : Options) → FitTogether o → (store : Store) (contents : List (List ℕ)) (docs : List (Doc ℕ)) (prunes : List Bool) → gets store 0 o.files ≡ Some contents
+pub stops : (o : Options) → FitTogether o → o.explain ≡ false → (store : Store) (contents : List (List ℕ)) (docs : List (Doc ℕ)) (prunes : List Bool) → gets store 0 o.files ≡ Some contents
     → IsWritten o contents docs prunes → Prefixes (all_puts o (run_for o contents docs prunes)) store (AreOldOrMade o (run_for o contents docs prunes))
-stops o fit store contents docs prunes is written = by o.out refl where
+stops o fit slims store contents docs prunes is written = by o.out refl where
   held : (file : ℕ) (name : List ℕ) → Nth 0 o.files file name → store name ≡ Some (get_or contents file [])
   held = are_held store o.files contents docs is written.read.reads
 
   by : (w : Option (List ℕ)) → o.out ≡ w → Prefixes (all_puts o (run_for o contents docs prunes)) store (AreOldOrMade o (run_for o contents docs prunes))
-  by None e = in_place_stops o (run_for o contents docs prunes) e fit store held
+  by None e = in_place_stops o (run_for o contents docs prunes) e fit (files_differ o fit slims) store held
   by (Some out) e = elsewhere_stops o (run_for o contents docs prunes) out e fit store held

@@ -1,5 +1,5 @@
 -- Laws on what a run puts.
-use Rattle.std.specs.Prelude.{◌≡◌, ℕ, ◌≤◌, Bool, List, length, Some}
+use Rattle.std.specs.Prelude.{◌≡◌, ℕ, ◌≤◌, Bool, List, length, Some, false}
 use Rattle.dwz_def_reading.specs.Documents.{Doc}
 use Rattle.dwz_def_reading.specs.Lists.{Each}
 use Rattle.dwz_def_reading.specs.Values.{AreBytes}
@@ -28,9 +28,9 @@ LengthsLaw =
     → IsWritten o contents docs prunes
     → length o.files ≤ 256 → HasLengths (summary_of o (run_for o contents docs prunes))
 
--- Where the FILEs were got and read, and after the first puts of the output however many, each FILE is as it was, or as it is made.
+-- Where FILEs that are slimmed were got and read, and after the first puts of the output however many, each FILE is as it was, or as it is made.
 abbrev pub StopLaw : Type 0
 StopLaw =
-    (o : Options) → FitTogether o → (store : Store) (contents : List (List ℕ)) (docs : List (Doc ℕ)) (prunes : List Bool)
+    (o : Options) → FitTogether o → o.explain ≡ false → (store : Store) (contents : List (List ℕ)) (docs : List (Doc ℕ)) (prunes : List Bool)
     → gets store 0 o.files ≡ Some contents → IsWritten o contents docs prunes
     → let r = run_for o contents docs prunes in Prefixes (all_puts o r) store (AreOldOrMade o r)

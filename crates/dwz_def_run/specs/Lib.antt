@@ -1,3 +1,4 @@
+pub mod Tells
 pub mod Out
 pub mod Stops
 pub mod Laws

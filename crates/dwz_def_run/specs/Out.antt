@@ -1,4 +1,4 @@
--- What a run puts, by its options and the contents of its files; or the refusal of these.
+-- What a run puts and says, by its options and the contents of its files; or the refusal of these.
 use Rattle.std.specs.Prelude.{◌≡◌, ◌⊎◌, ℕ, suc, Bool, true, false, List, [], ◌∷◌, ◌++◌, length, Option, Some, None, unwrap_or}
 use Rattle.std.specs.Prelude.{if◌then◌else◌}
 use Rattle.dwz_model.specs.declared.fault.Refusal.{Refusal}
@@ -12,10 +12,12 @@ use Rattle.dwz_outside.specs.declared.puts.Put.{Put}
 use Rattle.dwz_report.specs.declared.summary.Summary.{Summary}
 use Rattle.dwz_words.specs.declared.options.Options.{Options}
 use Rattle.dwz_run_course.specs.declared.output.Output.{Output}
+use Rattle.dwz_run_course.specs.declared.output.Said.TheVariants.{Slimmed}
 use Rattle.dwz_run_course.specs.Outcome.{Outcome, refuses, writes}
 use Rattle.dwz_def_output.specs.FilesAfter.{bytes_after_by, common_bytes, has_common}
 use Rattle.dwz_def_output.specs.Refusals.{OutFault}
 use Rattle.dwz_def_output.specs.Written.{CanBeWritten, ReadAs, common_under, rule_under, run_under}
+use Rattle.dwz_def_run.specs.Tells.{TellsWhy}
 
 -- ---- the run
 
@@ -108,7 +110,7 @@ summary_of o r = record {
 
 -- its puts, its summary, and how many partial units all files have
 abbrev pub output_of : Options → Run → Output
-output_of o r = record { puts = all_puts o r; summary = summary_of o r; partials = length r.move.parts }
+output_of o r = record { puts = all_puts o r; said = Slimmed (summary_of o r) (length r.move.parts) }
 
 -- the contents read so, and nothing refuses what comes of them
 abbrev pub IsWritten : Options → List (List ℕ) → List (Doc ℕ) → List Bool → Type 0
@@ -121,9 +123,19 @@ pub record IsRefused (o : Options) (contents : List (List ℕ)) (docs : List (Do
 
 -- The contents read as documents, and their output is written, unless it is refused; or they don't read, and the first fault of reading
 -- refuses them.
-abbrev pub Out : Options → List (List ℕ) → Outcome → Type 0
-Out o contents (writes out) =
+abbrev pub Slims : Options → List (List ℕ) → Outcome → Type 0
+Slims o contents (writes out) =
     (docs : List (Doc ℕ)) × (prunes : List Bool) × IsWritten o contents docs prunes × (out ≡ output_of o (run_for o contents docs prunes))
-Out o contents (refuses q) =
+Slims o contents (refuses q) =
     First no_files_before 0 contents q
     ⊎ ((docs : List (Doc ℕ)) × (prunes : List Bool) × IsRefused o contents docs prunes q)
+
+-- ---- what comes of options and contents
+
+abbrev pub OutBy : Bool → Options → List (List ℕ) → Outcome → Type 0
+OutBy true = TellsWhy
+OutBy false = Slims
+
+-- two entries are explained, or files are slimmed
+abbrev pub Out : Options → List (List ℕ) → Outcome → Type 0
+Out o = OutBy o.explain o

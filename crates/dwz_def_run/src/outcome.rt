@@ -1,11 +1,11 @@
-//! What a run puts, or why it puts nothing.
+//! What a run puts and says, or why it puts nothing.
 
 ghost use Rattle.dwz_def_run.specs.Laws.{LengthsLaw, OneOutcomeLaw, SomeOutcomeLaw, StopLaw};
 
-/// Laws on what a run puts. Of options and contents comes just one thing: at most one does, and something does.
+/// Laws on what a run puts and says. Of options and contents comes just one thing: at most one does, and something does.
 ///
-/// Where files are written, the lengths of all are numbers of 64 bits. After the first puts, however many, each FILE is as it was, or is
-/// made so and the common file stands.
+/// Where files are written, the lengths of all are numbers of 64 bits. Where they are slimmed, and after the first puts, however many, each
+/// FILE is as it was, or is made so and the common file stands.
 pub fn out_laws()
     ensures outcome { OneOutcomeLaw }
     ensures some { SomeOutcomeLaw }

@@ -1,4 +1,4 @@
--- Inner: the tops that the references of a top go into.
+-- The tops that the references of a top go into.
 use Rattle.std.specs.Prelude.{ℕ, List, [], ◌∷◌, ◌++◌}
 use Rattle.std.specs.List.{flat_map}
 use Rattle.dwz_def_reading.specs.Documents.{Attr, Entries}

@@ -1,5 +1,6 @@
 pub mod FirstLemmas
 pub mod ValueLemmas
+pub mod PassedLemmas
 pub mod EntryLemmas
 pub mod UnitLemmas
 pub mod ListedLemmas

@@ -25,7 +25,7 @@ use Rattle.dwz_move.proofs.BindLemmas.{said_expression}
 use Rattle.dwz_move.proofs.NameMarks.{value_kinds}
 use Rattle.dwz_def_encoding.specs.Meant.{led_to, place_counted}
 
-none_as : (s : MeaningContext ℕ) (a : RawAttr) (c : Class) → is_expression c ≡ false → operands_as c s a ≡ []
+pub none_as : (s : MeaningContext ℕ) (a : RawAttr) (c : Class) → is_expression c ≡ false → operands_as c s a ≡ []
 none_as s a OfExpression e = absurd (false≢true (sym e))
 none_as s a _ e = refl
 

@@ -12,7 +12,7 @@ ghost use Rattle.dwz_def_output.specs.Refusals.{operands_of_unit, operands_of_un
 ghost use Rattle.dwz_graph.specs.Named.{unit_refs, units_refs};
 ghost use Rattle.dwz_unit.specs.Rows.{EntryRow, rows_of, units_of};
 
-use crate::values::note_value;
+use crate::values::{behind, note_value};
 use dwz_codes::DW_AT_SIBLING;
 use dwz_expr::Operand;
 use dwz_graph::here_of;
@@ -35,6 +35,10 @@ fn note_entry<'a>(
         → unit ≡ after s.unit → targets.now ≡ map after (node_refs d) ++ more
         → IfOk result (λ left. NotesOperands after s.unit (row_operands s row) first.old first.new more left.now) }
 {
+    // Where forms tell how many entries it names, it has no operands of expressions.
+    if let Some(count) = units.named_count(i) {
+        return Ok(behind(targets, count));
+    }
     let Values { pairs, mut cursor } = units.values(i);
     let mut left = targets;
     for pair in pairs {
@@ -92,7 +96,7 @@ fn note_unit<'a>(
 
 /// The place of the first operand of expressions, in bytes from the first of `.debug_info`, whose new number needs more bytes than the
 /// operand has. For each unit is given where it begins after, and for each reference, in order, where what it names stands after. None
-/// where each number fits. One walk over the values of all entries.
+/// where each number fits. One walk over all entries, and the values of those that have expressions.
 pub fn first_spoken(
     alloc: Global,
     units: &Units,

@@ -86,9 +86,9 @@ fn number_of(base: Base, place: u64, unit: u64) -> u64
     }
 }
 
-// What stands behind the first so many.
+/// What stands behind the first so many.
 #[inline(always)]
-fn behind(targets: &[u64], count: usize) -> &[u64]
+pub(crate) fn behind(targets: &[u64], count: usize) -> &[u64]
     ensures { result.now ≡ drop count targets.now }
 {
     match targets.get(count..) {

@@ -1,8 +1,7 @@
-//! `.debug_loclists`, `.debug_str_offsets` and `.debug_aranges` of a file of which something moves: numbers that change in place.
+//! `.debug_loclists` and `.debug_aranges` of a file of which something moves: numbers that change in place.
 //!
-//! `lists` writes a number into each operand, in its old width and spelling; `offsets` a new number into each slot whose old one is a use;
-//! `ranges` the new offset of a unit into each set. All other bytes are as they were, and each section is copied once. The numbers come
-//! from `dwz_encode_operands` and `dwz_encode_texts`. The law is `section_laws`.
+//! `lists` writes a number into each operand, in its old width and spelling; `ranges` the new offset of a unit into each set. All other
+//! bytes are as they were, and each section is copied once. The numbers come from `dwz_encode_operands`. The law is `section_laws`.
 //!
 //! Read first: `specs/Numbers.antt`, `specs/Slots.antt`, `specs/Ranges.antt`.
 #![tactic(auto)]
@@ -11,9 +10,7 @@ mod laws;
 mod location_lists;
 mod numbers;
 mod range_sets;
-mod slot_numbers;
 
 pub use laws::section_laws;
 pub use location_lists::lists;
 pub use range_sets::ranges;
-pub use slot_numbers::offsets;

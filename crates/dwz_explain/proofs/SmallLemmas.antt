@@ -33,6 +33,7 @@ use Rattle.dwz_graph.specs.Named.{map_ok, units_named, units_refs}
 use Rattle.dwz_graph.specs.Names.{top_in}
 use Rattle.dwz_graph.specs.Resolved.{place_at}
 use Rattle.dwz_graph.proofs.FewRefs.{refs_few}
+use Rattle.dwz_graph.proofs.IndexRoom.{info_within}
 use Rattle.dwz_graph.proofs.NamedLemmas.{units_found, units_same}
 use Rattle.dwz_graph.proofs.RowLemmas.{rows-length}
 use Rattle.dwz_label.proofs.NodeLooks.{top_below}
@@ -44,6 +45,7 @@ use Rattle.dwz_move.specs.Bound.{somes}
 use Rattle.dwz_move.specs.Known.{KnowsRefs, StandsAt, tops_of_refs}
 use Rattle.dwz_move_files.proofs.TargetLemmas.{targets_there}
 use Rattle.dwz_unit.specs.Rows.{EntryRow, entry_shown, rows_below, rows_from, rows_in, rows_of, shown_entries, units_of as raw_units}
+use Rattle.dwz_unit.proofs.RowLemmas.{shown-length}
 use Rattle.dwz_label_differences.specs.Told.{EachNode, HasFewAttributes, IsShort}
 use Rattle.dwz_explain.specs.Verdicts.{HaveFewTargets}
 use Rattle.dwz_explain.proofs.PairLemmas.{HasFewPairs, table_few}
@@ -119,15 +121,6 @@ few_rows (Entry e children next) unit p h = (
   few_rows children unit (first_below p) (each_first (rows_below children unit (first_below p)) (rows_below next unit (behind p children)) h.1),
   few_rows next unit (behind p children) (each_last (rows_below children unit (first_below p)) (rows_below next unit (behind p children)) h.1),
 )
-
-pub rows_many : (f : Forest RawEntry) (unit : ℕ) (p : Position) → length (rows_below f unit p) ≡ size f
-unfolding rows_below
-rows_many End unit p = refl
-rows_many (Entry e children next) unit p =
-    let a = length-append (rows_below children unit (first_below p)) (rows_below next unit (behind p children)) in
-    let b = rows_many children unit (first_below p) in
-    let c = rows_many next unit (behind p children) in
-    omega (arith, a, b, c)
 
 -- ---- as they are meant
 
@@ -211,7 +204,7 @@ top_few s name rows unit depth spaces t many few h =
     let means = ((entries_agree s (Entry h.e h.c End)).ok (Entry h.d h.g End)).0 h.means in
     let m = entries_meant s name (Entry h.e h.c End) (Entry h.d h.g End) means raw in
     let long : length (drop h.p.before rows) ≡ length own + length h.after = ap (λ (rs : List EntryRow). length rs) h.stand ∙ length-append own h.after in
-    let all : length own ≡ size h.c + 0 + 1 = rows_many (Entry h.e h.c End) unit h.p in
+    let all : length own ≡ size h.c + 0 + 1 = shown-length (Entry h.e h.c End) unit h.p in
     let dropped = length-drop h.p.before rows in
     let same : size (entries_map name h.g) + 0 + 1 ≡ size h.c + 0 + 1 = m.1 in
     record {
@@ -270,10 +263,6 @@ top_short contents files indexes kept indexed t i =
     top_few (scope_of (around_of w.bytes raw) h.u) (name_at w.x.starts w.is.kept.read.doc) (rows_of raw) h.n 2 t.spaces t (omega (arith, all, few)) rows h.top
 
 -- ---- references: each takes a byte of `.debug_info` at least
-
-info_within : (bytes : List ℕ) → length (debug_info bytes) ≤ length bytes
-unfolding section_of
-info_within bytes = bytes_short bytes (section_range (sections_in bytes) 1)
 
 refs_small : (l : Limits) (number : ℕ) (bytes : List ℕ) (f : File) → IsRead l number bytes f → length f.resolved.refs.items < 2 ^ 32
 unfolding longest_file

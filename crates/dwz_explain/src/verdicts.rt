@@ -1,23 +1,22 @@
 //! Why two tops aren't shared.
 
 ghost use Rattle.std.specs.Prelude.{◌≡◌, ◌-◌, ◌<◌, ◌≤◌, ◌^◌, All, IfOk, IfSome, List, None, length};
-ghost use Rattle.dwz_def_explain.specs.Chain.{DifferThemselves};
 ghost use Rattle.dwz_def_explain.specs.Explained.{IsExplained};
 ghost use Rattle.dwz_def_reading.specs.Lists.{In};
 ghost use Rattle.dwz_def_tops.specs.Alike.{Alike, Movable};
 ghost use Rattle.dwz_def_tops.specs.Spots.{EntryName, FileUnit, Top, tops_of, units_of};
-ghost use Rattle.dwz_explain.specs.Verdicts.{HaveFewTargets, LeadsApart, TellsDifference};
-ghost use Rattle.dwz_graph.specs.declared.file.File.{File};
-ghost use Rattle.dwz_graph.specs.Files.{AreKept, docs_of};
+ghost use Rattle.dwz_explain.specs.Verdicts.{HaveFewTargets, LabelEnds, LeadsApart, TellsDifference};
+ghost use Rattle.dwz_graph.specs.Files.{docs_of};
 ghost use Rattle.dwz_graph.specs.Indexed.{AreIndexes};
 ghost use Rattle.dwz_label.specs.Labels.{label_of};
 ghost use Rattle.dwz_label.specs.Shown.{AreShown, nth_label};
 ghost use Rattle.dwz_label_differences.specs.Told.{IsShort};
-ghost use Rattle.dwz_label_files.specs.Shown.{ShowTargets};
+ghost use Rattle.dwz_label_files.specs.LeastLaws.{flags_of};
+ghost use Rattle.dwz_move_files.specs.Outlines.{IsOutline};
 
 use dwz_def_explain::Verdict;
 use dwz_graph::{Graph, Index};
-use dwz_groups::Groups;
+use dwz_groups::{Groups, Tops};
 use dwz_label::{Labels, firsts, nodes};
 use dwz_label_differences::what_differs;
 use dwz_label_files::labels;
@@ -26,21 +25,32 @@ use dwz_nodes_chains::{Difference, find_chain};
 use std::alloc::Global;
 use std::thread::Threads;
 
-// The number, which 32 bits hold.
-#[inline(always)]
-fn narrow(number: usize) -> u32
-    ensures { number < 2 ^ 32 → result ≡ number }
+// Tops of files that are kept are short, and have few references.
+fn look_at_tops(graph: &Graph, indexes: &[Index])
+    requires { AreIndexes (docs_of graph.now) indexes.now }
+    ensures short { (t : Top) → In t (tops_of (units_of (docs_of graph.now))) → IsShort t }
+    ensures few { HaveFewTargets (units_of (docs_of graph.now)) }
 {
-    number.min(u32::MAX as usize) as u32
+    let _indexes = indexes;
+    let _files = graph.files();
+}
+
+// Of each top whether it may move.
+fn movable_of(alloc: Global, tops: &Tops) -> Result<Vec<bool>, NoMemory>
+    ensures { IfOk result (λ flags. flags.items ≡ flags_of tops.now) }
+{
+    let rows = tops.rows.as_slice();
+    rows.iter().map(|row| row.movable).collect(alloc)
 }
 
 // The same numbers, which 32 bits hold.
 fn narrowed(alloc: Global, chain: &[usize]) -> Result<Numbers, NoMemory>
-    ensures { All (λ n. n < 2 ^ 32) chain.now → IfOk result (λ numbers. numbers ≡ chain.now) }
+    requires { All (λ n. n < 2 ^ 32) chain.now }
+    ensures { IfOk result (λ numbers. numbers ≡ chain.now) }
 {
     let mut numbers = Vec::with_capacity(alloc, chain.len())?;
     for number in chain {
-        numbers.push(narrow(*number))?;
+        numbers.push(*number as u32)?;
     }
     Ok(Numbers::new(numbers))
 }
@@ -49,14 +59,14 @@ fn narrowed(alloc: Global, chain: &[usize]) -> Result<Numbers, NoMemory>
 fn verdict_at(alloc: Global, labels: &Labels, apart: &Difference) -> Result<Verdict, NoMemory>
     requires first { apart.now.first < length labels.now }
     requires second { apart.now.second < length labels.now }
+    requires ends { LabelEnds labels.now apart.now }
     ensures { (c d : Top) → nth_label labels.now apart.now.first ≡ label_of c → nth_label labels.now apart.now.second ≡ label_of d
-        → IsShort c → DifferThemselves c d → All (λ n. n < 2 ^ 32) apart.now.chain.items
-        → IfOk result (TellsDifference c d apart.now.chain.items) }
+        → IsShort c → IfOk result (TellsDifference c d apart.now.chain.items) }
 {
     let first = labels.get(apart.first as usize);
     let second = labels.get(apart.second as usize);
     match what_differs(alloc, first, second)? {
-        None => Ok(Verdict::Alike),
+        None => unreachable!(),
         Some(what) => {
             let chain = narrowed(alloc, apart.chain.as_slice())?;
             Ok(Verdict::Differ { chain, what })
@@ -97,33 +107,31 @@ fn chain_of(
 }
 
 /// Why two tops that may move aren't alike: the least chain of references that leads from them to two tops that differ by themselves, and
-/// what differs there; or that they are alike. The tops are `a` and `b`, by their numbers among those of all files; `movable` says of each
-/// top whether it may move, and `targets` has those of the tops that may. It is the same for every number of workers.
+/// what differs there; or that they are alike. The tops are `a` and `b`, by their numbers among those of all files, whose outline is
+/// `tops`. It is the same for every number of workers. The only error is that memory ran out.
 pub fn explain<R: Threads + Sync>(
     rt: &R,
     alloc: Global,
     graph: &Graph,
     indexes: &[Index],
-    targets: &Groups,
-    movable: &[bool],
+    tops: &Tops,
     workers: u32,
     a: u32,
     b: u32,
 ) -> Result<Verdict, NoMemory>
     requires indexes { AreIndexes (docs_of graph.now) indexes.now }
-    requires movable { length movable.now ≡ length (tops_of (units_of (docs_of graph.now))) }
-    requires targets { length targets.now ≡ length (tops_of (units_of (docs_of graph.now))) }
-    requires inside { All (λ ts. All (λ t. t < length targets.now) ts) targets.now }
+    requires tops { IsOutline (docs_of graph.now) tops.now }
     requires workers { (0 < workers) × (workers ≤ 64) }
-    requires first { a < length movable.now }
-    requires second { b < length movable.now }
-    ensures { (files : List File) (x y : Top) → AreKept graph.now files → ShowTargets (units_of (docs_of graph.now)) movable.now targets.now
-        → In x (tops_of (units_of (docs_of graph.now))) → In y (tops_of (units_of (docs_of graph.now)))
-        → Movable (units_of (docs_of graph.now)) x.number → Movable (units_of (docs_of graph.now)) y.number → x.number ≡ a → y.number ≡ b
-        → IfOk result (IsExplained (units_of (docs_of graph.now)) x y) }
+    requires first { Movable (units_of (docs_of graph.now)) a }
+    requires second { Movable (units_of (docs_of graph.now)) b }
+    ensures { (x y : Top) → In x (tops_of (units_of (docs_of graph.now))) → In y (tops_of (units_of (docs_of graph.now))) → x.number ≡ a
+        → y.number ≡ b → IfOk result (IsExplained (units_of (docs_of graph.now)) x y) }
 {
-    let labels = labels(rt, alloc, graph, indexes, movable, workers)?;
-    match chain_of(alloc, &labels, targets, movable, a, b)? {
+    look_at_tops(graph, indexes);
+    let movable = movable_of(alloc, tops)?;
+    let flags = movable.as_slice();
+    let labels = labels(rt, alloc, graph, indexes, flags, workers)?;
+    match chain_of(alloc, &labels, &tops.targets, flags, a, b)? {
         None => Ok(Verdict::Alike),
         Some(apart) => verdict_at(alloc, &labels, &apart),
     }

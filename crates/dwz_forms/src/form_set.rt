@@ -47,9 +47,11 @@ pub(crate) fn written_shape(form: u64) -> Shape
     }
 }
 
-// Whether what a form stores is an address, an index, or an offset of another section.
+/// Whether a form binds to the place of its value: what it stores is an address, an index of one, an offset of another section, or an index
+/// of a list.
+#[inline(always)]
 #[tactic(auto, unfolding(dwz_codes::specs::Rows::has))]
-fn binds(form: u64) -> bool
+pub fn is_binding(form: u64) -> bool
     ensures { result ≡ has form binding_forms }
 {
     match form {
@@ -110,7 +112,7 @@ fn is_common_root(form: u64) -> bool
 fn own_free_shape(form: u64) -> Shape
     ensures { result ≡ shape_of (free_forms form_rows) form }
 {
-    if binds(form) {
+    if is_binding(form) {
         return Shape::Refused;
     }
     form_shape(form)
@@ -119,7 +121,7 @@ fn own_free_shape(form: u64) -> Shape
 fn beside_free_shape(form: u64) -> Shape
     ensures { result ≡ shape_of (free_forms written_rows) form }
 {
-    if binds(form) {
+    if is_binding(form) {
         return Shape::Refused;
     }
     written_shape(form)

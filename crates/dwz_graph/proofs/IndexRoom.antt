@@ -27,7 +27,7 @@ unfolding entries_in unit_and_entries
 places_many [] = omega arith
 places_many (u ∷ raw) = omega (arith, length-append (u.at ∷ places_of u) (unit_and_entries raw), below_many u.below, places_many raw)
 
-info_within : (bytes : List ℕ) → length (debug_info bytes) ≤ length bytes
+pub info_within : (bytes : List ℕ) → length (debug_info bytes) ≤ length bytes
 unfolding section_of
 info_within bytes = bytes_short bytes (section_range (sections_in bytes) 1)
 

@@ -124,12 +124,4 @@ impl Tables {
     {
         self.section.as_slice()
     }
-
-    /// The section.
-    pub fn into_section(self) -> Vec<u8>
-        ensures { result.items ≡ joined self }
-    {
-        let Tables { section, .. } = self;
-        section
-    }
 }

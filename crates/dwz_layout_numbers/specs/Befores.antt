@@ -6,6 +6,7 @@ use Rattle.dwz_def_reading.specs.Classes.{Class, class_of, names_file}
 use Rattle.dwz_model.specs.declared.place.Pair.{Pair}
 use Rattle.dwz_unit.specs.Rows.{EntryRow}
 use Rattle.dwz_layout_numbers.specs.declared.firsts.CountsBefore.{CountsBefore}
+use Rattle.dwz_layout_numbers.specs.declared.firsts.PairCounts.{PairCounts}
 
 -- the values of the class are texts that are stored by an offset or by a slot
 abbrev pub is_placed : Class → Bool
@@ -25,6 +26,10 @@ is_pair_placed pair = not (pair.name == 0x01) && is_placed (class_of pair.form)
 -- a constant with one of the names of numbers of files
 abbrev pub is_pair_file : Pair → Bool
 is_pair_file pair = is_constant (class_of pair.form) && names_file pair.name
+
+-- how many texts, and how many numbers of files, there are among values of these names and forms
+abbrev pub counts_of : List Pair → PairCounts
+counts_of pairs = record { texts = count_by is_pair_placed pairs; files = count_by is_pair_file pairs }
 
 abbrev pub text_count : List RawAttr → ℕ
 text_count attrs = count_by (λ a. is_pair_placed a.pair) attrs

@@ -1,13 +1,13 @@
 //! Where what entries name begins, among the texts of their file and among its numbers of files.
 
-ghost use Rattle.std.specs.Prelude.{◌≡◌, ℕ, ◌+◌, ◌<◌, ◌^◌, count_by, length, IfOk};
+ghost use Rattle.std.specs.Prelude.{◌≡◌, ℕ, ◌+◌, ◌<◌, ◌^◌, count_by, length, map, IfOk};
 ghost use Rattle.dwz_unit.specs.Rows.{rows_of, units_of};
 ghost use Rattle.dwz_layout_numbers.specs.Befores as Specs;
 ghost use Rattle.dwz_layout_numbers.specs.Befores.{befores_from, is_pair_file, is_pair_placed};
 
 use dwz_codes::{Class, DW_AT_SIBLING, class_of, names_file};
 use dwz_model::{NoMemory, Pair};
-use dwz_unit::{Units, Values};
+use dwz_unit::{Declarations, Units};
 use std::alloc::Global;
 
 /// How many texts, and how many numbers of files, entries have that come before an entry.
@@ -17,6 +17,13 @@ pub struct CountsBefore {
     pub texts: u64,
     /// Constants that are numbers of files (2.14, 3.3.8.2).
     pub files: u64,
+}
+
+// How many texts, and how many numbers of files, an entry has.
+#[derive(Clone, Copy)]
+struct PairCounts {
+    texts: usize,
+    files: usize,
 }
 
 fn is_placed(class: Class) -> bool
@@ -64,22 +71,42 @@ fn count_files(pairs: &[Pair]) -> usize
     pairs.iter().filter(|pair| is_file(pair)).count()
 }
 
+// How many texts and numbers of files there are among values of these names and forms.
+fn counts_of(pairs: &[Pair]) -> PairCounts
+    ensures { result ≡ Specs.counts_of pairs.now }
+{
+    PairCounts {
+        texts: count_texts(pairs),
+        files: count_files(pairs),
+    }
+}
+
+// The same of each declaration.
+fn counts_of_each(alloc: Global, declarations: &Declarations) -> Result<Vec<PairCounts>, NoMemory>
+    ensures { IfOk result (λ v. v.items ≡ map Specs.counts_of declarations.now.pairs) }
+{
+    declarations
+        .pairs()
+        .iter()
+        .map(|pairs| counts_of(pairs.as_slice()))
+        .collect(alloc)
+}
+
 /// For each entry of a file how many texts and numbers of files come before those that it names, in preorder.
 pub fn befores(alloc: Global, units: &Units) -> Result<Vec<CountsBefore>, NoMemory>
     ensures { IfOk result (λ v. v.items ≡ befores_from (record { texts = 0; files = 0 }) (rows_of (units_of units.now))) }
 {
+    let declarations = units.declarations();
+    let counts = counts_of_each(alloc, &declarations)?;
     let mut befores = Vec::with_capacity(alloc, units.entries() as usize)?;
     let mut before = CountsBefore { texts: 0, files: 0 };
     for i in 0..units.entries() {
         befores.push(before)?;
         // It has fewer than 2^32 values.
         let _count = units.entry(i).attrs;
-        let Values {
-            pairs,
-            cursor: _cursor,
-        } = units.values(i);
-        before.texts += count_texts(pairs) as u64;
-        before.files += count_files(pairs) as u64;
+        let own = counts[declarations.number(i)];
+        before.texts += own.texts as u64;
+        before.files += own.files as u64;
     }
     Ok(befores)
 }

@@ -13,6 +13,7 @@ pub mod NameMarks
 pub mod MarkSteps
 pub mod RowMarks
 pub mod OtherValues
+pub mod FormSteps
 pub mod FileSteps
 pub mod UnitSteps
 pub mod IntoLemmas

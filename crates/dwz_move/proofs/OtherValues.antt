@@ -1,28 +1,34 @@
 -- Values that are no expressions name nothing, so those behind an entry's last expression mark no top.
-use Rattle.std.proofs.Common.{◌≡◌, ℕ, zero, suc, ◌+◌, ◌<◌, ◌≤◌, Bool, true, false, List, [], ◌∷◌, Option, Some, Ok, drop, get_or, length, take, slice_get}
+use Rattle.std.proofs.Common.{◌≡◌, ℕ, zero, suc, ◌+◌, ◌<◌, ◌≤◌, Bool, true, false, List, [], ◌∷◌, Option, Some, None, Ok, drop, get_or, length, map, take, slice_get, if◌then◌else◌}
 use Rattle.std.proofs.Common.{refl, sym, ap, subst, ◌∙◌, arith, inl, ⊎_elim}
 use Rattle.std.proofs.lemmas.Bool.{eqb-false, eqb-true, false≢true, or_cases}
 use Rattle.std.proofs.lemmas.List.{get_or-take, length-take}
-use Rattle.std.specs.Prelude.{◌||◌, ◌==◌, IsOk}
+use Rattle.std.specs.Prelude.{◌||◌, ◌==◌, IsOk, count_by, is_some}
+use Rattle.std.specs.List.{list_any}
+use Rattle.dwz_def_tops.specs.Alike.{any_attr}
 use Rattle.dwz_def_tops.specs.Spots.{EntryName}
 use Rattle.dwz_def_reading.specs.Input.{Input}
 use Rattle.dwz_def_reading.specs.Entries.{RawAttr}
 use Rattle.dwz_def_reading.specs.Units.{RawUnit}
 use Rattle.dwz_def_reading.specs.Values.{Raw, value_at, written_rows}
-use Rattle.dwz_graph.specs.Rows.{AreAttrsMeant}
-use Rattle.dwz_graph.proofs.StepLemmas.{no_value, sibling, value}
-use Rattle.dwz_def_reading.specs.Documents.{Attr, Value, attr_map}
+use Rattle.dwz_graph.specs.Rows.{AreAttrsMeant, IsEntryMeant}
+use Rattle.dwz_graph.proofs.StepLemmas.{entry, no_value, sibling, value}
+use Rattle.dwz_def_reading.specs.Documents.{Attr, Node, Value, attr_map, node_map}
 use Rattle.dwz_def_reading.specs.Meanings.{MeaningContext}
 use Rattle.dwz_def_reading.specs.Classes.{class_of}
 use Rattle.dwz_def_reading.specs.Meant.{attr_with, meaning}
 use Rattle.dwz_model.specs.declared.place.Pair.{Pair}
 use Rattle.dwz_graph.specs.Named.{value_refs}
 use Rattle.dwz_graph.proofs.ValueSteps.{next_read, no_pair}
+use Rattle.dwz_unit.specs.Known.{pairs_of}
+use Rattle.dwz_unit.specs.Named.{named_count, names_entry}
+use Rattle.dwz_unit.specs.Rows.{EntryRow}
 use Rattle.dwz_unit.specs.Values.{Reads}
 use Rattle.dwz_unit.proofs.ReadsLemmas.{reads_count, reads_next}
 use Rattle.dwz_move.specs.Bound.{is_expression}
 use Rattle.dwz_move.specs.Marked.{MarksIf, expression_names, expression_pins, in_expression}
 use Rattle.dwz_move.specs.Values.{is_entry}
+use Rattle.dwz_move.proofs.MarkLemmas.{marks_nothing}
 use Rattle.dwz_move.proofs.MarkSteps.{MarkLeft, Test, said}
 use Rattle.dwz_move.proofs.NameMarks.{no_names, no_pins, value_kinds}
 
@@ -91,6 +97,46 @@ others_read entry (p ∷ pairs) at (a ∷ values) o r =
     let is : Some a ≡ Some first = x.is in
     let same : a ≡ first = cc in
     (subst (λ (w : RawAttr). is_expression (class_of w.pair.form) ≡ false) (sym same) o.0, others_read entry pairs x.place values o.1 x.rest)
+
+-- where forms tell how many entries they name
+abbrev pub expression_in : List Pair → Bool
+expression_in pairs = list_any (λ p. is_expression (class_of p.form)) pairs
+
+pub without_expressions : (pairs : List Pair) → is_some (named_count pairs) ≡ true → expression_in pairs ≡ false
+without_expressions pairs e = by (expression_in pairs) refl where
+  by : (b : Bool) → expression_in pairs ≡ b → expression_in pairs ≡ false
+  by false is = is
+  by true is = absurd (false≢true (sym (ap (λ (b : Bool). is_some (if b then None else Some (count_by names_entry pairs))) is) ∙ e))
+
+pub forms_tell : (pairs : List Pair) (count : ℕ) → named_count pairs ≡ Some count → (expression_in pairs ≡ false) × (count_by names_entry pairs ≡ count)
+forms_tell pairs count e = by (expression_in pairs) refl where
+  made : Bool → Option ℕ
+  made b = if b then None else Some (count_by names_entry pairs)
+
+  by : (b : Bool) → expression_in pairs ≡ b → (expression_in pairs ≡ false) × (count_by names_entry pairs ≡ count)
+  by false is = (is, (let told : Some (count_by names_entry pairs) ≡ Some count = ap made (sym is) ∙ e in cc))
+  by true is = (let never : None ≡ Some count = ap made (sym is) ∙ e in absurd cc)
+
+pub others_by_forms : (values : List RawAttr) → expression_in (map (λ (a : RawAttr). a.pair) values) ≡ false → AreOthers values
+others_by_forms [] e = tt
+others_by_forms (a ∷ values) e =
+    let own = is_expression (class_of a.pair.form) in
+    let rest = expression_in (map (λ (w : RawAttr). w.pair) values) in
+    (neither own rest e, others_by_forms values (neither_else own rest e))
+  where
+    neither : (x y : Bool) → (x || y) ≡ false → x ≡ false
+    neither false y h = refl
+    neither true y h = h
+
+    neither_else : (x y : Bool) → (x || y) ≡ false → y ≡ false
+    neither_else false y h = h
+    neither_else true y h = absurd (false≢true (sym h))
+
+pub mark_nothing : (test : Test) → OfExpressions test → (raw : List RawUnit) (s : MeaningContext ℕ) (name : ℕ → EntryName) (numbers : List ℕ) (i : ℕ) (row : EntryRow) (d : Node ℕ) (old : List Bool)
+    → is_some (named_count (pairs_of row.entry)) ≡ true → IsEntryMeant raw s i numbers row d → MarksIf (λ n. any_attr (test n) (node_map name d) ≡ true) old old
+mark_nothing test of raw s name numbers i row d old e m =
+    let others = others_by_forms row.entry.attrs (without_expressions (pairs_of row.entry) e) in
+    marks_nothing (λ n. any_attr (test n) (node_map name d) ≡ true) old (λ n said. others_say_nothing test of raw s name n row.entry.attrs numbers d.attrs others (entry raw s i numbers row d m) said)
 
 -- ---- the pairs in front of these
 

@@ -1,5 +1,5 @@
 -- Tops that references go into, and the tops of a unit.
-use Rattle.std.specs.Prelude.{◌≡◌, ℕ, ◌+◌, ◌++◌, drop, slice_index, Bool, true, false, List, [], ◌∷◌, Option, Some, None, ◌&&◌, nat_lt, not}
+use Rattle.std.specs.Prelude.{◌≡◌, ℕ, ◌+◌, ◌++◌, drop, slice_index, List, [], ◌∷◌, Option, Some, None, ◌&&◌, nat_lt, not}
 use Rattle.std.specs.Prelude.{if◌then◌else◌}
 use Rattle.dwz_def_tops.specs.Alike.{is_number, unit_in}
 use Rattle.dwz_def_tops.specs.Spots.{EntryName, Top}
@@ -7,14 +7,10 @@ use Rattle.dwz_graph.specs.Rows.{node_refs}
 use Rattle.dwz_groups.specs.declared.groups.Edge.{Edge}
 use Rattle.dwz_graph.specs.Names.{top_in}
 use Rattle.dwz_def_reading.specs.Documents.{Node}
-use Rattle.dwz_def_reading.specs.Classes.{OfExpression}
 use Rattle.dwz_def_reading.specs.Classes.{Class}
 use Rattle.dwz_move.specs.Values.{is_entry}
+pub use Rattle.dwz_unit.specs.Named.{is_expression}
 use Rattle.dwz_move.specs.declared.bind.TopRange.{TopRange}
-
-abbrev pub is_expression : Class → Bool
-is_expression OfExpression = true
-is_expression _ = false
 
 -- the tops begin with those of the entries at these places, by their names
 abbrev pub AreInto : (ℕ → EntryName) → List (Option ℕ) → List ℕ → Type 0

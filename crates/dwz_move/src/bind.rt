@@ -1,11 +1,11 @@
 //! What binds a top: what an entry of it holds that says where it stands, or leads out of its unit.
 
-ghost use Rattle.std.specs.Prelude.{◌≡◌, ℕ, ◌<◌, ◌≤◌, List, Option, Ok, Some, drop, IfOk};
+ghost use Rattle.std.specs.Prelude.{◌≡◌, ℕ, ◌<◌, ◌≤◌, List, Option, Ok, Some, drop, false, is_some, true, IfOk};
 ghost use Rattle.dwz_def_tops.specs.Alike;
-ghost use Rattle.dwz_def_tops.specs.Alike.{attr_binds, binding_forms, entry_binds};
+ghost use Rattle.dwz_def_tops.specs.Alike.{any_attr, attr_binds, entry_binds};
 ghost use Rattle.dwz_def_tops.specs.Spots.{EntryName, Top};
-ghost use Rattle.dwz_def_reading.specs.Rows.{has};
-ghost use Rattle.dwz_def_reading.specs.Units.{entries_in};
+ghost use Rattle.dwz_def_reading.specs.Entries.{RawAttr};
+ghost use Rattle.dwz_def_reading.specs.Units.{RawUnit, entries_in};
 ghost use Rattle.dwz_graph.specs.Rows.{IsEntryMeant, node_refs};
 ghost use Rattle.dwz_def_reading.specs.Documents.{Node, Value, attr_map, node_map};
 ghost use Rattle.dwz_def_reading.specs.Classes;
@@ -16,16 +16,14 @@ ghost use Rattle.dwz_graph.specs.Resolved.{stored};
 ghost use Rattle.dwz_move.specs.Bound;
 ghost use Rattle.dwz_move.specs.Bound.{AreInto, HasTops};
 ghost use Rattle.dwz_graph.specs.Names.{top_in};
+ghost use Rattle.dwz_unit.specs.Known.{pairs_of};
+ghost use Rattle.dwz_unit.specs.Named.{named_count};
 ghost use Rattle.dwz_unit.specs.Rows.{EntryRow, units_of};
 
 use crate::values::{is_entry, read_expression};
-use dwz_codes::{
-    Class, DW_AT_SIBLING, DW_FORM_ADDR, DW_FORM_ADDRX, DW_FORM_ADDRX1, DW_FORM_ADDRX2,
-    DW_FORM_ADDRX3, DW_FORM_ADDRX4, DW_FORM_LOCLISTX, DW_FORM_RNGLISTX, DW_FORM_SEC_OFFSET,
-    DW_TAG_IMPORTED_UNIT, class_of,
-};
+use dwz_codes::{Class, DW_AT_SIBLING, DW_TAG_IMPORTED_UNIT, class_of};
 use dwz_expr::Operand;
-use dwz_forms::Raw;
+use dwz_forms::{Raw, is_binding};
 use dwz_model::{NoMemory, Pair, at_or};
 use dwz_unit::{Units, Values, known_value};
 
@@ -34,26 +32,6 @@ use dwz_unit::{Units, Values, known_value};
 pub struct TopRange {
     pub first: u32,
     pub end: u32,
-}
-
-// Whether a form binds: what it stores is an address, an index of one, an offset into another section, or an index of a list.
-#[inline(always)]
-#[tactic(auto, unfolding(dwz_codes::specs::Rows::has))]
-fn is_binding(form: u64) -> bool
-    ensures { result ≡ has form binding_forms }
-{
-    match form {
-        DW_FORM_ADDR
-        | DW_FORM_SEC_OFFSET
-        | DW_FORM_ADDRX
-        | DW_FORM_LOCLISTX
-        | DW_FORM_RNGLISTX
-        | DW_FORM_ADDRX1
-        | DW_FORM_ADDRX2
-        | DW_FORM_ADDRX3
-        | DW_FORM_ADDRX4 => true,
-        _ => false,
-    }
 }
 
 #[inline(always)]
@@ -78,7 +56,24 @@ fn leaves(own: &TopRange, into: Option<u32>) -> bool
     }
 }
 
-// Whether what a value says binds the top that it stands in. The tops that references go into are given from `next` on.
+// Whether what a value says binds the top that it stands in, where it is no expression: its form tells. The tops that references go into
+// are given from `next` on.
+#[inline(always)]
+fn form_binds(own: &TopRange, into: &[Option<u32>], next: usize, form: u64) -> bool
+    ensures { (s : MeaningContext ℕ) (a : RawAttr) (v : Value ℕ) (tops : List Top) (unit : ℕ) (name : ℕ → EntryName) → HasTops tops unit own.now
+        → meaning s a ≡ Ok v → a.pair.form ≡ form → Bound.is_expression (Classes.class_of form) ≡ false
+        → AreInto name (drop next into.now) (value_refs v) → result ≡ attr_binds tops unit (attr_map name (attr_with a v)) }
+{
+    if is_binding(form) {
+        return true;
+    }
+    if is_entry(class_of(form)) {
+        return leaves(own, at_or(into, next, None));
+    }
+    false
+}
+
+// The same of any value.
 #[inline(always)]
 fn value_binds(
     own: &TopRange,
@@ -96,15 +91,31 @@ fn value_binds(
     if is_binding(pair.form) {
         return Ok(true);
     }
-    let class = class_of(pair.form);
-    if is_entry(class) {
-        return Ok(leaves(own, at_or(into, next, None)));
+    if !is_expression(class_of(pair.form)) {
+        return Ok(form_binds(own, into, next, pair.form));
     }
-    if is_expression(class) {
-        let address = read_expression(raw, end, operands)?;
-        return Ok(address || !operands.is_empty());
+    let address = read_expression(raw, end, operands)?;
+    Ok(address || !operands.is_empty())
+}
+
+// Whether the values of an entry bind the top that it stands in, where none of them is an expression: names and forms tell, and the tops
+// that its references go into.
+fn forms_bind(own: &TopRange, into: &[Option<u32>], pairs: &[Pair]) -> bool
+    ensures { (raw : List RawUnit) (s : MeaningContext ℕ) (i : ℕ) (numbers : List ℕ) (row : EntryRow) (d : Node ℕ) (tops : List Top) (unit : ℕ)
+        (name : ℕ → EntryName) → HasTops tops unit own.now → IsEntryMeant raw s i numbers row d → AreInto name into.now (node_refs d)
+        → pairs.now ≡ pairs_of row.entry → is_some (named_count pairs.now) ≡ true → result ≡ any_attr (attr_binds tops unit) (node_map name d) }
+{
+    let mut next = 0;
+    for pair in pairs {
+        if pair.name == DW_AT_SIBLING {
+            continue;
+        }
+        if form_binds(own, into, next, pair.form) {
+            return true;
+        }
+        next += count_of(pair.form);
     }
-    Ok(false)
+    false
 }
 
 /// Whether what an entry holds binds the top that it stands in, which is one of these of its unit. The tops that its references go
@@ -125,6 +136,9 @@ pub(crate) fn entry_binds(
         return Ok(true);
     }
     let Values { pairs, mut cursor } = units.values(i);
+    if units.named_count(i).is_some() {
+        return Ok(forms_bind(own, into, pairs));
+    }
     let mut next = 0;
     for pair in pairs {
         let raw = known_value(&mut cursor, pair);

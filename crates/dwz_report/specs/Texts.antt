@@ -104,7 +104,9 @@ abbrev pub memory_text : Text
 memory_text = line (codes "dwz: out of memory" ∷ [])
 
 abbrev pub usage_text : Text
-usage_text = line (codes "usage: dwz [-q] [--dwarf-5] [-m COMMON [-M NAME]] [-o OUT] [-j N] FILE... | --demo N" ∷ [])
+usage_text = line (
+    codes "usage: dwz [-q] [--dwarf-5] [-m COMMON [-M NAME]] [-o OUT] [-j N] FILE..."
+    ∷ codes " | --demo N | --explain FILE OFFSET FILE OFFSET" ∷ [])
 
 -- ---- what was done
 

@@ -8,8 +8,8 @@ use crate::summary::Summary;
 use dwz_model::{Blob, NoMemory, Reason, Refusal};
 use std::alloc::Global;
 
-// These parts, and the end of the line.
-fn line(alloc: Global, parts: &[&[u8]]) -> Result<Vec<u8>, NoMemory>
+/// These parts, and the end of the line.
+pub fn line(alloc: Global, parts: &[&[u8]]) -> Result<Vec<u8>, NoMemory>
     ensures { IfOk result (λ v. v.items ≡ Texts.line (map (λ p. p.now) parts.now)) }
 {
     let mut text = Vec::new(alloc);
@@ -20,13 +20,15 @@ fn line(alloc: Global, parts: &[&[u8]]) -> Result<Vec<u8>, NoMemory>
     Ok(text)
 }
 
-fn decimal(alloc: Global, n: u64) -> Result<Vec<u8>, NoMemory>
+/// A number in decimal.
+pub fn decimal(alloc: Global, n: u64) -> Result<Vec<u8>, NoMemory>
     ensures { IfOk result (λ v. v.items ≡ decimal n) }
 {
     Ok(format!(in alloc; "{n}")?.into_bytes())
 }
 
-fn hexadecimal(alloc: Global, n: u64) -> Result<Vec<u8>, NoMemory>
+/// A number in lower-case hexadecimal.
+pub fn hexadecimal(alloc: Global, n: u64) -> Result<Vec<u8>, NoMemory>
     ensures { IfOk result (λ v. v.items ≡ Texts.hexadecimal n) }
 {
     Ok(format!(in alloc; "{n:x}")?.into_bytes())
@@ -106,7 +108,7 @@ pub fn memory_text() -> &'static [u8]
 pub fn usage_text() -> &'static [u8]
     ensures { result.now ≡ Texts.usage_text }
 {
-    b"usage: dwz [-q] [--dwarf-5] [-m COMMON [-M NAME]] [-o OUT] [-j N] FILE... | --demo N\n"
+    b"usage: dwz [-q] [--dwarf-5] [-m COMMON [-M NAME]] [-o OUT] [-j N] FILE... | --demo N | --explain FILE OFFSET FILE OFFSET\n"
 }
 
 fn common_text(alloc: Global, common: &Option<(Blob, u64)>) -> Result<Vec<u8>, NoMemory>

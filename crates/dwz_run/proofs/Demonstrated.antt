@@ -1,13 +1,14 @@
 -- How a run ends whose words ask for a demonstration: they ask for nothing else, so what came is of its two files, and nothing was put.
-use Rattle.std.proofs.Common.{◌≡◌, ◌==◌, ◌&&◌, ℕ, List, [], length, Option, Some, sym, ap, subst, ◌∙◌, eqb-true, arith}
-use Rattle.std.specs.Prelude.{Contains, if◌then◌else◌, is_none, is_some, nat_lt}
-use Rattle.std.proofs.lemmas.Bool.{and_parts}
+use Rattle.std.proofs.Common.{◌≡◌, ℕ, List, [], length, Option, Some, sym, ap, subst, ◌∙◌, arith}
+use Rattle.std.specs.Prelude.{Contains}
 use Rattle.dwz_model.specs.declared.fault.Refusal.{Refusal}
 use Rattle.dwz_outside.specs.Store.{Store}
 use Rattle.dwz_outside.specs.Told.{ConsoleSeen, FilesSeen, LeavesPuts}
 use Rattle.dwz_report.specs.Texts.{refusal_text}
 use Rattle.dwz_words.specs.declared.options.Options.{Options}
+use Rattle.dwz_words.specs.Asked.{names_got}
 use Rattle.dwz_words.specs.Lawful.{Lawful}
+use Rattle.dwz_words.proofs.Fits.{with_demo}
 use Rattle.dwz_run_course.specs.declared.output.Output.{Output}
 use Rattle.dwz_run_course.specs.declared.status.Status.{Status}
 use Rattle.dwz_run_course.specs.declared.status.Status.TheVariants.{Done, Refused, Usage, ReadFault, WriteFault, NoMemory, ConsoleFault}
@@ -16,7 +17,8 @@ use Rattle.dwz_run_course.specs.Ends.{AreContents, Came, Says, done_text, puts_u
 use Rattle.dwz_run_course.specs.Outcome.{Outcome, name_of_file, refuses, writes}
 use Rattle.dwz_run_course.specs.Puts.{PutsDone}
 use Rattle.dwz_gen.specs.Demo.{demo_files}
-use Rattle.dwz_def_run.specs.Out.{Out}
+use Rattle.dwz_def_run.specs.Out.{Out, Slims}
+use Rattle.dwz_def_run.proofs.Gotten.{got_files}
 use Rattle.dwz_run.specs.Laws.{AsksForDemo, DemoEnds, IsDemoText, RunEnds}
 use Rattle.dwz_run.proofs.AllDone.{with_puts}
 use Rattle.dwz_run.proofs.Causes.{demo_refused}
@@ -36,10 +38,13 @@ module _ (words : List (List ℕ)) (old new : FilesSeen) (shown shown_new : Cons
   o = a.options
 
   no_files : length o.files ≡ 0
-  no_files =
-      let fit = a.lawful.fit.files_or_demo in
-      let is = sym (ap (λ (d : Option ℕ). if is_some d then length o.files == 0 && (is_none o.common && (is_none o.name && is_none o.out)) else nat_lt 0 (length o.files)) a.is_demo) ∙ fit in
-      eqb-true (length o.files) 0 (and_parts (length o.files == 0) (is_none o.common && (is_none o.name && is_none o.out)) is).0
+  no_files = (with_demo o a.lawful.fit a.units a.is_demo).0
+
+  -- so none are got
+  none_got : (name : List ℕ) → Contains (names_got o) name → ⊥
+  none_got name there =
+      let names = got_files o (with_demo o a.lawful.fit a.units a.is_demo).2 in
+      none_named o.files name no_files (subst (λ (ns : List (List ℕ)). Contains ns name) names there)
 
   -- what came is of the demonstration
   same_options : (other : Options) → Lawful words other → other ≡ o
@@ -50,11 +55,11 @@ module _ (words : List (List ℕ)) (old new : FilesSeen) (shown shown_new : Cons
 
   are_made : (outcome : Outcome) (came : Came demo_files Out words old outcome) → came.contents ≡ demo_files a.units
   are_made outcome came =
-      subst (λ (d : Option ℕ). AreContents demo_files d old came.options.files came.contents) (is_demo came.options came.lawful) came.are
+      subst (λ (d : Option ℕ). AreContents demo_files d old (names_got came.options) came.contents) (is_demo came.options came.lawful) came.are
 
-  of_made : (outcome : Outcome) (came : Came demo_files Out words old outcome) → Out (demo_options o) came.contents outcome
+  of_made : (outcome : Outcome) (came : Came demo_files Out words old outcome) → Slims (demo_options o) came.contents outcome
   of_made outcome came =
-      subst (λ (x : Options). Out (demo_options x) came.contents outcome) (same_options came.options came.lawful)
+      subst (λ (x : Options). Slims (demo_options x) came.contents outcome) (same_options came.options came.lawful)
       (subst (λ (d : Option ℕ). Out (asked_by d came.options) came.contents outcome) (is_demo came.options came.lawful) came.given)
 
   made : (out : Output) (came : Came demo_files Out words old (writes out)) (text : List ℕ) → text ≡ done_text came.options out → IsDemoText a text
@@ -83,9 +88,7 @@ module _ (words : List (List ℕ)) (old new : FilesSeen) (shown shown_new : Cons
         subst (Says shown shown_new Refused) (refused_text r came e.text e.files.3) e.console,
       )
   ends Usage e = e.files.0 o a.lawful
-  ends ReadFault e =
-      let named = subst (λ (x : Options). Contains x.files e.files.0) (same_options e.files.1 e.files.2) e.files.3 in
-      none_named o.files e.files.0 no_files named
+  ends ReadFault e = none_got e.files.0 (subst (λ (x : Options). Contains (names_got x) e.files.0) (same_options e.files.1 e.files.2) e.files.3)
   ends WriteFault e =
       let s = e.files.3 in
       none_fails s.before s.failed s.after (sym (no_puts e.files.0 e.files.1.options e.files.1.lawful) ∙ s.puts_are)

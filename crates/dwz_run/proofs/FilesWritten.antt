@@ -1,12 +1,12 @@
 -- Of files comes what is new in them and in the common file, or the first fault of reading them.
-use Rattle.std.proofs.Common.{◌≡◌, ℕ, Bool, List, length, Option, Ok, Err, Vec, Global, map, sym, ap, subst, ◌∙◌, inl}
+use Rattle.std.proofs.Common.{◌≡◌, ℕ, Bool, true, false, List, length, Option, Result, Ok, Err, Vec, Global, map, sym, ap, subst, ◌∙◌, inl}
 use Rattle.std.proofs.lemmas.List.{length-map}
 use Rattle.std.proofs.lemmas.List.FromFn.{length-range_with_len}
 use Rattle.dwz_model.specs.declared.fault.GraphErr.{GraphErr}
 use Rattle.dwz_model.specs.declared.fault.GraphErr.TheVariants.{NoMemory, Refused}
 use Rattle.dwz_model.specs.declared.sections.Sections.{Sections}
 use Rattle.dwz_def_reading.specs.Documents.{Doc}
-use Rattle.dwz_def_reading.specs.Files.{ReadAll, files_meaning, no_files_before}
+use Rattle.dwz_def_reading.specs.Files.{First, ReadAll, files_meaning, no_files_before}
 use Rattle.dwz_def_reading.proofs.FileLemmas.{files_agree}
 use Rattle.dwz_def_tops.specs.Alike.{TopScope}
 use Rattle.dwz_def_tops.specs.Deciding.{alike_test}
@@ -21,24 +21,54 @@ use Rattle.dwz_plan.specs.declared.plan.Scope.{Scope}
 use Rattle.dwz_plan_files.specs.Rules.{alike_scope, rule_by}
 use Rattle.dwz_run_files.proofs.FirstFaults.{refused}
 use Rattle.dwz_words.specs.declared.options.Options.{Options}
+use Rattle.dwz_run_course.specs.declared.output.Output.{Output}
 use Rattle.dwz_run_course.specs.Answers.{IsAnswer}
-use Rattle.dwz_def_output.specs.Written.{ArePrunable, ReadAs, stored_of}
-use Rattle.dwz_def_run.specs.Out.{Out, rule_of, run_for, top_scope_of}
+use Rattle.dwz_run_course.specs.Outcome.{refuses}
+use Rattle.dwz_model.specs.declared.fault.Refusal.{Refusal}
+use Rattle.dwz_def_output.specs.Written.{stored_of}
+use Rattle.dwz_def_run.specs.Out.{Out, OutBy, Slims, rule_of, run_for, top_scope_of}
+use Rattle.dwz_def_run.specs.Tells.{TellsWhy}
 use Rattle.dwz_def_output.specs.declared.new_file.NewFile.{NewFile}
 use Rattle.dwz_def_output.specs.NewFiles.{AreNew, IsNewCommon}
 use Rattle.dwz_run_output.proofs.RunReady.{as_many}
+
+-- ---- what comes of options, by what they ask for
+
+first_refuses : (b : Bool) (o : Options) (contents : List (List ℕ)) (r : Refusal) → First no_files_before 0 contents r → OutBy b o contents (refuses r)
+first_refuses true o contents r first = inl first
+first_refuses false o contents r first = inl first
 
 -- files that don't read are refused with their first fault
 pub read_refused : (o : Options) (contents : List (List ℕ)) (e : GraphErr) → FilesFail e (files_meaning no_files_before 0 contents)
     → IsAnswer (Out o contents) (Err e)
 read_refused o contents NoMemory fail = tt
-read_refused o contents (Refused r) fail = let first = refused contents r fail in (inl first.0, first.1)
+read_refused o contents (Refused r) fail = let first = refused contents r fail in (first_refuses o.explain o contents r first.0, first.1)
+
+pub told_as_asked : (o : Options) (contents : List (List ℕ)) (result : Result Output GraphErr) → o.explain ≡ true → IsAnswer (TellsWhy o contents) result
+    → IsAnswer (Out o contents) result
+told_as_asked o contents result tells is = subst (λ (b : Bool). IsAnswer (OutBy b o contents) result) (sym tells) is
+
+pub slimmed_as_asked : (o : Options) (contents : List (List ℕ)) (result : Result Output GraphErr) → o.explain ≡ false → IsAnswer (Slims o contents) result
+    → IsAnswer (Out o contents) result
+slimmed_as_asked o contents result slims is = subst (λ (b : Bool). IsAnswer (OutBy b o contents) result) (sym slims) is
+
+-- ---- the files of a graph, which stands for their contents
+
+-- they read
+pub all_read : (graph bytes : List (List ℕ)) → graph ≡ bytes → files_meaning no_files_before 0 bytes ≡ Ok (docs_of graph)
+    → ReadAll no_files_before graph (docs_of graph)
+all_read graph bytes same means =
+    ((files_agree no_files_before 0 graph).ok (docs_of graph)).0 (ap (λ (b : List (List ℕ)). files_meaning no_files_before 0 b) same ∙ means)
+
+-- and are as many
+pub as_many_contents : (graph : List (List ℕ)) (contents : List (Vec ℕ Global)) → graph ≡ map (λ (v : Vec ℕ Global). v.items) contents
+    → length graph ≡ length contents
+as_many_contents graph contents same = ap (λ (bytes : List (List ℕ)). length bytes) same ∙ length-map contents (λ (v : Vec ℕ Global). v.items)
 
 -- the rule is that of files which share as the options ask
 rule_is : (o : Options) (sharing : Scope) (docs : List (Doc ℕ)) → alike_scope sharing ≡ top_scope_of o → rule_by sharing docs ≡ rule_of o docs
 rule_is o sharing docs same = ap (λ (s : TopScope). gain_rule (alike_test s (units_of docs)) (units_of docs)) same
 
--- the files of a graph, which stands for its contents
 module _ (o : Options) (sharing : Scope) (graph : List (List ℕ)) (flags : List Bool) (same_scope : alike_scope sharing ≡ top_scope_of o) where
   abbrev docs : List (Doc ℕ)
   docs = docs_of graph
@@ -55,18 +85,9 @@ module _ (o : Options) (sharing : Scope) (graph : List (List ℕ)) (flags : List
   pub common_in : (common : Option Sections) → IsNewCommon r common → IsNewCommon (run_for o graph docs flags) common
   common_in common is = subst (λ (rule : Rule). IsNewCommon (run_by rule) common) (rule_is o sharing docs same_scope) is
 
-  module _ (contents : List (Vec ℕ Global)) (same : graph ≡ map (λ (v : Vec ℕ Global). v.items) contents)
-      (means : files_meaning no_files_before 0 (map (λ (v : Vec ℕ Global). v.items) contents) ≡ Ok docs) where
-    all_read : ReadAll no_files_before graph docs
-    all_read = ((files_agree no_files_before 0 graph).ok docs).0 (ap (λ (bytes : List (List ℕ)). files_meaning no_files_before 0 bytes) same ∙ means)
-
-    pub graph_read : ArePrunable graph docs flags → ReadAs graph docs flags
-    graph_read prunable = record { reads = all_read; prunable = prunable }
-
-    -- there is a row for each file
-    pub graph_rows : (made : List (Option NewFile)) (partials : ℕ) → AreNew r made partials → length made ≡ length contents
-    graph_rows made partials are =
-        sym (length-range_with_len 0 (length made))
-        ∙ (sym (ap (λ (files : List ℕ). length files) are.files)
-        ∙ (numbers_long 0 docs ∙ as_many no_files_before graph docs all_read))
-        ∙ (ap (λ (bytes : List (List ℕ)). length bytes) same ∙ length-map contents (λ (v : Vec ℕ Global). v.items))
+  -- there is a row for each file
+  pub graph_rows : ReadAll no_files_before graph docs → (made : List (Option NewFile)) (partials : ℕ) → AreNew r made partials → length made ≡ length graph
+  graph_rows reads made partials are =
+      sym (length-range_with_len 0 (length made))
+      ∙ (sym (ap (λ (files : List ℕ). length files) are.files)
+      ∙ (numbers_long 0 docs ∙ as_many no_files_before graph docs reads))

@@ -1,16 +1,17 @@
 -- When all puts are done each FILE, or the one output, holds what it has after, and the common file is there: names differ, and FILEs held
 -- their bytes before.
 use Rattle.std.proofs.Common.{◌≡◌, ℕ, suc, Bool, true, false, List, [], ◌∷◌, ◌++◌, length, Option, Some, None, refl, sym, ap, subst, ◌∙◌, inl, inr, arith}
-use Rattle.std.specs.Prelude.{◌||◌, ◌&&◌, ◌==◌, not, is_none, if◌then◌else◌}
+use Rattle.std.specs.Prelude.{not, if◌then◌else◌}
 use Rattle.std.specs.Option.{option_map_or}
 use Rattle.std.specs.Str.{bytes_eq}
-use Rattle.std.proofs.lemmas.Bool.{and_parts, eqb-true, or_parts}
+use Rattle.std.proofs.lemmas.Bool.{and_parts, or_parts}
 use Rattle.dwz_def_tops.specs.Lists.{Nth}
 use Rattle.dwz_def_images.specs.Units.{changes}
 use Rattle.dwz_def_readback.specs.Files.{Run}
 use Rattle.dwz_outside.specs.declared.puts.Put.{Put}
 use Rattle.dwz_outside.specs.Store.{Store, done, put_in}
 use Rattle.dwz_words.specs.Conditions.{FitTogether, are_distinct, is_among}
+use Rattle.dwz_words.proofs.Fits.{files_differ, with_out}
 use Rattle.dwz_words.specs.declared.options.Options.{Options}
 use Rattle.dwz_def_run.specs.Out.{files_puts_by}
 use Rattle.dwz_def_output.specs.FilesAfter.{bytes_after, bytes_by, common_bytes, file_after, has_common}
@@ -97,27 +98,21 @@ module _ (o : Options) (r : Run) (out : List ℕ) (elsewhere : o.out ≡ Some ou
   one_file (x ∷ []) len st file name (inr later) = absurd later
   one_file (x ∷ []) len st file name (inl is) = subst (λ (f : ℕ). done (file_puts o r 0 x ++ []) st out ≡ Some (bytes f)) is.0 (single st x)
 
-  one_alone : FitTogether o → (length o.files == 1) && is_none o.common ≡ true
-  one_alone fit = sym (ap (λ (w : Option (List ℕ)). is_none w || ((length o.files == 1) && is_none o.common)) elsewhere) ∙ fit.out_only_for_one
-
   no_common : FitTogether o → o.common ≡ None
-  no_common fit = by o.common (and_parts (length o.files == 1) (is_none o.common) (one_alone fit)).1 where
-    by : (w : Option (List ℕ)) → is_none w ≡ true → w ≡ None
-    by None e = refl
-    by (Some c) e = absurd cc
+  no_common fit = (with_out o fit out elsewhere).1
 
   elsewhere_held : FitTogether o → (store : Store) → HoldAfter o r (done (all_puts o r) store)
   elsewhere_held fit store = record {
     files = λ file name nth.
         subst (λ (w : Option (List ℕ)). done (all_puts o r) store (goes_to w name) ≡ Some (bytes file)) (sym elsewhere)
         (subst (λ (c : Option (List ℕ)). done (common_puts c r ++ files_puts o r 0 o.files) store out ≡ Some (bytes file)) (sym (no_common fit))
-        (one_file o.files (eqb-true (length o.files) 1 (and_parts (length o.files == 1) (is_none o.common) (one_alone fit)).0) store file name nth));
+        (one_file o.files (with_out o fit out elsewhere).0 store file name nth));
     common = λ name is has. absurd (let z : None ≡ Some name = sym (no_common fit) ∙ is in cc);
   }
 
 -- ---- in place, the common file first
 
-module _ (o : Options) (r : Run) (in_place : o.out ≡ None) (fit : FitTogether o) (store : Store)
+module _ (o : Options) (r : Run) (in_place : o.out ≡ None) (fit : FitTogether o) (distinct : are_distinct o.files ≡ true) (store : Store)
     (held : (file : ℕ) (name : List ℕ) → Nth 0 o.files file name → store name ≡ Some (r.input.bytes file)) where
   abbrev puts : List Put
   puts = files_puts o r 0 o.files
@@ -134,7 +129,7 @@ module _ (o : Options) (r : Run) (in_place : o.out ≡ None) (fit : FitTogether 
   one_some a b e = cc
 
   files_alone : (file : ℕ) (name : List ℕ) → Nth 0 o.files file name → done puts store name ≡ Some (is_new file)
-  files_alone file name nth = all o r in_place 0 o.files store fit.distinct_files held file name nth
+  files_alone file name nth = all o r in_place 0 o.files store distinct held file name nth
 
   -- the puts of the FILEs leave the common file, and that leaves the FILEs
   behind : (c : List ℕ) → is_among o.files c ≡ false → Leave (Some c) true (done (put_of c (common_bytes r) ∷ puts) store)
@@ -142,7 +137,7 @@ module _ (o : Options) (r : Run) (in_place : o.out ≡ None) (fit : FitTogether 
       let first = put_in c (common_bytes r) store in
       let others = λ (f : ℕ) (n : List ℕ) (at : Nth 0 o.files f n). put_other n c (common_bytes r) store (not_named c o.files free 0 f n at) ∙ held f n at in
       record {
-        files = λ file name nth. all o r in_place 0 o.files first fit.distinct_files others file name nth;
+        files = λ file name nth. all o r in_place 0 o.files first distinct others file name nth;
         common = λ name is has.
             (let same : c ≡ name = one_some c name is in
             subst (λ (w : List ℕ). done puts first w ≡ Some (common_bytes r)) same
@@ -171,9 +166,9 @@ module _ (o : Options) (r : Run) (in_place : o.out ≡ None) (fit : FitTogether 
 
 -- ---- either way
 
-pub hold_after : (o : Options) (r : Run) → FitTogether o → (store : Store)
+pub hold_after : (o : Options) (r : Run) → FitTogether o → o.explain ≡ false → (store : Store)
     → ((file : ℕ) (name : List ℕ) → Nth 0 o.files file name → store name ≡ Some (r.input.bytes file)) → HoldAfter o r (done (all_puts o r) store)
-hold_after o r fit store held = by o.out refl where
+hold_after o r fit slims store held = by o.out refl where
   by : (w : Option (List ℕ)) → o.out ≡ w → HoldAfter o r (done (all_puts o r) store)
-  by None e = in_place_held o r e fit store held
+  by None e = in_place_held o r e fit (files_differ o fit slims) store held
   by (Some out) e = elsewhere_held o r out e fit store

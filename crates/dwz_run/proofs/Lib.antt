@@ -1,4 +1,5 @@
 pub mod FilesWritten
+pub mod PlacesTold
 pub mod OfBytes
 pub mod CommonName
 pub mod HeldAfter

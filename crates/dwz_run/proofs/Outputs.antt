@@ -1,22 +1,27 @@
--- What came of a run that did all is what is put of its FILEs, or of the two files of a demonstration, of which nothing is put.
-use Rattle.std.proofs.Common.{◌≡◌, ◌⊎◌, ℕ, List, [], Option, Some, None, refl, ap, subst, ◌∙◌, inl, inr}
-use Rattle.std.specs.Prelude.{IfSome, if◌then◌else◌}
+-- What came of a run that did all is what is put of its FILEs, or of the two files of a demonstration, of which nothing is put, or the text on two
+-- entries.
+use Rattle.std.proofs.Common.{◌≡◌, ◌⊎◌, ℕ, Bool, true, false, List, [], ◌++◌, length, Option, Some, None, refl, sym, ap, subst, ◌∙◌, inl, inr, append-nil}
+use Rattle.std.specs.Prelude.{◌&&◌, IfSome, if◌then◌else◌}
+use Rattle.dwz_def_reading.specs.Documents.{Doc}
+use Rattle.dwz_def_reading.specs.Files.{ReadAll, no_files_before}
 use Rattle.dwz_def_reading.specs.Texts.{NoZero}
 use Rattle.dwz_outside.specs.Store.{Store, done}
 use Rattle.dwz_outside.specs.Told.{FilesSeen}
-use Rattle.dwz_report.specs.Texts.{demo_text, summary_text}
 use Rattle.dwz_words.specs.declared.options.Options.{Options}
+use Rattle.dwz_words.specs.Asked.{names_got}
 use Rattle.dwz_words.specs.Lawful.{Lawful}
+use Rattle.dwz_words.proofs.Fits.{with_explain}
 use Rattle.dwz_run_course.specs.declared.output.Output.{Output}
-use Rattle.dwz_run_course.specs.Demo.{asked_by, demo_options, new_length, old_length}
-use Rattle.dwz_run_course.specs.Ends.{AreContents, Came, done_text, output_text, puts_unless_demo}
+use Rattle.dwz_run_course.specs.Demo.{asked_by, demo_options}
+use Rattle.dwz_run_course.specs.Ends.{AreContents, Came, done_text, puts_unless_demo, slimmed_text}
 use Rattle.dwz_run_course.specs.Gets.{AreOfBytes, gets}
 use Rattle.dwz_run_course.specs.Outcome.{writes}
 use Rattle.dwz_gen.specs.Demo.{demo_files}
-use Rattle.dwz_def_run.specs.Out.{Out, output_of, sup_name, top_scope_of}
+use Rattle.dwz_def_run.specs.Out.{Out, OutBy, Slims, output_of, summary_of, sup_name, top_scope_of}
+use Rattle.dwz_def_run.specs.Tells.{IsTold, TellsWhy, answer_of}
 use Rattle.dwz_def_output.proofs.AllMade.{common_tied, file_tied, read_back}
-use Rattle.dwz_def_run.proofs.Gotten.{are_held}
-use Rattle.dwz_run.specs.Laws.{AsksForDemo, AsksForFiles, HasOutput, HoldAfter, IsDemoText, puts_in, run_in, said}
+use Rattle.dwz_def_run.proofs.Gotten.{are_held, got_files}
+use Rattle.dwz_run.specs.Laws.{AsksForAnswer, AsksForDemo, AsksForFiles, HasOutput, HoldAfter, IsDemoText, puts_in, run_in, said}
 use Rattle.dwz_run.proofs.HeldAfter.{hold_after}
 use Rattle.dwz_run.proofs.CommonName.{demo_named, named_well}
 use Rattle.dwz_run.proofs.OfBytes.{each_bytes}
@@ -27,7 +32,7 @@ pub record Given (o : Options) (contents : List (List ℕ)) (out : Output) : Typ
   pub has : HasOutput o contents
   pub is : out ≡ output_of o (run_in has)
 
-given_of : (o : Options) (contents : List (List ℕ)) (out : Output) → NoZero (sup_name o) → AreOfBytes contents → Out o contents (writes out)
+given_of : (o : Options) (contents : List (List ℕ)) (out : Output) → NoZero (sup_name o) → AreOfBytes contents → Slims o contents (writes out)
     → Given o contents out
 given_of o contents out no_zero bytes given =
     let are = each_bytes contents bytes in
@@ -45,7 +50,7 @@ given_of o contents out no_zero bytes given =
       is = given.3;
     }
 
--- ---- of FILEs, and of a demonstration
+-- ---- of FILEs, of a demonstration, and of two entries
 
 -- these FILEs were asked for, and that is put and said of what came
 pub record OfFiles (words : List (List ℕ)) (store : Store) (o : Options) (out : Output) : Type 0 where
@@ -60,36 +65,71 @@ pub record OfDemo (words : List (List ℕ)) (o : Options) (out : Output) : Type 
   pub puts_are : puts_unless_demo o.demo out ≡ []
   pub is_text : IsDemoText asks (done_text o out)
 
-abbrev demo_line : Options → ℕ → Output → List ℕ
-demo_line o n out = if o.quiet then [] else demo_text n (old_length out.summary) (new_length out.summary) out.partials
+-- two entries were asked for, and of what came nothing is put, and the text on them is said
+pub record OfAnswer (words : List (List ℕ)) (store : Store) (o : Options) (out : Output) : Type 0 where
+  pub asks : AsksForAnswer words store
+  pub docs : List (Doc ℕ)
+  pub reads : ReadAll no_files_before asks.contents docs
+  pub puts_are : puts_unless_demo o.demo out ≡ []
+  pub is_text : IsTold asks.options docs (done_text o out)
+
+-- what is said of files that were slimmed, by the number of units of a demonstration
+abbrev slimmed_said : Options → {p : Options} {contents : List (List ℕ)} → HasOutput p contents → Option ℕ → List ℕ
+slimmed_said o {p} has demo = if o.quiet then [] else slimmed_text demo (summary_of p (run_in has)) (length (run_in has).move.parts)
 
 pub demo_said_of : (words : List (List ℕ)) (a : AsksForDemo words) (contents : List (List ℕ)) (out : Output) → contents ≡ demo_files a.units
-    → AreOfBytes contents → Out (demo_options a.options) contents (writes out) → IsDemoText a (done_text a.options out)
+    → AreOfBytes contents → Slims (demo_options a.options) contents (writes out) → IsDemoText a (done_text a.options out)
 demo_said_of words a contents out are bytes given =
     let o = demo_options a.options in
-    let g = given_of o (demo_files a.units) out (demo_named a.options) (subst AreOfBytes are bytes) (subst (λ (cs : List (List ℕ)). Out o cs (writes out)) are given) in
+    let g = given_of o (demo_files a.units) out (demo_named a.options) (subst AreOfBytes are bytes) (subst (λ (cs : List (List ℕ)). Slims o cs (writes out)) are given) in
     record {
       out = g.has;
-      text_is = ap (λ (d : Option ℕ). if a.options.quiet then [] else output_text d out) a.is_demo ∙ ap (demo_line a.options a.units) g.is;
+      text_is = ap (done_text a.options) g.is ∙ ap (slimmed_said a.options g.has) a.is_demo;
     }
 
 module _ (words : List (List ℕ)) (old : FilesSeen) (store : Store) (told : old.held ≡ Some store) where
   pub got_of : (names contents : List (List ℕ)) → IfSome old.held (λ s. gets s 0 names ≡ Some contents) → gets store 0 names ≡ Some contents
   got_of names contents is = subst (λ (h : Option Store). IfSome h (λ s. gets s 0 names ≡ Some contents)) told is
 
-  of_files : (o : Options) (contents : List (List ℕ)) (out : Output) → Lawful words o → o.demo ≡ None → gets store 0 o.files ≡ Some contents
-      → AreOfBytes contents → Out o contents (writes out) → OfFiles words store o out
-  of_files o contents out lawful no_demo got bytes given =
+  of_files : (o : Options) (contents : List (List ℕ)) (out : Output) → Lawful words o → o.demo ≡ None → o.explain ≡ false
+      → gets store 0 (names_got o) ≡ Some contents → AreOfBytes contents → Slims o contents (writes out) → OfFiles words store o out
+  of_files o contents out lawful no_demo slims got bytes given =
       let g = given_of o contents out (named_well o lawful.fit) bytes given in
       record {
-        asks = record { options = o; lawful = lawful; no_demo = no_demo; contents = contents; got = got };
+        asks = record {
+          options = o;
+          lawful = lawful;
+          no_demo = no_demo;
+          slims = slims;
+          contents = contents;
+          got = subst (λ (names : List (List ℕ)). gets store 0 names ≡ Some contents) (got_files o slims) got;
+        };
         has = g.has;
         puts_are = ap (λ (d : Option ℕ). puts_unless_demo d out) no_demo ∙ ap (λ (x : Output). x.puts) g.is;
-        text_is = ap (λ (d : Option ℕ). if o.quiet then [] else output_text d out) no_demo
-            ∙ ap (λ (x : Output). if o.quiet then [] else summary_text x.summary) g.is;
+        text_is = ap (done_text o) g.is ∙ ap (slimmed_said o g.has) no_demo;
       }
 
-  pub outputs : (out : Output) (came : Came demo_files Out words old (writes out)) → OfFiles words store came.options out ⊎ OfDemo words came.options out
+  -- the one part of an answer is no summary, so it is said though the words ask for quiet
+  all_said : (quiet : Bool) (text : List ℕ) → (if quiet && false then [] else text) ++ [] ≡ text
+  all_said true text = append-nil text
+  all_said false text = append-nil text
+
+  of_answer : (o : Options) (contents : List (List ℕ)) (out : Output) → Lawful words o → o.explain ≡ true
+      → gets store 0 (names_got o) ≡ Some contents → TellsWhy o contents (writes out) → OfAnswer words store o out
+  of_answer o contents out lawful tells got given =
+      let text = given.2.0 in
+      let is : out ≡ answer_of text = given.2.2 in
+      let is_said : done_text o out ≡ text = ap (done_text o) is ∙ all_said o.quiet text in
+      record {
+        asks = record { options = o; lawful = lawful; tells = tells; contents = contents; got = got };
+        docs = given.0;
+        reads = given.1;
+        puts_are = ap (λ (d : Option ℕ). puts_unless_demo d out) (with_explain o lawful.fit tells).1 ∙ ap (λ (x : Output). x.puts) is;
+        is_text = subst (IsTold o given.0) (sym is_said) given.2.1;
+      }
+
+  pub outputs : (out : Output) (came : Came demo_files Out words old (writes out))
+      → OfFiles words store came.options out ⊎ (OfDemo words came.options out ⊎ OfAnswer words store came.options out)
   outputs out came = by came.options.demo refl came.are came.given where
     o : Options
     o = came.options
@@ -97,19 +137,24 @@ module _ (words : List (List ℕ)) (old : FilesSeen) (store : Store) (told : old
     contents : List (List ℕ)
     contents = came.contents
 
-    by : (d : Option ℕ) → o.demo ≡ d → AreContents demo_files d old o.files contents → Out (asked_by d o) contents (writes out)
-        → OfFiles words store o out ⊎ OfDemo words o out
+    undemonstrated : (b : Bool) → o.explain ≡ b → o.demo ≡ None → gets store 0 (names_got o) ≡ Some contents → OutBy b o contents (writes out)
+        → OfFiles words store o out ⊎ (OfDemo words o out ⊎ OfAnswer words store o out)
+    undemonstrated false slims no_demo got given = inl (of_files o contents out came.lawful no_demo slims got came.bytes given)
+    undemonstrated true tells no_demo got given = inr (inr (of_answer o contents out came.lawful tells got given))
+
+    by : (d : Option ℕ) → o.demo ≡ d → AreContents demo_files d old (names_got o) contents → Out (asked_by d o) contents (writes out)
+        → OfFiles words store o out ⊎ (OfDemo words o out ⊎ OfAnswer words store o out)
     by (Some n) e are given =
         let a : AsksForDemo words = record { options = o; lawful = came.lawful; units = n; is_demo = e } in
-        inr (record {
+        inr (inl (record {
           asks = a;
           puts_are = ap (λ (d : Option ℕ). puts_unless_demo d out) e;
           is_text = demo_said_of words a contents out are came.bytes given;
-        })
-    by None e are given = inl (of_files o contents out came.lawful e (got_of o.files contents are) came.bytes given)
+        }))
+    by None e are given = undemonstrated o.explain refl e (got_of (names_got o) contents are) given
 
 -- all puts done, the FILEs hold what they have after
 pub output_held : {words : List (List ℕ)} {store : Store} (a : AsksForFiles words store) (out : HasOutput a.options a.contents)
     → HoldAfter a.options (run_in out) (done (puts_in out) store)
 output_held {words} {store} a out =
-    hold_after a.options (run_in out) a.lawful.fit store (are_held store a.options.files a.contents out.docs a.got out.written.read.reads)
+    hold_after a.options (run_in out) a.lawful.fit a.slims store (are_held store a.options.files a.contents out.docs a.got out.written.read.reads)

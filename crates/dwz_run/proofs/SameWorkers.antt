@@ -1,14 +1,16 @@
--- The number of workers is in nothing that comes of options: what is put and said is by names, contents and what moves.
-use Rattle.std.proofs.Common.{◌≡◌, ℕ, suc, List, [], ◌∷◌, ◌++◌, Option, length, refl, ap, ◌∙◌, inl, inr}
+-- The number of workers is in nothing that comes of options: what is put and said is by names, contents and what moves, or by two places.
+use Rattle.std.proofs.Common.{◌≡◌, ℕ, suc, Bool, true, false, List, [], ◌∷◌, ◌++◌, Option, length, refl, ap, ◌∙◌, inl, inr}
 use Rattle.dwz_def_images.specs.Units.{changes}
 use Rattle.dwz_def_readback.specs.Files.{Run}
 use Rattle.dwz_outside.specs.declared.puts.Put.{Put}
 use Rattle.dwz_words.specs.declared.options.Options.{Options}
 use Rattle.dwz_run_course.specs.declared.output.Output.{Output}
+use Rattle.dwz_run_course.specs.declared.output.Said.TheVariants.{Slimmed}
 use Rattle.dwz_run_course.specs.Outcome.{Outcome, refuses, writes}
 use Rattle.dwz_def_run.specs.Out.{files_puts_by, summary_lines_by}
 use Rattle.dwz_def_output.specs.FilesAfter.{bytes_after}
-use Rattle.dwz_def_run.specs.Out.{Out, common_length_after, common_puts, file_puts, files_puts, length_if_new, output_of, run_for, summary_lines, sup_name}
+use Rattle.dwz_def_run.specs.Out.{Out, OutBy, Slims, common_length_after, common_puts, file_puts, files_puts, length_if_new, output_of, run_for, summary_lines, sup_name}
+use Rattle.dwz_def_run.specs.Tells.{TellsWhy}
 
 module _ (o : Options) (n : ℕ) where
   -- the same with so many workers
@@ -30,13 +32,22 @@ module _ (o : Options) (n : ℕ) where
   same_output r =
       let by : List Put → List (List ℕ × ℕ × Option ℕ) → Output = λ ps ls. record {
         puts = common_puts o.common r ++ ps;
-        summary = record { common = common_length_after o.common r; files = ls };
-        partials = length r.move.parts;
+        said = Slimmed (record { common = common_length_after o.common r; files = ls }) (length r.move.parts);
       } in
       ap (λ (ps : List Put). by ps (summary_lines o r 0 o.files)) (same_puts r 0 o.files) ∙ ap (by (files_puts other r 0 o.files)) (same_lines r 0 o.files)
 
-  pub same_out : (contents : List (List ℕ)) (outcome : Outcome) → Out o contents outcome → Out other contents outcome
-  same_out contents (writes out) is =
+  same_slimmed : (contents : List (List ℕ)) (outcome : Outcome) → Slims o contents outcome → Slims other contents outcome
+  same_slimmed contents (writes out) is =
       (is.0, is.1, record { read = is.2.read; free = is.2.free }, is.3 ∙ same_output (run_for o contents is.0 is.1))
-  same_out contents (refuses q) (inl first) = inl first
-  same_out contents (refuses q) (inr is) = inr (is.0, is.1, record { read = is.2.read; fault = is.2.fault })
+  same_slimmed contents (refuses q) (inl first) = inl first
+  same_slimmed contents (refuses q) (inr is) = inr (is.0, is.1, record { read = is.2.read; fault = is.2.fault })
+
+  same_told : (contents : List (List ℕ)) (outcome : Outcome) → TellsWhy o contents outcome → TellsWhy other contents outcome
+  same_told contents (writes out) is = is
+  same_told contents (refuses q) is = is
+
+  pub same_out : (contents : List (List ℕ)) (outcome : Outcome) → Out o contents outcome → Out other contents outcome
+  same_out contents outcome = by o.explain where
+    by : (b : Bool) → OutBy b o contents outcome → OutBy b other contents outcome
+    by true = same_told contents outcome
+    by false = same_slimmed contents outcome

@@ -17,13 +17,13 @@ use Rattle.dwz_def_run.proofs.Stopping.{stops}
 use Rattle.dwz_run.specs.Laws.{AsksForFiles, HasOutput, ReadOn, RunEnds, StoppedAt, puts_in}
 use Rattle.dwz_run.proofs.AllDone.{with_puts}
 use Rattle.dwz_run.proofs.ChangedFiles.{changed_there}
-use Rattle.dwz_run.proofs.Outputs.{OfDemo, OfFiles, outputs}
+use Rattle.dwz_run.proofs.Outputs.{OfAnswer, OfDemo, OfFiles, outputs}
 
 -- after the first puts each FILE is as it was or as it is made, and either reads by what is known of all files together
 pub read_on : (words : List (List ℕ)) (store : Store) (a : AsksForFiles words store) (out : HasOutput a.options a.contents) (count : ℕ)
     → ReadOn out (done (take count (puts_in out)) store)
 read_on words store a out count file name nth =
-    elim (stops a.options a.lawful.fit store a.contents out.docs out.prunes a.got out.written count file name nth) [
+    elim (stops a.options a.lawful.fit a.slims store a.contents out.docs out.prunes a.got out.written count file name nth) [
       | inl same ↦ inl (same, λ doc at. out.back.back.still file doc at)
       | inr made ↦ inr (made, out.back.back.file file (changed_there a.options a.contents out.docs out.prunes file made.changed) made.changed)
     ]
@@ -43,7 +43,7 @@ module _ (words : List (List ℕ)) (old new : FilesSeen) (shown shown_new : Cons
       → PutsStopped old new (puts_unless_demo came.options.demo out) name
       → text ≡ write_text name → StoppedAt words store old new text
   stopped_at out came name text s is = by (outputs words old store told out came) where
-    by : OfFiles words store came.options out ⊎ OfDemo words came.options out → StoppedAt words store old new text
+    by : OfFiles words store came.options out ⊎ (OfDemo words came.options out ⊎ OfAnswer words store came.options out) → StoppedAt words store old new text
     by (inl f) =
         let has = f.has in
         let puts_are : puts_in has ≡ s.before ++ s.failed ∷ s.after = sym f.puts_are ∙ s.puts_are in
@@ -60,7 +60,8 @@ module _ (words : List (List ℕ)) (old new : FilesSeen) (shown shown_new : Cons
           after = read_on words store f.asks has (length s.before);
           text_is = is ∙ ap write_text s.name_is;
         }
-    by (inr d) = absurd (none_fails s.before s.failed s.after (sym d.puts_are ∙ s.puts_are))
+    by (inr (inl d)) = absurd (none_fails s.before s.failed s.after (sym d.puts_are ∙ s.puts_are))
+    by (inr (inr a)) = absurd (none_fails s.before s.failed s.after (sym a.puts_are ∙ s.puts_are))
 
   pub all_stopped : RunEnds words old new shown shown_new WriteFault
       → (text : List ℕ) × StoppedAt words store old new text × Says shown shown_new WriteFault text

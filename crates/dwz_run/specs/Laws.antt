@@ -1,8 +1,8 @@
 -- What follows of how a run ends. What a run asks for, gets, puts and says is that of its words and of what was held.
-use Rattle.std.specs.Prelude.{◌≡◌, ◌⊎◌, ℕ, Bool, true, List, [], Option, Some, None, take, slice_get, length, if◌then◌else◌}
+use Rattle.std.specs.Prelude.{◌≡◌, ◌⊎◌, ℕ, Bool, true, false, List, [], Option, Some, None, take, slice_get, length, if◌then◌else◌}
 use Rattle.dwz_model.specs.declared.fault.Refusal.{Refusal}
 use Rattle.dwz_def_reading.specs.Documents.{Doc}
-use Rattle.dwz_def_reading.specs.Files.{First, no_files_before}
+use Rattle.dwz_def_reading.specs.Files.{First, ReadAll, no_files_before}
 use Rattle.dwz_def_tops.specs.Lists.{Nth}
 use Rattle.dwz_def_readback.specs.AllFiles.{ReadBack, SaysStill, given_if}
 use Rattle.dwz_def_readback.specs.Back.{SaysPlaced}
@@ -13,6 +13,7 @@ use Rattle.dwz_outside.specs.Store.{Store, done}
 use Rattle.dwz_outside.specs.Told.{FailedWrite, LeavesPuts, ConsoleSeen, StoredWith, FilesSeen}
 use Rattle.dwz_report.specs.Texts.{demo_text, refusal_text, summary_text, write_text}
 use Rattle.dwz_words.specs.declared.options.Options.{Options}
+use Rattle.dwz_words.specs.Asked.{names_got}
 use Rattle.dwz_words.specs.Lawful.{Lawful}
 use Rattle.dwz_run_course.specs.declared.status.Status.{Status}
 use Rattle.dwz_run_course.specs.declared.status.Status.TheVariants.{Done, Refused, Usage, ReadFault, WriteFault, NoMemory, ConsoleFault}
@@ -26,6 +27,7 @@ use Rattle.dwz_def_output.specs.Laws.{AreTied}
 use Rattle.dwz_def_output.specs.Written.{stored_of}
 use Rattle.dwz_def_run.specs.Out.{IsRefused, IsWritten, Out, all_puts, common_of, rule_of, run_for, summary_of, sup_name, top_scope_of}
 use Rattle.dwz_def_run.specs.Stops.{IsMade}
+use Rattle.dwz_def_run.specs.Tells.{IsTold, IsUntold}
 
 -- how a run ends, by its words, by what is told of the files and of the console before and after, and by its status
 abbrev pub RunEnds : List (List ℕ) → FilesSeen → FilesSeen → ConsoleSeen → ConsoleSeen → Status → Type 0
@@ -33,11 +35,12 @@ RunEnds words old new shown shown_new status = Ends demo_files Out words old new
 
 -- ---- what is asked for
 
--- the words are lawful and name FILEs, whose contents are held
+-- the words are lawful and name FILEs to be slimmed, whose contents are held
 pub record AsksForFiles (words : List (List ℕ)) (store : Store) : Type 0 where
   pub options : Options
   pub lawful : Lawful words options
   pub no_demo : options.demo ≡ None
+  pub slims : options.explain ≡ false
   pub contents : List (List ℕ)
   pub got : gets store 0 options.files ≡ Some contents
 
@@ -48,20 +51,31 @@ pub record AsksForDemo (words : List (List ℕ)) : Type 0 where
   pub units : ℕ
   pub is_demo : options.demo ≡ Some units
 
--- one or the other
+-- the words are lawful and ask why two entries aren't shared; the contents of their files are held
+pub record AsksForAnswer (words : List (List ℕ)) (store : Store) : Type 0 where
+  pub options : Options
+  pub lawful : Lawful words options
+  pub tells : options.explain ≡ true
+  pub contents : List (List ℕ)
+  pub got : gets store 0 (names_got options) ≡ Some contents
+
+-- one of these
 pub data Asks (words : List (List ℕ)) (store : Store) : Type 0 where
   for_files : AsksForFiles words store → Asks words store
   for_demo : AsksForDemo words → Asks words store
+  for_answer : AsksForAnswer words store → Asks words store
 
 -- the options of the work: for a demonstration, those by which its two files are given a common one
 abbrev pub work_options : {words : List (List ℕ)} {store : Store} → Asks words store → Options
 work_options (for_files a) = a.options
 work_options (for_demo a) = demo_options a.options
+work_options (for_answer a) = a.options
 
 -- the contents of the files that are worked on
 abbrev pub work_contents : {words : List (List ℕ)} {store : Store} → Asks words store → List (List ℕ)
 work_contents (for_files a) = a.contents
 work_contents (for_demo a) = demo_files a.units
+work_contents (for_answer a) = a.contents
 
 -- ---- what comes of it
 
@@ -128,11 +142,21 @@ pub record DidDemo (words : List (List ℕ)) (store : Store) (old new : FilesSee
   pub held : new.held ≡ Some store
   pub stored : StoredWith old new []
 
+-- The files were held and read as documents, and the text says why the two entries aren't shared. Nothing is put: nothing is held otherwise than
+-- before.
+pub record DidTell (words : List (List ℕ)) (store : Store) (old new : FilesSeen) (text : List ℕ) : Type 0 where
+  pub asks : AsksForAnswer words store
+  pub docs : List (Doc ℕ)
+  pub reads : ReadAll no_files_before asks.contents docs
+  pub is_text : IsTold asks.options docs text
+  pub held : new.held ≡ Some store
+  pub stored : StoredWith old new []
+
 abbrev pub Did : List (List ℕ) → Store → FilesSeen → FilesSeen → List ℕ → Type 0
-Did words store old new text = DidAll words store old new text ⊎ DidDemo words store old new text
+Did words store old new text = DidAll words store old new text ⊎ (DidDemo words store old new text ⊎ DidTell words store old new text)
 
 -- Where a run answers Done its FILEs were held and read; all is put, and reads back; and its text is written, once. Or it is a
--- demonstration.
+-- demonstration, or it says why two entries aren't shared.
 abbrev pub DoneLaw : Type 0
 DoneLaw =
     (words : List (List ℕ)) (old new : FilesSeen) (shown shown_new : ConsoleSeen) → RunEnds words old new shown shown_new Done
@@ -168,11 +192,15 @@ NothingLaw =
     → RunEnds words old new shown shown_new status
     → PutsNothing status → LeavesPuts old new
 
+-- the contents read as documents, and that is the first fault of what comes of them; or the first of the two places at which no top begins
+-- that may move
+abbrev pub IsRefusedBy : Bool → Options → List (List ℕ) → Refusal → Type 0
+IsRefusedBy false o contents r = (docs : List (Doc ℕ)) × (prunes : List Bool) × IsRefused o contents docs prunes r
+IsRefusedBy true o contents r = (docs : List (Doc ℕ)) × ReadAll no_files_before contents docs × IsUntold o docs r
+
 -- the first fault of reading these contents, or of what comes of them
 abbrev pub IsFirstRefusal : Options → List (List ℕ) → Refusal → Type 0
-IsFirstRefusal o contents r =
-    First no_files_before 0 contents r
-    ⊎ ((docs : List (Doc ℕ)) × (prunes : List Bool) × IsRefused o contents docs prunes r)
+IsFirstRefusal o contents r = First no_files_before 0 contents r ⊎ IsRefusedBy o.explain o contents r
 
 -- what is asked for is refused with its first fault, which is named, with its file
 pub record WasRefused (words : List (List ℕ)) (store : Store) (text : List ℕ) : Type 0 where

@@ -10,24 +10,26 @@ ghost use Rattle.dwz_run.specs.Laws.{StoppedLaw, UsageLaw, WorkersLaw};
 /// order, and nothing else; each FILE then holds what is made of it, and the common file, if there is one, is there; and what is written
 /// says the same as what was read, along images, with imports expanded (DWARF 5, 3.2.5), where entries share an image exactly where they
 /// move and nothing tells them apart. Its text is written, once. Or its words ask for a demonstration, and nothing is held otherwise than
-/// before. Where it answers ConsoleFault so it is too, but for the text, which isn't written. What is put is the same for every number of
-/// workers.
+/// before. Or they ask with `--explain` why two entries aren't shared: the files of these were held and read as documents, the text says
+/// it, and nothing is held otherwise than before. Where it answers ConsoleFault so it is too, but for the text, which isn't written. What
+/// is put and said is the same for every number of workers.
 pub fn done_laws()
     ensures done { DoneLaw }
     ensures silent { SilentLaw }
     ensures workers { WorkersLaw }
 {}
 
-/// Where a run answers Usage, Refused, ReadFault or NoMemory, nothing is put. Where it answers Refused, the FILEs have a first fault, or
-/// what is put of them has one; and it is named. Words that aren't lawful get Usage, and no others.
+/// Where a run answers Usage, Refused, ReadFault or NoMemory, nothing is put. Where it answers Refused, the files that were got have a first
+/// fault, or what is put of them has one, or with `--explain` no entry that may move begins at one of the two places, of which the first
+/// such is told; and it is named. Words that aren't lawful get Usage, and no others.
 pub fn cause_laws()
     ensures nothing { NothingLaw }
     ensures refused { RefusedLaw }
     ensures usage { UsageLaw }
 {}
 
-/// Where no get, no put and no writing of the text failed, lawful words get Done, Refused or NoMemory: of FILEs that are held, Refused
-/// where there is a first refusal, and else Done. Memory may always run out.
+/// Where no get, no put and no writing of the text failed, lawful words get Done, Refused or NoMemory: of files that are held, Refused
+/// where there is a first refusal, and else Done, with `--explain` as well. Memory may always run out.
 pub fn answer_laws()
     ensures answer { AnswerLaw }
     ensures complete { CompleteLaw }

@@ -21,6 +21,9 @@ use std::thread::Threads;
 /// For a demonstration it makes two files, works on them with a common one, and says in one line what came of them: `ends` and `complete`
 /// speak of these two files (`demo_files`) in place of FILEs, and by `demo` nothing is got or put.
 ///
+/// With `--explain` it gets the files of two places and says why the two entries that begin there aren't shared, whether or not the words
+/// ask for quiet; nothing is put. Where at one of the places no entry begins that may move, the first such is refused.
+///
 /// What follows of how a run ends is said by laws: where all is done, the FILEs that are put read back as what was read (`done_laws`);
 /// why each other status is answered, and what it leaves (`cause_laws`); which status comes where nothing outside fails
 /// (`answer_laws`); what is held where the puts stop (`stop_laws`); and what a demonstration says (`demo_laws`).

@@ -3,20 +3,24 @@
 //! Options are taken as they come. The number of workers is brought into its range, though words that are lawful have it there, and 2^32
 //! files or more count as memory that there isn't: so the contract of the work speaks of all options.
 
-ghost use Rattle.std.specs.Prelude.{◌≡◌, ◌<◌, ◌≤◌, map};
+ghost use Rattle.std.specs.Prelude.{◌≡◌, ◌<◌, ◌≤◌, ◌^◌, length, map};
 ghost use Rattle.dwz_run_course.specs.Answers.{IsAnswer};
-ghost use Rattle.dwz_def_run.specs.Out.{Out, top_scope_of};
+ghost use Rattle.dwz_def_reading.specs.Files.{ReadAll, no_files_before};
+ghost use Rattle.dwz_def_run.specs.Out.{Out, Slims, top_scope_of};
+ghost use Rattle.dwz_def_run.specs.Tells.{TellsWhy};
+ghost use Rattle.dwz_graph.specs.Files.{docs_of};
 ghost use Rattle.dwz_plan_files.specs.Rules.{alike_scope};
 
+use dwz_explain::explain_places;
 use dwz_gate::Gate;
 use dwz_graph::Graph;
 use dwz_graph_pruning::prunable_files;
 use dwz_model::GraphErr;
 use dwz_plan::Scope;
-use dwz_run_course::Output;
+use dwz_run_course::{Output, Puts, Said, TextPart, TextParts};
 use dwz_run_files::make_files;
 use dwz_run_output::outcome;
-use dwz_words::Options;
+use dwz_words::{Options, places_asked};
 use std::alloc::Global;
 use std::thread::Threads;
 
@@ -42,7 +46,63 @@ fn sharing_of(options: &Options) -> Scope
     }
 }
 
-/// What comes of options and of the contents of their files: what is put, or the first refusal.
+// What comes of files that are slimmed.
+fn slimmed_files<R: Threads + Sync, G: Gate>(
+    rt: &R,
+    alloc: Global,
+    options: &Options,
+    contents: &[Vec<u8>],
+    graph: &Graph<'_>,
+    workers: u32,
+    gate: &G,
+) -> Result<Output, GraphErr>
+    requires read { graph.now ≡ map (λ c. c.items) contents.now }
+    requires reads { ReadAll no_files_before graph.now (docs_of graph.now) }
+    requires few { length contents.now < 2 ^ 32 }
+    requires workers { (0 < workers) × (workers ≤ 64) }
+    ensures { IsAnswer (Slims options.now graph.now) result }
+{
+    let prunes = prunable_files(alloc, contents, graph)?;
+    let sharing = sharing_of(options);
+    let made = make_files(rt, alloc, contents, graph, &prunes, sharing, workers, gate)?;
+    outcome(
+        alloc,
+        options,
+        contents,
+        graph,
+        made.common,
+        made.files,
+        made.partials,
+    )
+}
+
+// What is said of the two places that are asked for.
+fn told_places<R: Threads + Sync>(
+    rt: &R,
+    alloc: Global,
+    options: &Options,
+    graph: &Graph<'_>,
+    workers: u32,
+) -> Result<Output, GraphErr>
+    requires reads { ReadAll no_files_before graph.now (docs_of graph.now) }
+    requires few { length graph.now < 2 ^ 32 }
+    requires workers { (0 < workers) × (workers ≤ 64) }
+    ensures { IsAnswer (TellsWhy options.now graph.now) result }
+{
+    let (first, second) = places_asked(options);
+    let text = explain_places(rt, alloc, graph, first, second, workers)?;
+    let mut parts = Vec::new(alloc);
+    parts.push(TextPart {
+        text,
+        is_summary: false,
+    })?;
+    Ok(Output {
+        puts: Puts::new(Vec::new(alloc)),
+        said: Said::Parts(TextParts::new(parts)),
+    })
+}
+
+/// What comes of options and of the contents of their files: what is put and said, or the first refusal.
 pub(crate) fn written_files<R: Threads + Sync, G: Gate>(
     rt: &R,
     alloc: Global,
@@ -57,16 +117,9 @@ pub(crate) fn written_files<R: Threads + Sync, G: Gate>(
     }
     let workers = workers_of(options);
     let graph = Graph::read(rt, alloc, contents, workers)?;
-    let prunes = prunable_files(alloc, contents, &graph)?;
-    let sharing = sharing_of(options);
-    let made = make_files(rt, alloc, contents, &graph, &prunes, sharing, workers, gate)?;
-    outcome(
-        alloc,
-        options,
-        contents,
-        &graph,
-        made.common,
-        made.files,
-        made.partials,
-    )
+    if options.explain {
+        told_places(rt, alloc, options, &graph, workers)
+    } else {
+        slimmed_files(rt, alloc, options, contents, &graph, workers, gate)
+    }
 }

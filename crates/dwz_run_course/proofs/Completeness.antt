@@ -5,6 +5,7 @@ use Rattle.dwz_model.specs.declared.fault.Refusal.{Refusal}
 use Rattle.dwz_outside.specs.Counts.{Rose}
 use Rattle.dwz_outside.specs.Store.{Store}
 use Rattle.dwz_outside.specs.Told.{ConsoleSeen, FilesSeen}
+use Rattle.dwz_words.specs.Asked.{names_got}
 use Rattle.dwz_words.specs.declared.options.Options.{Options}
 use Rattle.dwz_run_course.specs.declared.output.Output.{Output}
 use Rattle.dwz_run_course.specs.declared.status.Status.{Status}
@@ -33,8 +34,8 @@ same_outcome : (makes : ℕ → List (List ℕ)) (gives : Giving) (words : List 
     → a ≡ b
 same_outcome makes gives words old a b one came s =
     let o : came.options ≡ s.options = came.lawful.values ∙ sym s.lawful.values in
-    let are : AreContents makes s.options.demo old s.options.files came.contents = subst (λ (x : Options). AreContents makes x.demo old x.files came.contents) o came.are in
-    let c : came.contents ≡ s.contents = same_contents makes s.options.demo old s.options.files came.contents s.contents are s.held in
+    let are : AreContents makes s.options.demo old (names_got s.options) came.contents = subst (λ (x : Options). AreContents makes x.demo old (names_got x) came.contents) o came.are in
+    let c : came.contents ≡ s.contents = same_contents makes s.options.demo old (names_got s.options) came.contents s.contents are s.held in
     one (asked s.options) s.contents a b
     (subst (λ (x : List (List ℕ)). gives (asked s.options) x a) c (subst (λ (x : Options). gives (asked x) came.contents a) o came.given)) s.given
 

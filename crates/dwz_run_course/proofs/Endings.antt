@@ -1,6 +1,7 @@
 -- How a run ends whose contents are there.
 use Rattle.std.proofs.Common.{◌≡◌, ℕ, List, [], ◌∷◌, ◌++◌, map, Option, Some, None, refl, sym, ap, subst, ◌∙◌}
 use Rattle.std.specs.Prelude.{IfSome}
+use Rattle.std.specs.Borrow.{Bor}
 use Rattle.std.proofs.lemmas.List.{append-nil}
 use Rattle.dwz_model.specs.declared.fault.Refusal.{Refusal}
 use Rattle.dwz_outside.specs.declared.puts.Put.{Put}
@@ -9,6 +10,7 @@ use Rattle.dwz_outside.specs.Store.{Store, done}
 use Rattle.dwz_outside.specs.Told.{FilesSeen, LeavesPuts, StoredWith}
 use Rattle.dwz_report.specs.Texts.{refusal_text, write_text}
 use Rattle.std.specs.Global.{Vec}
+use Rattle.dwz_words.specs.Asked.{names_got}
 use Rattle.dwz_words.specs.Lawful.{Lawful}
 use Rattle.dwz_run_course.specs.Gets.{AreOfBytes, gets}
 use Rattle.dwz_words.specs.declared.options.Options.{Options}
@@ -106,16 +108,18 @@ stopped old mid new all puts text leaves s is = (
 pub of_bytes : (contents seen : List (Vec ℕ)) → seen ≡ contents → AreOfBytes (map (λ c. c.items) seen) → AreOfBytes (map (λ c. c.items) contents)
 of_bytes contents seen same bytes = subst (λ (v : List (Vec ℕ)). AreOfBytes (map (λ c. c.items) v)) same bytes
 
-abbrev pub came_of : (makes : ℕ → List (List ℕ)) (gives : Giving) (words : List (List ℕ)) (old : FilesSeen) (outcome : Outcome) (o : Options) (seen : List (List ℕ)) (contents given : List (Vec ℕ))
-    → o.demo ≡ None → Lawful words o → seen ≡ o.files → given ≡ contents → IfSome old.held (λ store. gets store 0 seen ≡ Some (map (λ c. c.items) contents)) → AreOfBytes (map (λ c. c.items) contents)
+abbrev pub came_of : (makes : ℕ → List (List ℕ)) (gives : Giving) (words : List (List ℕ)) (old : FilesSeen) (outcome : Outcome) (o : Options) (names seen : List (Bor (List ℕ)))
+    (contents given : List (Vec ℕ)) → o.demo ≡ None → Lawful words o → seen ≡ names → map (λ name. name.now) names ≡ names_got o → given ≡ contents
+    → IfSome old.held (λ store. gets store 0 (map (λ name. name.now) seen) ≡ Some (map (λ c. c.items) contents)) → AreOfBytes (map (λ c. c.items) contents)
     → gives o (map (λ c. c.items) given) outcome → Came makes gives words old outcome
-came_of makes gives words old outcome o seen contents given none lawful is same got bytes what = record {
+came_of makes gives words old outcome o names seen contents given none lawful seen_is is same got bytes what = record {
   options = o;
   lawful = lawful;
   contents = map (λ c. c.items) given;
-  are = subst (λ (d : Option ℕ). AreContents makes d old o.files (map (λ c. c.items) given)) (sym none)
-      (subst (λ (v : List (Vec ℕ)). IfSome old.held (λ store. gets store 0 o.files ≡ Some (map (λ c. c.items) v))) (sym same)
-      (subst (λ (ns : List (List ℕ)). IfSome old.held (λ store. gets store 0 ns ≡ Some (map (λ c. c.items) contents))) is got));
+  are = subst (λ (d : Option ℕ). AreContents makes d old (names_got o) (map (λ c. c.items) given)) (sym none)
+      (subst (λ (v : List (Vec ℕ)). IfSome old.held (λ store. gets store 0 (names_got o) ≡ Some (map (λ c. c.items) v))) (sym same)
+      (subst (λ (ns : List (List ℕ)). IfSome old.held (λ store. gets store 0 ns ≡ Some (map (λ c. c.items) contents)))
+      (ap (λ (ns : List (Bor (List ℕ))). map (λ name. name.now) ns) seen_is ∙ is) got));
   bytes = subst (λ (v : List (Vec ℕ)). AreOfBytes (map (λ c. c.items) v)) (sym same) bytes;
   given = subst (λ (d : Option ℕ). gives (asked_by d o) (map (λ c. c.items) given) outcome) (sym none) what;
 }
@@ -128,7 +132,7 @@ made_of makes gives words old outcome o work n contents given demo lawful is sam
   options = o;
   lawful = lawful;
   contents = map (λ c. c.items) given;
-  are = subst (λ (d : Option ℕ). AreContents makes d old o.files (map (λ c. c.items) given)) (sym demo) (ap (λ (v : List (Vec ℕ)). map (λ c. c.items) v) same ∙ made);
+  are = subst (λ (d : Option ℕ). AreContents makes d old (names_got o) (map (λ c. c.items) given)) (sym demo) (ap (λ (v : List (Vec ℕ)). map (λ c. c.items) v) same ∙ made);
   bytes = subst (λ (v : List (Vec ℕ)). AreOfBytes (map (λ c. c.items) v)) (sym same) bytes;
   given = subst (λ (d : Option ℕ). gives (asked_by d o) (map (λ c. c.items) given) outcome) (sym demo)
       (subst (λ (x : Options). gives x (map (λ c. c.items) given) outcome) is what);

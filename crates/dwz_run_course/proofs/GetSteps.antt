@@ -1,6 +1,9 @@
 -- Gets, one by one.
-use Rattle.std.proofs.Common.{◌≡◌, ℕ, ◌+◌, List, [], ◌∷◌, ◌++◌, Bool, Option, Some, None, length, refl, sym, ap, subst, ◌∙◌, append_assoc, arith}
-use Rattle.std.specs.Prelude.{IfSome, option_map, if◌then◌else◌}
+use Rattle.std.proofs.Common.{◌≡◌, ℕ, ◌+◌, ◌<◌, ◌≤◌, ◌^◌, List, [], ◌∷◌, ◌++◌, Bool, true, false, Option, Some, None, length, map, drop, get_or, refl, sym, ap, subst, ◌∙◌, append_assoc, add-one, drop-cons, arith}
+use Rattle.std.specs.Prelude.{IfSome, option_map, nat_lt, ◌||◌, if◌then◌else◌}
+use Rattle.std.specs.Borrow.{Bor}
+use Rattle.std.proofs.lemmas.Bool.Decides.{nat_tests}
+use Rattle.std.proofs.lemmas.List.{get_or-map, length-map}
 use Rattle.dwz_outside.specs.Store.{Store, got}
 use Rattle.dwz_outside.specs.Told.{FilesSeen, LeavesPuts}
 use Rattle.dwz_run_course.specs.Gets.{content_is_too_long, gets}
@@ -15,18 +18,6 @@ pushed : (contents : List (List ℕ)) (content : List ℕ) (o : Option (List (Li
 pushed contents content None = refl
 pushed contents content (Some rest) = ap (λ (cs : List (List ℕ)). Some cs) (sym (append_assoc contents (content ∷ []) rest))
 
-same : (o : Option (List (List ℕ))) → o ≡ option_map (λ rest. [] ++ rest) o
-same None = refl
-same (Some rest) = refl
-
-nothing : (o : Option Store) (names : List (List ℕ)) → IfSome o (λ store. gets store 0 names ≡ option_map (λ rest. [] ++ rest) (gets store 0 names))
-nothing None names = tt
-nothing (Some store) names = same (gets store 0 names)
-
--- nothing is got yet
-pub at_first : (told : FilesSeen) (names : List (List ℕ)) → GotSoFar told told names 0 [] 0
-at_first told names = record { got = nothing told.held names; leaves = record { held = refl; stored = refl; faults = refl; last = refl }; few = omega arith; rises = omega arith }
-
 after : (old mid new : FilesSeen) → LeavesPuts old mid → LeavesPuts mid new → LeavesPuts old new
 after old mid new a b = record { held = b.held ∙ a.held; stored = b.stored ∙ a.stored; faults = b.faults ∙ a.faults; last = b.last ∙ a.last }
 
@@ -39,3 +30,47 @@ got_more None mid names rest name content contents before ends same so is e = tt
 got_more (Some store) mid names rest name content contents before ends same so is e =
     let there : got store name ≡ Some content = subst (λ (o : Option Store). IfSome o (λ s. got s name ≡ Some content)) same is in
     so ∙ ap (option_map (λ more. contents ++ more)) (front store before name content rest ends there e)
+
+-- the names from one on are this one, and those behind it
+at : (names : List (Bor (List ℕ))) (i : ℕ) (d : Bor (List ℕ)) → i < length names
+    → drop i (map (λ name. name.now) names) ≡ (get_or names i d).now ∷ drop (i + 1) (map (λ name. name.now) names)
+at names i d below =
+    let below' : i < length (map (λ name. name.now) names) = rw length-map below in
+    rw (add-one, drop-cons (map (λ name. name.now) names) i [], get_or-map (λ name. name.now) names i d [] below) refl
+
+got_one : (old mid : FilesSeen) (names : List (Bor (List ℕ))) (i : ℕ) (d : Bor (List ℕ)) (contents : List (List ℕ)) (content : List ℕ) (before : ℕ) (ends : Bool) → i < length names
+    → GotSoFar old mid (map (λ name. name.now) names) i contents before → IfSome mid.held (λ store. got store (get_or names i d).now ≡ Some content) → ends ≡ content_is_too_long before content
+    → IfSome old.held (λ store. gets store 0 (map (λ name. name.now) names) ≡ option_map (λ more. contents ++ more)
+    (if ends then Some (content ∷ []) else option_map (λ more. content ∷ more) (gets store (before + length content) (drop (i + 1) (map (λ name. name.now) names)))))
+got_one old mid names i d contents content before ends below so is e =
+    let all = map (λ (name : Bor (List ℕ)). name.now) names in
+    got_more old.held mid.held all (drop (i + 1) all) (get_or names i d).now content contents before ends so.leaves.held
+    (subst (λ (ns : List (List ℕ)). IfSome old.held (λ store. gets store 0 all ≡ option_map (λ more. contents ++ more) (gets store before ns))) (at names i d below) so.got) is e
+
+-- one more is got, and is the last
+pub got_last : (old mid : FilesSeen) (names : List (Bor (List ℕ))) (i : ℕ) (d : Bor (List ℕ)) (contents : List (List ℕ)) (content : List ℕ) (before : ℕ) → i < length names
+    → GotSoFar old mid (map (λ name. name.now) names) i contents before → IfSome mid.held (λ store. got store (get_or names i d).now ≡ Some content) → true ≡ content_is_too_long before content
+    → IfSome old.held (λ store. gets store 0 (map (λ name. name.now) names) ≡ Some (contents ++ content ∷ []))
+got_last old mid names i d contents content before below so is e = got_one old mid names i d contents content before true below so is e
+
+few : (before n : ℕ) → false ≡ (nat_lt (2 ^ 28) n || nat_lt (2 ^ 29) (before + n)) → before + n ≤ 2 ^ 29
+few before n e = grind (arith, nat_tests)
+
+with_one : (o : Option Store) (names rest contents : List (List ℕ)) (content : List ℕ) (before : ℕ)
+    → IfSome o (λ store. gets store 0 names ≡ option_map (λ more. contents ++ more) (option_map (λ more. content ∷ more) (gets store before rest)))
+    → IfSome o (λ store. gets store 0 names ≡ option_map (λ more. (contents ++ content ∷ []) ++ more) (gets store before rest))
+with_one None names rest contents content before is = tt
+with_one (Some store) names rest contents content before is = is ∙ pushed contents content (gets store before rest)
+
+-- one more is got, and those behind it are left
+pub got_next : (old mid new : FilesSeen) (names : List (Bor (List ℕ))) (i : ℕ) (d : Bor (List ℕ)) (contents : List (List ℕ)) (content : List ℕ) (before : ℕ) → i < length names
+    → GotSoFar old mid (map (λ name. name.now) names) i contents before → IfSome mid.held (λ store. got store (get_or names i d).now ≡ Some content) → false ≡ content_is_too_long before content
+    → LeavesPuts mid new → mid.read_faults ≤ new.read_faults
+    → GotSoFar old new (map (λ name. name.now) names) (i + 1) (contents ++ content ∷ []) (before + length content)
+got_next old mid new names i d contents content before below so is e leaves rises = record {
+  got = with_one old.held (map (λ name. name.now) names) (drop (i + 1) (map (λ name. name.now) names)) contents content (before + length content)
+      (got_one old mid names i d contents content before false below so is e);
+  leaves = after old mid new so.leaves leaves;
+  few = few before (length content) e;
+  rises = omega (arith, so.rises, rises);
+}

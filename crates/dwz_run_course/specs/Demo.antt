@@ -1,5 +1,5 @@
 -- A demonstration: two files are made, and worked on with a common one, in place of FILEs that are got. Nothing is put.
-use Rattle.std.specs.Prelude.{ℕ, ◌+◌, ◌<◌, ◌^◌, [], ◌∷◌, Option, Some, None, codes, unwrap_or}
+use Rattle.std.specs.Prelude.{ℕ, ◌+◌, ◌<◌, ◌^◌, [], ◌∷◌, Option, Some, None, codes, false, unwrap_or}
 use Rattle.std.specs.List.{sum_by}
 use Rattle.dwz_report.specs.declared.summary.Summary.{Summary}
 use Rattle.dwz_report.specs.Texts.{Text}
@@ -15,6 +15,7 @@ demo_options o = record {
   workers = o.workers;
   files = codes "one" ∷ codes "two" ∷ [];
   demo = None;
+  explain = false;
 }
 
 abbrev pub asked_by : Option ℕ → Options → Options

@@ -1,14 +1,19 @@
 -- How a run ends, and what it leaves.
-use Rattle.std.specs.Prelude.{◌≡◌, ◌⊎◌, ℕ, List, [], ◌∷◌, ◌++◌, Option, Some, None, IfSome, IsSome, Contains, if◌then◌else◌}
+use Rattle.std.specs.Prelude.{◌≡◌, ◌⊎◌, ℕ, Bool, List, [], ◌∷◌, ◌++◌, Option, Some, None, IfSome, IsSome, Contains, ◌&&◌, if◌then◌else◌}
 use Rattle.dwz_outside.specs.declared.puts.Put.{Put}
 use Rattle.dwz_outside.specs.Counts.{Rose}
 use Rattle.dwz_outside.specs.Store.{Store}
 use Rattle.dwz_outside.specs.Told.{ConsoleSeen, FailedRead, FilesSeen, LeavesPuts}
 use Rattle.dwz_words.specs.declared.options.Options.{Options}
+use Rattle.dwz_words.specs.Asked.{names_got}
 use Rattle.dwz_words.specs.Lawful.{Lawful}
 use Rattle.dwz_model.specs.declared.fault.Refusal.{Refusal}
+use Rattle.dwz_report.specs.declared.summary.Summary.{Summary}
 use Rattle.dwz_report.specs.Texts.{demo_text, memory_text, read_text, refusal_text, summary_text, usage_text, write_text}
 use Rattle.dwz_run_course.specs.declared.output.Output.{Output}
+use Rattle.dwz_run_course.specs.declared.output.Said.{Said}
+use Rattle.dwz_run_course.specs.declared.output.Said.TheVariants.{Parts, Slimmed}
+use Rattle.dwz_run_course.specs.declared.output.TextPart.{TextPart}
 use Rattle.dwz_run_course.specs.declared.status.Status.{Status}
 use Rattle.dwz_run_course.specs.declared.status.Status.TheVariants.{Done, Refused, Usage, ReadFault, WriteFault, NoMemory, ConsoleFault}
 use Rattle.dwz_run_course.specs.Demo.{asked, new_length, old_length}
@@ -28,7 +33,7 @@ pub record Came (makes : ℕ → List (List ℕ)) (gives : Giving) (words : List
   pub options : Options
   pub lawful : Lawful words options
   pub contents : List (List ℕ)
-  pub are : AreContents makes options.demo old options.files contents
+  pub are : AreContents makes options.demo old (names_got options) contents
   pub bytes : AreOfBytes contents
   pub given : gives (asked options) contents outcome
 
@@ -39,14 +44,24 @@ abbrev pub puts_unless_demo : Option ℕ → Output → List Put
 puts_unless_demo None out = out.puts
 puts_unless_demo (Some n) out = []
 
--- what is said of an output: a line for each file, or one line of a demonstration
-abbrev pub output_text : Option ℕ → Output → List ℕ
-output_text None out = summary_text out.summary
-output_text (Some n) out = demo_text n (old_length out.summary) (new_length out.summary) out.partials
+-- what is said of files that were slimmed: a line for each, or one line of a demonstration
+abbrev pub slimmed_text : Option ℕ → Summary → ℕ → List ℕ
+slimmed_text None summary partials = summary_text summary
+slimmed_text (Some n) summary partials = demo_text n (old_length summary) (new_length summary) partials
+
+-- the parts of an answer, one behind the other, without those that are summaries where the words ask for quiet
+abbrev pub parts_text : Bool → List TextPart → List ℕ
+parts_text quiet [] = []
+parts_text quiet (part ∷ parts) = (if quiet && part.is_summary then [] else part.text) ++ parts_text quiet parts
+
+-- what is said of what was done; where the words ask for quiet, nothing that sums it up
+abbrev pub said_text : Options → Said → List ℕ
+said_text o (Slimmed summary partials) = if o.quiet then [] else slimmed_text o.demo summary partials
+said_text o (Parts parts) = parts_text o.quiet parts
 
 -- the text of a run that did all
 abbrev pub done_text : Options → Output → List ℕ
-done_text o out = if o.quiet then [] else output_text o.demo out
+done_text o out = said_text o out.said
 
 -- what each status says of the words, of the files before and after, and of the text
 abbrev pub EndsFor : (ℕ → List (List ℕ)) → Giving → List (List ℕ) → FilesSeen → FilesSeen → Status → List ℕ → Type 0
@@ -58,7 +73,7 @@ EndsFor makes gives words old new Refused text =
     × (text ≡ refusal_text (name_of_file (asked came.options) r.file) r)
 EndsFor makes gives words old new Usage text = ((o : Options) → ¬ (Lawful words o)) × (new ≡ old) × (text ≡ usage_text)
 EndsFor makes gives words old new ReadFault text =
-    (name : List ℕ) × (o : Options) × Lawful words o × Contains o.files name × FailedRead old new name × LeavesPuts old new
+    (name : List ℕ) × (o : Options) × Lawful words o × Contains (names_got o) name × FailedRead old new name × LeavesPuts old new
     × (text ≡ read_text name)
 EndsFor makes gives words old new WriteFault text =
     (out : Output) × (came : Came makes gives words old (writes out)) × (name : List ℕ)
@@ -127,7 +142,7 @@ pub record AsksFor (makes : ℕ → List (List ℕ)) (gives : Giving) (words : L
   pub options : Options
   pub lawful : Lawful words options
   pub contents : List (List ℕ)
-  pub held : AreHeld makes options.demo old options.files contents
+  pub held : AreHeld makes options.demo old (names_got options) contents
   pub given : gives (asked options) contents outcome
 
 -- what is asked for is done, unless memory ran out or something failed

@@ -1,4 +1,4 @@
--- What is got of the FILEs of a run.
+-- What is got of the files of a run.
 use Rattle.std.specs.Prelude.{ℕ, ◌+◌, ◌^◌, ◌<◌, All, Bool, ◌||◌, nat_lt, List, [], ◌∷◌, length, Option, Some}
 use Rattle.std.specs.Prelude.{option_map, option_and_then, if◌then◌else◌}
 use Rattle.dwz_outside.specs.Store.{Store, got}

@@ -7,4 +7,3 @@ pub mod Ungot
 pub mod Ready
 pub mod Ended
 pub mod Ends
-pub mod Trial

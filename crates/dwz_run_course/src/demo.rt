@@ -31,6 +31,7 @@ pub(crate) fn demo_options(alloc: Global, options: &Options) -> Result<Options, 
         workers: options.workers,
         files: Names::new(files),
         demo: None,
+        explain: false,
     })
 }
 

@@ -1,4 +1,4 @@
-//! The contents of the FILEs.
+//! The contents of the files that are got.
 //!
 //! That contents are bytes is said of what was got, not of what is held: a store gives any list of numbers for a name, and what a get gives
 //! has the type of bytes. So the laws on what reads back ask nothing of a store.
@@ -9,14 +9,13 @@ ghost use Rattle.dwz_run_course.specs.Gets.{content_is_too_long, gets};
 ghost use Rattle.dwz_run_course.specs.Ungot.{IsUngot};
 ghost use Rattle.dwz_run_course.specs.declared.getting.GetStop.TheVariants.{NoMemory as no_memory_to_get};
 
-use dwz_model::Blob;
 use dwz_outside::{Files, GetErr};
 use std::alloc::{AllocError, AllocFailed, Global};
 
 /// Why contents weren't got.
 #[derive(Debug, Drop)]
 pub(crate) enum GetStop {
-    /// The get of the FILE of this number failed.
+    /// The get of the name of this number failed.
     Failed(usize),
     NoMemory,
 }
@@ -45,17 +44,18 @@ fn is_too_long(before: usize, content: &[u8]) -> bool
 pub(crate) fn got_all<F: Files>(
     alloc: Global,
     files: &mut F,
-    names: &[Blob],
+    names: &[&[u8]],
 ) -> Result<Vec<Vec<u8>>, GetStop>
-    ensures got { IfOk result (λ v. IfSome (F.told files.old).held (λ store. gets store 0 names.now ≡ Some (map (λ c. c.items) v.items))) }
-    ensures failed { IfErr result (IsUngot (F.told files.old) (F.told files.new) names.now) }
+    ensures got { IfOk result (λ v. IfSome (F.told files.old).held
+        (λ store. gets store 0 (map (λ name. name.now) names.now) ≡ Some (map (λ c. c.items) v.items))) }
+    ensures failed { IfErr result (IsUngot (F.told files.old) (F.told files.new) (map (λ name. name.now) names.now)) }
     ensures reads { OnOk result ((F.told files.new).last_read ≡ (F.told files.old).last_read) }
     ensures leaves { LeavesPuts (F.told files.old) (F.told files.new) }
 {
     let mut contents = Vec::new(alloc);
     let mut before: usize = 0;
     for (i, name) in names.iter().enumerate() {
-        let content = match files.get(alloc, name.as_slice()) {
+        let content = match files.get(alloc, name) {
             Ok(content) => content,
             Err(GetErr::Failed) => return Err(GetStop::Failed(i)),
             Err(GetErr::NoMemory) => return Err(GetStop::NoMemory),

@@ -13,7 +13,7 @@ pub trait Work {
     /// The contents of the two files of a demonstration, by how many units each has.
     ghost makes: { ℕ → List (List ℕ) };
 
-    /// What comes of options and the contents of their FILEs.
+    /// What comes of options and the contents of the files that they name.
     ghost gives: { Giving };
 
     /// The two files of a demonstration with n units each.

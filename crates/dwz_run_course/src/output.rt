@@ -1,6 +1,6 @@
-//! What is put.
+//! What is put, and what is said of it.
 
-use dwz_model::DwzList;
+use dwz_model::{Blob, DwzList};
 use dwz_outside::Put;
 use dwz_report::Summary;
 
@@ -12,8 +12,27 @@ pub type Puts = DwzList<Put>;
 pub struct Output {
     /// What is put, in order.
     pub puts: Puts,
-    /// The lengths of all files, in bytes, before and afterwards.
-    pub summary: Summary,
-    /// How many partial units the files have together.
-    pub partials: u32,
+    /// What is said where all is done.
+    pub said: Said,
+}
+
+/// What a run says of what it did.
+#[derive(Debug, Drop)]
+pub enum Said {
+    /// Files were slimmed: the lengths of all of them, in bytes, before and afterwards, and how many partial units they have together.
+    /// It is a line for each file, or the one line of a demonstration, and nothing where the words ask for quiet.
+    Slimmed { summary: Summary, partials: u32 },
+    /// These parts, one behind the other.
+    Parts(TextParts),
+}
+
+/// Parts of a text, in order.
+pub type TextParts = DwzList<TextPart>;
+
+/// A part of a text.
+#[derive(Debug, Drop)]
+pub struct TextPart {
+    pub text: Blob,
+    /// Whether it sums up what was done: then it is left out where the words ask for quiet.
+    pub is_summary: bool,
 }

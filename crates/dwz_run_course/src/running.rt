@@ -2,17 +2,17 @@
 
 ghost use Rattle.std.specs.Prelude.{◌≡◌, ◌<◌, ◌≤◌, ℕ, List, Some, None, [], IfOk, get_or, length, map};
 ghost use Rattle.dwz_run_course.specs.Answers.{IsAnswer};
-ghost use Rattle.dwz_run_course.specs.Demo.{HasLengths};
 ghost use Rattle.dwz_run_course.specs.Ended.{IsSaid, status_of, text_of};
-ghost use Rattle.dwz_run_course.specs.Ends.{Complete, Ends, EndsFor, KeepsLastRead, LeavesFiles, Refuses, done_text};
+ghost use Rattle.dwz_run_course.specs.Ends.{Complete, Ends, EndsFor, KeepsLastRead, LeavesFiles, Refuses};
 ghost use Rattle.dwz_run_course.specs.Outcome.{name_of_file};
 ghost use Rattle.dwz_run_course.specs.Ready.{ready_of};
 ghost use Rattle.dwz_run_course.specs.declared.status.Status.TheVariants.{ReadFault, Refused};
 ghost use Rattle.dwz_report.specs.Texts.{read_text, refusal_text};
 ghost use Rattle.dwz_outside.specs.Told.{FilesSeen};
+ghost use Rattle.dwz_words.specs.Asked.{names_got};
 ghost use Rattle.dwz_words.specs.Lawful.{Lawful, word_bytes};
 
-use crate::demo::{demo_line, demo_options};
+use crate::demo::demo_options;
 use crate::getting::{GetStop, got_all};
 use crate::looking::look_at_all;
 use crate::outcome::Work;
@@ -20,18 +20,19 @@ use crate::output::Output;
 use crate::putting::{made_ready, put_all};
 use crate::saying::{Ended, say};
 use crate::status::Status;
-use dwz_model::{Blob, GraphErr, NoMemory, Refusal};
+use crate::telling::done_text;
+use dwz_model::{GraphErr, Refusal};
 use dwz_outside::{Console, Files};
-use dwz_report::{read_text, refusal_text, summary_text};
-use dwz_words::{Options, WordsErr, parse};
+use dwz_report::{read_text, refusal_text};
+use dwz_words::{Options, WordsErr, names_got, parse};
 use std::alloc::Global;
 
-/// Does what the words ask for: gets their FILEs in order, up to the first that fails or is too long; works on them; puts what
-/// comes of it in order, up to the first that fails; and says so, once. For a demonstration two files are made, and nothing is
-/// got or put. All memory is taken before the first put of a file: behind it want of memory is no answer.
+/// Does what the words ask for: gets the files that they name (`names_got`), in order, up to the first that fails or is too long; works on
+/// them; puts what comes of it in order, up to the first that fails; and says so, once. For a demonstration two files are made, and nothing
+/// is got or put. All memory is taken before the first put of a file: behind it want of memory is no answer.
 ///
-/// `answer` tells what comes of options, which ask for no demonstration, and of the contents of their FILEs in order. Where one of these is
-/// too long it is the last, and those behind it weren't got.
+/// `answer` tells what comes of options, which ask for no demonstration, and of the contents of the files that they name, in order. Where
+/// one of these is too long it is the last, and those behind it weren't got.
 pub fn run_course<F: Files, C: Console, W: Work, A>(
     alloc: Global,
     words: &[Vec<u8>],
@@ -83,7 +84,7 @@ where
     }
 }
 
-// The run of lawful words that name FILEs.
+// The run of lawful words that name files.
 fn with_files<F: Files, W: Work, A>(
     alloc: Global,
     options: &Options,
@@ -99,9 +100,12 @@ where
         → EndsFor W.makes W.gives words (F.told files.old) (F.told files.new) (status_of result) (text_of result) }
     ensures reads { KeepsLastRead (status_of result) (F.told files.old) (F.told files.new) }
 {
-    let contents = match got_all(alloc, files, options.files.as_slice()) {
+    let Ok(names) = names_got(alloc, options) else {
+        return Ended::OutOfMemory;
+    };
+    let contents = match got_all(alloc, files, &names) {
         Ok(contents) => contents,
-        Err(GetStop::Failed(i)) => return not_got(alloc, options, i),
+        Err(GetStop::Failed(i)) => return not_got(alloc, &names, i),
         Err(GetStop::NoMemory) => return Ended::OutOfMemory,
     };
     look_at_all(&contents);
@@ -151,11 +155,12 @@ where
     }
 }
 
-fn not_got(alloc: Global, options: &Options, i: usize) -> Ended
-    requires { i < length options.now.files }
-    ensures { IsSaid result ReadFault (read_text (get_or options.now.files i [])) }
+// The file with that number among these wasn't got.
+fn not_got(alloc: Global, names: &[&[u8]], i: usize) -> Ended
+    requires { i < length names.now }
+    ensures { IsSaid result ReadFault (read_text (get_or (map (λ name. name.now) names.now) i [])) }
 {
-    match read_text(alloc, options.files.as_slice()[i].as_slice()) {
+    match read_text(alloc, names[i]) {
         Ok(text) => Ended::NotGot(text),
         Err(_) => Ended::OutOfMemory,
     }
@@ -165,35 +170,25 @@ fn was_refused(alloc: Global, options: &Options, refusal: &Refusal) -> Ended
     requires { refusal.now.section ≤ 9 }
     ensures { IsSaid result Refused (refusal_text (name_of_file options.now refusal.now.file) refusal.now) }
 {
-    match refusal_text(alloc, name_of(options, refusal.file), refusal) {
+    let Ok(names) = names_got(alloc, options) else {
+        return Ended::OutOfMemory;
+    };
+    match refusal_text(alloc, name_of(&names, options, refusal.file), refusal) {
         Ok(text) => Ended::WasRefused(text),
         Err(_) => Ended::OutOfMemory,
     }
 }
 
-// The name of the file of this number.
-fn name_of<'a>(options: &'a Options, file: u32) -> &'a [u8]
+// The name of the file with that number: of one of these that are got, or else of the common file.
+fn name_of<'a>(names: &[&'a [u8]], options: &'a Options, file: u32) -> &'a [u8]
+    requires { map (λ name. name.now) names.now ≡ names_got options.now }
     ensures { result.now ≡ name_of_file options.now file }
 {
-    match options.files.as_slice().get(file as usize) {
-        Some(name) => name.as_slice(),
+    match names.get(file as usize) {
+        Some(name) => name,
         None => match &options.common {
             Some(name) => name.as_slice(),
             None => b"",
         },
-    }
-}
-
-// What is said where all is done.
-fn done_text(alloc: Global, options: &Options, output: &Output) -> Result<Blob, NoMemory>
-    requires { HasLengths output.now.summary }
-    ensures { IfOk result (λ text. text ≡ done_text options.now output.now) }
-{
-    if options.quiet {
-        return Ok(Blob::new(Vec::new(alloc)));
-    }
-    match options.demo {
-        None => summary_text(alloc, &output.summary),
-        Some(n) => demo_line(alloc, n, &output.summary, output.partials),
     }
 }

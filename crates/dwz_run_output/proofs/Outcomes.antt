@@ -15,10 +15,11 @@ use Rattle.dwz_outside.specs.declared.puts.Put.{Put}
 use Rattle.dwz_report.specs.declared.summary.Summary.{Summary}
 use Rattle.dwz_words.specs.declared.options.Options.{Options}
 use Rattle.dwz_run_course.specs.declared.output.Output.{Output}
-use Rattle.dwz_run_course.specs.Answers.{IsAnswer}
-use Rattle.dwz_run_course.specs.Demo.{HasLengths}
+use Rattle.dwz_run_course.specs.declared.output.Said.{Said}
+use Rattle.dwz_run_course.specs.declared.output.Said.TheVariants.{Slimmed}
+use Rattle.dwz_run_course.specs.Answers.{CanBeSaid, IsAnswer}
 use Rattle.dwz_def_output.specs.Written.{IsFree, ReadAs}
-use Rattle.dwz_def_run.specs.Out.{IsWritten, Out, all_puts, common_length_after, output_of, run_for, summary_lines, summary_of, sup_name}
+use Rattle.dwz_def_run.specs.Out.{IsWritten, Slims, all_puts, common_length_after, output_of, run_for, summary_lines, summary_of, sup_name}
 use Rattle.dwz_def_output.specs.Refusals.{CommonRefusal, FileFault, InFile, OutFault, SectionsFault}
 use Rattle.dwz_def_reading.specs.FirstOf.{OfFirst}
 use Rattle.dwz_def_output.proofs.FreeLemmas.{Nothing}
@@ -42,20 +43,20 @@ module _ (o : Options) (contents : List (List ℕ)) (docs : List (Doc ℕ)) (pru
   abbrev pub OfFiles : Refusal → Type 0
   OfFiles = OfFirst (InFile (FileFault (sup_name o) r)) r.files
 
-  refused : (q : Refusal) → OutFault (sup_name o) r q → IsAnswer (Out o contents) (Err (Refused q))
+  refused : (q : Refusal) → OutFault (sup_name o) r q → IsAnswer (Slims o contents) (Err (Refused q))
   refused q fault = (inr (docs, prunes, record { read = read; fault = fault }), of_section (sup_name o) r q fault)
 
   -- the common file is refused; it has the number behind those of the files
   pub common_refused : (common : Option Sections) (f : Fault) (q : Refusal) → IsNewCommon r common → FaultWith common f
-      → q ≡ record { file = length contents; section = f.section; at = f.at; reason = f.reason } → IsAnswer (Out o contents) (Err (Refused q))
+      → q ≡ record { file = length contents; section = f.section; at = f.at; reason = f.reason } → IsAnswer (Slims o contents) (Err (Refused q))
   common_refused common f q new has is = refused q (inl (refusal r common f (length contents) q new has (sym (as_many no_files_before contents docs read.reads)) is))
 
   -- or else the sections of a file are
-  pub sections_refused : Nothing (CommonRefusal r) → (q : Refusal) → OfSections q → IsAnswer (Out o contents) (Err (Refused q))
+  pub sections_refused : Nothing (CommonRefusal r) → (q : Refusal) → OfSections q → IsAnswer (Slims o contents) (Err (Refused q))
   sections_refused alone q has = refused q (inr (alone, inl has))
 
   -- or else a file is
-  pub file_refused : Nothing (CommonRefusal r) → Nothing OfSections → (q : Refusal) → OfFiles q → IsAnswer (Out o contents) (Err (Refused q))
+  pub file_refused : Nothing (CommonRefusal r) → Nothing OfSections → (q : Refusal) → OfFiles q → IsAnswer (Slims o contents) (Err (Refused q))
   file_refused alone none q has = refused q (inr (alone, inr (none, has)))
 
   -- as files are numbered
@@ -69,7 +70,7 @@ module _ (o : Options) (contents : List (List ℕ)) (docs : List (Doc ℕ)) (pru
       subst (λ (files : List ℕ). IsFound (OfFirst (InFile (SectionsFault r)) files) found) (sym here.files) (finds r count here)
 
   pub err_answer : {A : Type 0} (items : A → List (Option (List ℕ))) (n : ℕ) (e : GraphErr) → r.files ≡ range_with_len 0 n → Nothing (CommonRefusal r) → Nothing OfSections
-      → AnswersAll items (sup_name o) r n (Err e) → IsAnswer (Out o contents) (Err e)
+      → AnswersAll items (sup_name o) r n (Err e) → IsAnswer (Slims o contents) (Err e)
   err_answer items n (Refused q) files alone none has = file_refused alone none q (subst (λ (fs : List ℕ). OfFirst (InFile (FileFault (sup_name o) r)) fs q) (sym files) has)
   err_answer items n NoMemory files alone none has = tt
 
@@ -93,14 +94,15 @@ module _ (o : Options) (contents : List (List ℕ)) (docs : List (Doc ℕ)) (pru
         ap (λ (c : Option (List ℕ × ℕ)). by c s.files) common
         ∙ ap (λ (f : List (List ℕ × ℕ × Option ℕ)). by (common_length_after o.common r) f) files
 
-    pub all_written : (out : Output) → out.puts ≡ all_puts o r → out.summary.common ≡ common_length_after o.common r → out.summary.files ≡ summary_lines o r 0 o.files
-        → out.partials ≡ length r.move.parts → Each AreBytes contents → length contents < 2 ^ 32 → IsAnswer (Out o contents) (Ok out)
-    all_written out puts common files parts bytes few =
-        let by : List Put → Summary → ℕ → Output = λ p s n. record { puts = p; summary = s; partials = n } in
-        let summary = summary_is out.summary common files in
-        let is : out ≡ output_of o r =
-        ap (λ (p : List Put). by p out.summary out.partials) puts
-        ∙ (ap (λ (s : Summary). by (all_puts o r) s out.partials) summary ∙ ap (by (all_puts o r) (summary_of o r)) parts) in (
+    pub all_written : (out : Output) (summary : Summary) (partials : ℕ) → out.said ≡ Slimmed summary partials → out.puts ≡ all_puts o r
+        → summary.common ≡ common_length_after o.common r → summary.files ≡ summary_lines o r 0 o.files → partials ≡ length r.move.parts
+        → Each AreBytes contents → length contents < 2 ^ 32 → IsAnswer (Slims o contents) (Ok out)
+    all_written out summary partials said puts common files parts bytes few =
+        let by : List Put → Said → Output = λ p s. record { puts = p; said = s } in
+        let all = summary_is summary common files in
+        let is_said : out.said ≡ Slimmed (summary_of o r) (length r.move.parts) =
+        said ∙ (ap (λ (s : Summary). Slimmed s partials) all ∙ ap (λ (n : ℕ). Slimmed (summary_of o r) n) parts) in
+        let is : out ≡ output_of o r = ap (λ (p : List Put). by p out.said) puts ∙ ap (by (all_puts o r)) is_said in (
           (docs, prunes, is_written, is),
-          subst HasLengths (sym summary) (lengths_fit o contents docs prunes bytes is_written few),
+          subst CanBeSaid (sym is_said) (lengths_fit o contents docs prunes bytes is_written few),
         )

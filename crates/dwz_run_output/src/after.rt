@@ -4,7 +4,7 @@ ghost use Rattle.std.specs.Prelude.{◌≡◌, ℕ, ◌<◌, ◌^◌, Bool, List
 ghost use Rattle.dwz_def_reading.specs.Documents.{Doc};
 ghost use Rattle.dwz_run_course.specs.Answers.{IsAnswer};
 ghost use Rattle.dwz_def_output.specs.Written.{ReadAs};
-ghost use Rattle.dwz_def_run.specs.Out.{Out, run_for};
+ghost use Rattle.dwz_def_run.specs.Out.{Slims, run_for};
 ghost use Rattle.dwz_def_output.specs.NewFiles.{AreNew, IsNewCommon};
 
 use crate::common::{common_fault, common_made};
@@ -17,7 +17,7 @@ use dwz_def_output::NewFile;
 use dwz_graph::Graph;
 use dwz_model::{GraphErr, Sections};
 use dwz_report::{Summary, SummaryLines};
-use dwz_run_course::{Output, Puts};
+use dwz_run_course::{Output, Puts, Said};
 use dwz_words::Options;
 use std::alloc::Global;
 
@@ -43,7 +43,7 @@ pub fn outcome(
     requires each { length made.items ≡ length contents.now }
     ensures { (docs : List (Doc ℕ)) (prunes : List Bool) → ReadAs graph.now docs prunes
         → AreNew (run_for options.now graph.now docs prunes) made.items partials
-        → IsNewCommon (run_for options.now graph.now docs prunes) common → IsAnswer (Out options.now graph.now) result }
+        → IsNewCommon (run_for options.now graph.now docs prunes) common → IsAnswer (Slims options.now graph.now) result }
 {
     if let Some(fault) = common_fault(&common) {
         return Err(GraphErr::Refused(in_file(contents.len() as u32, fault)));
@@ -57,12 +57,12 @@ pub fn outcome(
     let line = common_line(alloc, &options.common, &common)?;
     let lines = lines(alloc, options.files.as_slice(), contents, &files)?;
     let puts = puts(alloc, options, contents, common, files)?;
+    let summary = Summary {
+        common: line,
+        files: SummaryLines::new(lines),
+    };
     Ok(Output {
         puts: Puts::new(puts),
-        summary: Summary {
-            common: line,
-            files: SummaryLines::new(lines),
-        },
-        partials,
+        said: Said::Slimmed { summary, partials },
     })
 }

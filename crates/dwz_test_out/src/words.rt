@@ -1,6 +1,6 @@
 use crate::expect::holds;
 use dwz_model::Blob;
-use dwz_words::{Options, WordsErr, parse};
+use dwz_words::{Options, WordsErr, names_got, parse, places_asked};
 use std::alloc::Global;
 use std::process::Abort;
 use std::str;
@@ -100,6 +100,41 @@ a b a => usage
 -m b a b => usage
 -m c -M c a => -m c -M c -j 4 -- a
 -o a a => -o a -j 4 -- a
+# places
+--explain a 0x0 b 0x1f => -j 4 --explain -- a 0x0 b 0x1f
+--explain a 0x1 a 0x2 => -j 4 --explain -- a 0x1 a 0x2
+-q -j 3 --explain a 0xb b 0xc => -q -j 3 --explain -- a 0xb b 0xc
+a 0x1 --explain --dwarf-5 b 0x2 => -j 4 --explain -- a 0x1 b 0x2
+--explain -- -q 0x1 b 0x12345678 => -j 4 --explain -- -q 0x1 b 0x12345678
+a 0X1 b 1 => -j 4 -- a 0X1 b 1
+--explain a 0X1 b 0x2 => usage
+--explain a 0x b 0x2 => usage
+--explain a 0x1 b 0x => usage
+--explain a 0x123456789 b 0x2 => usage
+--explain a 0x1 b 0x000000001 => usage
+--explain a 0xA b 0x2 => usage
+--explain a 0x1 b 0x2F => usage
+--explain a 1 b 0x2 => usage
+--explain a 0x1 b 2 => usage
+--explain a 0xg b 0x2 => usage
+--explain a 0x+1 b 0x2 => usage
+--explain a x1 b 0x2 => usage
+--explain a  b 0x2 => usage
+--explain 0x1 a 0x2 b => usage
+--explain => usage
+--explain a 0x1 b => usage
+--explain a 0x1 b 0x2 c => usage
+--explain a 0x1 b 0x2 c 0x3 => usage
+--explain -o x a 0x1 b 0x2 => usage
+--explain -m c a 0x1 b 0x2 => usage
+--explain -M n a 0x1 b 0x2 => usage
+--explain --demo 2 => usage
+--explain --demo 2 a 0x1 b 0x2 => usage
+--explain  0x1 b 0x2 => usage
+--explain a 0x1  0x2 => usage
+--explain a! 0x1 b 0x2 => usage
+--explain --explain a 0x1 b 0x2 => usage
+--explain=x a 0x1 b 0x2 => usage
 # empty words
  a => usage
 -o  a => usage
@@ -110,6 +145,15 @@ a b a => usage
 a! => usage
 -o! a => usage
 a? => usage";
+
+/// In a line lawful words, and what they ask for: the names of the files that are got, and then two places, each by the number of a file
+/// and an offset.
+const ASKED: &str = r"--explain a 0x0 b 0x1f => a b: 0+0 1+31
+--explain a 0xffffffff a 0x00000010 => a: 0+4294967295 0+16
+--explain b 0x89abcdef a 0x1234567 => b a: 0+2309737967 1+19088743
+b a 0x1 c d => b a 0x1 c d: 0+0 0+0
+-m c a b => a b: 0+0 0+0
+--demo 2 => : 0+0 0+0";
 
 /// The words between the blanks.
 fn words_of(rt: &impl Abort, alloc: Global, line: &str) -> Vec<Vec<u8>> {
@@ -161,6 +205,9 @@ fn plain(rt: &impl Abort, alloc: Global, options: &Options) -> String {
     if let Some(number) = options.demo {
         write!(text, " --demo {number}").expect(rt, "memory");
     }
+    if options.explain {
+        put(rt, &mut text, " --explain");
+    }
     put(rt, &mut text, " --");
     for file in options.files.as_slice() {
         put(rt, &mut text, " ");
@@ -191,6 +238,34 @@ fn words_have_their_answers(rt: HostRuntime) {
             let is = is_answer(&rt, rt.alloc(), words.as_slice(), want);
             holds(&rt, line, is);
         }
+    }
+}
+
+/// What is asked for: the names with blanks between them, and the places.
+fn asked(rt: &impl Abort, alloc: Global, options: &Options) -> String {
+    let mut text = String::new(alloc);
+    let names = names_got(alloc, options).expect(rt, "memory");
+    for (i, name) in names.iter().enumerate() {
+        if i > 0 {
+            put(rt, &mut text, " ");
+        }
+        put(rt, &mut text, str::from_utf8(name).unwrap_or("no text"));
+    }
+    let (p, q) = places_asked(options);
+    write!(text, ": {}+{} {}+{}", p.file, p.offset, q.file, q.offset).expect(rt, "memory");
+    text
+}
+
+#[test]
+fn words_ask_for_files_and_places(rt: HostRuntime) {
+    for line in ASKED.lines() {
+        let (told, want) = line.split_once(" => ").expect(&rt, "a line");
+        let words = words_of(&rt, rt.alloc(), told);
+        let is = match parse(rt.alloc(), words.as_slice()) {
+            Ok(options) => asked(&rt, rt.alloc(), &options).as_str() == want,
+            Err(_) => false,
+        };
+        holds(&rt, line, is);
     }
 }
 

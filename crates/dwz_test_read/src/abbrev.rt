@@ -40,7 +40,10 @@ fn finds_declarations(rt: HostRuntime) {
         let table = Table::read(alloc, &section, number_of(&rt, at)).expect(&rt, "a table");
         let skip = number_of(&rt, skip) as usize;
         let code = u64::from(number_of(&rt, code));
-        let found = table.decl_behind(skip, code);
+        let found = match table.place_behind(skip, code) {
+            Some(place) => table.decls().get(place),
+            None => None,
+        };
         prints_as(&rt, alloc, row, &found, decl);
         if skip == 0 {
             prints_as(&rt, alloc, row, &table.decl(code), decl);

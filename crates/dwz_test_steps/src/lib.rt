@@ -4,10 +4,6 @@
 #![tactic(auto)]
 
 #[cfg(test)]
-mod explained;
-#[cfg(test)]
 mod labels;
-#[cfg(test)]
-mod sections;
 #[cfg(test)]
 mod workers;

@@ -1,5 +1,7 @@
 pub mod CommandLemmas
+pub mod Fits
 pub mod MatchLemmas
+pub mod Offsets
 pub mod PlainLemmas
 pub mod PlainRows
 pub mod PlainValues

@@ -18,12 +18,12 @@ use Rattle.clap.proofs.ValueTestLemmas.{Accepts-accepts}
 use Rattle.clap.proofs.WalkLemmas.{both}
 use Rattle.dwz_words.specs.Command.{dwz_command}
 use Rattle.dwz_words.specs.Lawful.{is_set, number_of_text, option_number, options_of}
-use Rattle.dwz_words.specs.Plain.{ArePlain, Argument, are_once, common, demo, dwarf, file, is_file, is_option, is_plain, is_plain_number, name, options_said, out, quiet, value_at, value_of, workers}
+use Rattle.dwz_words.specs.Plain.{ArePlain, Argument, are_once, common, demo, dwarf, explain, file, is_file, is_option, is_plain, is_plain_number, name, options_said, out, quiet, value_at, value_of, workers}
 use Rattle.dwz_words.proofs.PlainLemmas.{plain_matches}
 use Rattle.dwz_words.proofs.PlainRows.{files_at-all_after, row_at-all_after, row_of, values_in}
 use Rattle.dwz_words.proofs.PlainWalk.{all_after, rule_for, rules}
 use Rattle.dwz_words.proofs.PlainArguments.{digit_range, digits_all}
-use Rattle.dwz_words.proofs.RowLemmas.{leaves, new_row, row_at, row_at-defaulted, row_at-defaults}
+use Rattle.dwz_words.proofs.RowLemmas.{defaulted, leaves, new_row, row_at, row_at-defaulted, row_at-defaults}
 
 -- ---- numbers
 
@@ -48,21 +48,35 @@ number_of-plain low high (d ∷ ds) e few =
 
 -- ---- the row of an option, and its default
 
-abbrev quiet_row : List Argument → Row
-quiet_row ps = unwrap_or (option_map row_of (find (is_option (codes "q")) ps))
-    (new_row (codes "q") reading.AsWritten DefaultValue (codes "false" ∷ []))
+-- that of a flag: its argument's, or the default `false`
+abbrev row_in : Text → Option Argument → Row
+row_in id o = unwrap_or (option_map row_of o) (new_row id reading.AsWritten DefaultValue (codes "false" ∷ []))
 
-quiet_value : (ps : List Argument) → option_map_or (λ t. bytes_eq t (codes "true")) (row_text (quiet_row ps)) false
-    ≡ is_some (value_at (codes "q") ps)
-quiet_value [] = refl
-quiet_value (quiet ∷ ps) = refl
-quiet_value (dwarf ∷ ps) = quiet_value ps
-quiet_value (common text ∷ ps) = quiet_value ps
-quiet_value (name text ∷ ps) = quiet_value ps
-quiet_value (out text ∷ ps) = quiet_value ps
-quiet_value (workers text ∷ ps) = quiet_value ps
-quiet_value (demo text ∷ ps) = quiet_value ps
-quiet_value (file text ∷ ps) = quiet_value ps
+abbrev flag_row : Text → List Argument → Row
+flag_row id ps = row_in id (find (is_option id) ps)
+
+-- the row holds `true`
+abbrev is_true_in : Option Row → Bool
+is_true_in o = option_map_or (λ t. bytes_eq t (codes "true")) (option_and_then row_text o) false
+
+quiet_text : (p : Argument) → is_option (codes "q") p ≡ true → row_text (row_of p) ≡ Some (codes "true")
+quiet_text quiet e = refl
+quiet_text _ e = cc
+
+explain_text : (p : Argument) → is_option (codes "explain") p ≡ true → row_text (row_of p) ≡ Some (codes "true")
+explain_text explain e = refl
+explain_text _ e = cc
+
+flag_value : (id : Text) → ((p : Argument) → is_option id p ≡ true → row_text (row_of p) ≡ Some (codes "true")) → (ps : List Argument)
+    → is_true_in (Some (flag_row id ps)) ≡ is_some (value_at id ps)
+flag_value id text [] = refl
+flag_value id text (p ∷ ps) = go (is_option id p) refl (flag_value id text ps)
+  where
+    go : (b : Bool) → is_option id p ≡ b → is_true_in (Some (flag_row id ps)) ≡ is_some (value_at id ps)
+        → is_true_in (Some (row_in id (if b then Some p else find (is_option id) ps)))
+        ≡ is_some (option_map value_of (if b then Some p else find (is_option id) ps))
+    go true e rest = ap (λ (t : Option Text). option_map_or (λ t. bytes_eq t (codes "true")) t false) (text p e)
+    go false e rest = rest
 
 abbrev workers_row : List Argument → Row
 workers_row ps = unwrap_or (option_map row_of (find (is_option (codes "j")) ps))
@@ -79,6 +93,7 @@ workers_value (out text ∷ ps) plain = workers_value ps (both (is_plain (out te
 workers_value (workers text ∷ ps) plain =
     ap (λ (n : Option ℕ). unwrap_or n 4) (number_of-plain 1 64 text (both (is_plain (workers text)) _ plain).0 (omega arith))
 workers_value (demo text ∷ ps) plain = workers_value ps (both (is_plain (demo text)) _ plain).1
+workers_value (explain ∷ ps) plain = workers_value ps (both (is_plain explain) _ plain).1
 workers_value (file text ∷ ps) plain = workers_value ps (both (is_plain (file text)) _ plain).1
 
 demo_value : (ps : List Argument) → list_all is_plain ps ≡ true
@@ -92,6 +107,7 @@ demo_value (name text ∷ ps) plain = demo_value ps (both (is_plain (name text))
 demo_value (out text ∷ ps) plain = demo_value ps (both (is_plain (out text)) _ plain).1
 demo_value (workers text ∷ ps) plain = demo_value ps (both (is_plain (workers text)) _ plain).1
 demo_value (demo text ∷ ps) plain = number_of-plain 2 10000 text (both (is_plain (demo text)) _ plain).0 (omega arith)
+demo_value (explain ∷ ps) plain = demo_value ps (both (is_plain explain) _ plain).1
 demo_value (file text ∷ ps) plain = demo_value ps (both (is_plain (file text)) _ plain).1
 
 first_value : (o : Option Argument) → option_and_then (λ r. slice_get r.values 0) (option_map row_of o) ≡ option_map value_of o
@@ -104,9 +120,9 @@ first_value (Some p) = refl
 abbrev end_rows : List Argument → List Row
 end_rows ps = fold with_default (all_after ps []) rules
 
--- the rules before that of `-j`
-abbrev before_workers : List Argument → List Row
-before_workers ps = fold with_default (all_after ps []) (take 5 rules)
+-- the rows with the defaults of the first rules
+abbrev rows_before : ℕ → List Argument → List Row
+rows_before k ps = fold with_default (all_after ps []) (take k rules)
 
 module _ (ps : List Argument) (plain : list_all is_plain ps ≡ true) (once : are_once ps ≡ true) where
   -- an option that has no default
@@ -118,20 +134,27 @@ module _ (ps : List Argument) (plain : list_all is_plain ps ≡ true) (once : ar
   first_is k no_file left =
       ap (option_and_then (λ (r : Row). slice_get r.values 0)) (row_is k no_file left) ∙ first_value (find (is_option k) ps)
 
+  -- a flag has its row, which is filled in after the defaults of the first k rules
+  flag_row_is : (id : Text) (k : ℕ) → bytes_eq (codes "FILE") id ≡ false → list_all (leaves id) (take k rules) ≡ true
+      → row_at id (defaulted id reading.AsWritten (codes "false") (rows_before k ps)) ≡ Some (flag_row id ps)
+  flag_row_is id k no_file left = row_at-defaulted id reading.AsWritten (codes "false") (rows_before k ps)
+      ∙ ap (λ (o : Option Row). Some (unwrap_or o (new_row id reading.AsWritten DefaultValue (codes "false" ∷ []))))
+      (row_at-defaults id (take k rules) (all_after ps []) left ∙ row_at-all_after id no_file ps [] refl once)
+
   quiet_is : is_set (codes "q") (end_rows ps) ≡ is_some (value_at (codes "q") ps)
-  quiet_is =
-      let found : row_at (codes "q") (end_rows ps) ≡ Some (quiet_row ps) =
-      row_at-defaults (codes "q") (drop 1 rules) (with_default (all_after ps []) (rule_for quiet)) refl
-      ∙ (row_at-defaulted (codes "q") reading.AsWritten (codes "false") (all_after ps [])
-      ∙ ap (λ (o : Option Row). Some (unwrap_or o (new_row (codes "q") reading.AsWritten DefaultValue (codes "false" ∷ []))))
-      (row_at-all_after (codes "q") refl ps [] refl once)) in
-      ap (λ (o : Option Row). option_map_or (λ t. bytes_eq t (codes "true")) (option_and_then row_text o) false) found ∙ quiet_value ps
+  quiet_is = ap is_true_in
+      (row_at-defaults (codes "q") (drop 1 rules) (with_default (all_after ps []) (rule_for quiet)) refl
+      ∙ flag_row_is (codes "q") 0 refl refl)
+      ∙ flag_value (codes "q") quiet_text ps
+
+  explain_is : is_set (codes "explain") (end_rows ps) ≡ is_some (value_at (codes "explain") ps)
+  explain_is = ap is_true_in (flag_row_is (codes "explain") 8 refl refl) ∙ flag_value (codes "explain") explain_text ps
 
   workers_are : unwrap_or (option_number (codes "j") (end_rows ps)) 4 ≡ option_map_or (digits_value 10) (value_at (codes "j") ps) 4
   workers_are =
       let found : row_at (codes "j") (end_rows ps) ≡ Some (workers_row ps) =
-      row_at-defaults (codes "j") (drop 6 rules) (with_default (before_workers ps) (rule_for (workers []))) refl
-      ∙ (row_at-defaulted (codes "j") reading.WithoutMinus (codes "4") (before_workers ps)
+      row_at-defaults (codes "j") (drop 6 rules) (with_default (rows_before 5 ps) (rule_for (workers []))) refl
+      ∙ (row_at-defaulted (codes "j") reading.WithoutMinus (codes "4") (rows_before 5 ps)
       ∙ ap (λ (o : Option Row). Some (unwrap_or o (new_row (codes "j") reading.WithoutMinus DefaultValue (codes "4" ∷ []))))
       (row_at-defaults (codes "j") (take 5 rules) (all_after ps []) refl ∙ row_at-all_after (codes "j") refl ps [] refl once)) in
       ap (λ (o : Option Row). unwrap_or (option_and_then number_of_text (option_and_then row_text o)) 4) found ∙ workers_value ps plain
@@ -156,4 +179,5 @@ plain_said words few ps h =
       workers_are ps h.plain h.once,
       files_are ps h.plain h.once,
       demo_is ps h.plain h.once,
+      explain_is ps h.plain h.once,
     ) refl

@@ -21,8 +21,8 @@ use Rattle.clap.specs.declared.builder.value_parser.ValueParser.TheVariants as v
 use Rattle.clap.specs.declared.parser.matches.ValueSource.{ValueSource}
 use Rattle.clap.specs.declared.parser.matches.ValueSource.TheVariants.{CommandLine, DefaultValue}
 use Rattle.clap.proofs.OnLiterals.{clap_on_literals}
-use Rattle.dwz_words.specs.Command.{common_rule, demo_rule, dwarf_rule, dwz_command, file_rule, name_rule, out_rule, quiet_rule, workers_rule}
-use Rattle.dwz_words.specs.Plain.{Argument, begins_with_dash, common, demo, dwarf, file, option_name, name, out, quiet, words_of, workers}
+use Rattle.dwz_words.specs.Command.{common_rule, demo_rule, dwarf_rule, dwz_command, explain_rule, file_rule, name_rule, out_rule, quiet_rule, workers_rule}
+use Rattle.dwz_words.specs.Plain.{Argument, begins_with_dash, common, demo, dwarf, explain, file, option_name, name, out, quiet, words_of, workers}
 
 -- ---- the command
 
@@ -45,6 +45,7 @@ rule_for (name text) = built_rule name_rule
 rule_for (out text) = built_rule out_rule
 rule_for (workers text) = built_rule workers_rule
 rule_for (demo text) = built_rule demo_rule
+rule_for explain = built_rule explain_rule
 rule_for (file text) = built_rule file_rule
 
 -- the values that the words give it
@@ -56,6 +57,7 @@ values_for (name text) = text ∷ []
 values_for (out text) = text ∷ []
 values_for (workers text) = text ∷ []
 values_for (demo text) = text ∷ []
+values_for explain = []
 values_for (file text) = text ∷ []
 
 -- the rows after one argument, and after all
@@ -169,6 +171,13 @@ module _ (rows : List Row) (pending : Pending) (settles : settle_fault rules fal
   dwarf_leads idle e fresh = leads_by _ _ _ (rw (settles, fresh) refl) refl
   dwarf_leads positional e fresh = leads_by _ _ _ (rw (settles, fresh) refl) refl
   dwarf_leads (option id) e fresh = cc
+
+  pub explain_leads : (waiting : Waiting) → is_ready waiting ≡ true → has_row (codes "explain") (full_rows rows pending) ≡ false
+      → Leads (between rows pending waiting) (codes "--explain" ∷ []) (between (row_after explain (full_rows rows pending)) None idle)
+  unfolding clap_on_literals
+  explain_leads idle e fresh = leads_by _ _ _ (rw (settles, fresh) refl) refl
+  explain_leads positional e fresh = leads_by _ _ _ (rw (settles, fresh) refl) refl
+  explain_leads (option id) e fresh = cc
 
   pub common_word : (waiting : Waiting) → is_ready waiting ≡ true
       → Leads (between rows pending waiting) (codes "-m" ∷ []) (awaiting (full_rows rows pending) (codes "m"))

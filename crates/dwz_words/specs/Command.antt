@@ -10,14 +10,17 @@ use Rattle.clap.specs.declared.builder.value_parser.ValueParser.TheVariants.{Sig
 abbrev pub letter_rule : Text → ℕ → Rule
 letter_rule id letter = record (new_rule id) { short = Some letter; action = Some Set }
 
+-- a flag, by a name, as `--dwarf-5`
+abbrev pub long_flag_rule : Text → Rule
+long_flag_rule name = record (new_rule name) { long = Some name; action = Some SetTrue }
+
 -- `-q`
 abbrev pub quiet_rule : Rule
 quiet_rule = record (new_rule (codes "q")) { short = Some 113; action = Some SetTrue }
 
 -- `--dwarf-5`
 abbrev pub dwarf_rule : Rule
-dwarf_rule =
-    record (new_rule (codes "dwarf-5")) { long = Some (codes "dwarf-5"); action = Some SetTrue }
+dwarf_rule = long_flag_rule (codes "dwarf-5")
 
 -- `-m COMMON`
 abbrev pub common_rule : Rule
@@ -52,10 +55,14 @@ file_rule = record (new_rule (codes "FILE")) {
   range = Some (record { start_inclusive = 0; end_inclusive = usize_max });
 }
 
+-- `--explain`
+abbrev pub explain_rule : Rule
+explain_rule = long_flag_rule (codes "explain")
+
 -- all rules, FILE the only one without a letter or a name
 abbrev pub command_rules : List Rule
 command_rules = quiet_rule ∷ dwarf_rule ∷ common_rule ∷ name_rule ∷ out_rule ∷ workers_rule ∷ demo_rule
-    ∷ file_rule ∷ []
+    ∷ file_rule ∷ explain_rule ∷ []
 
 -- the command: no name of the program before the words, and no words for help and version
 abbrev pub dwz_command : App

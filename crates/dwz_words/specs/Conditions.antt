@@ -1,8 +1,9 @@
--- What options have to meet beside the rules of single words: which of them may stand together, and which words can
--- name a file.
-use Rattle.std.specs.Prelude.{ℕ, Bool, List, [], ◌∷◌, true, not, length, if◌then◌else◌}
-use Rattle.std.specs.Prelude.{IsTrue, is_some, is_none, nat_le, nat_lt, ◌==◌, ◌&&◌, ◌||◌}
-use Rattle.std.specs.List.{list_all, list_any}
+-- What options have to meet beside the rules of single words: which of them may stand together, which words can
+-- name a file, and which spell an offset.
+use Rattle.std.specs.Prelude.{ℕ, Bool, List, [], ◌∷◌, true, false, not, codes, count_by, drop, length, if◌then◌else◌}
+use Rattle.std.specs.Prelude.{IsTrue, is_some, is_none, nat_eq, nat_le, nat_lt, ◌==◌, ◌&&◌, ◌||◌}
+use Rattle.std.specs.Char.{is_ascii_hexdigit, is_ascii_uppercase}
+use Rattle.std.specs.List.{list_all, list_any, starts_with}
 use Rattle.std.specs.Option.{option_map_or}
 use Rattle.std.specs.Str.{bytes_eq}
 use Rattle.dwz_words.specs.declared.options.Options.{Options}
@@ -11,23 +12,35 @@ use Rattle.dwz_words.specs.declared.options.Options.{Options}
 abbrev pub Word : Type 0
 Word = List ℕ
 
--- FILEs and no `--demo`, or `--demo` and neither FILE, COMMON, NAME nor OUT
-abbrev pub has_files_or_demo : Options → Bool
-has_files_or_demo o = if is_some o.demo
-    then length o.files == 0 && (is_none o.common && (is_none o.name && is_none o.out))
-    else nat_lt 0 (length o.files)
+-- ---- which stand together
 
--- at most 256 FILEs
-abbrev pub has_few_files : Options → Bool
-has_few_files o = nat_le (length o.files) 256
+-- the tasks that may be asked for: to make a common file, to explain, to demonstrate
+abbrev pub tasks : Options → List Bool
+tasks o = is_some o.common ∷ o.explain ∷ is_some o.demo ∷ []
+
+-- how many of them are asked for; where none is, each FILE is worked on by itself
+abbrev pub task_count : Options → ℕ
+task_count o = count_by (λ is. is) (tasks o)
+
+-- at most one
+abbrev pub has_one_task : Options → Bool
+has_one_task o = nat_le (task_count o) 1
+
+-- no FILE with `--demo`, four with `--explain`, and else 1 to 256
+abbrev pub has_file_count : Options → Bool
+has_file_count o = if is_some o.demo then length o.files == 0
+    else (if o.explain then length o.files == 4
+    else (nat_lt 0 (length o.files) && nat_le (length o.files) 256))
 
 -- NAME only with COMMON
 abbrev pub has_name_only_with_common : Options → Bool
 has_name_only_with_common o = is_none o.name || is_some o.common
 
--- OUT only with one FILE and without COMMON
+-- OUT only where no task is asked for, and with one FILE
 abbrev pub has_out_only_for_one : Options → Bool
-has_out_only_for_one o = is_none o.out || (length o.files == 1 && is_none o.common)
+has_out_only_for_one o = is_none o.out || (length o.files == 1 && task_count o == 0)
+
+-- ---- names of files
 
 -- the word is among these
 abbrev pub is_among : List Word → Word → Bool
@@ -38,9 +51,9 @@ abbrev pub are_distinct : List Word → Bool
 are_distinct [] = true
 are_distinct (word ∷ rest) = not (is_among rest word) && are_distinct rest
 
--- FILEs differ from each other
+-- FILEs differ from each other, but for the words behind `--explain`
 abbrev pub has_distinct_files : Options → Bool
-has_distinct_files o = are_distinct o.files
+has_distinct_files o = o.explain || are_distinct o.files
 
 -- no FILE is COMMON
 abbrev pub has_common_apart : Options → Bool
@@ -56,12 +69,33 @@ has_file_names o = list_all is_file_name o.files
     && (option_map_or is_file_name o.common true
     && (option_map_or is_file_name o.name true && option_map_or is_file_name o.out true))
 
+-- ---- places in files
+
+-- a digit of an OFFSET: a hexadecimal one, and no letter in upper case
+abbrev pub is_offset_digit : ℕ → Bool
+is_offset_digit byte = is_ascii_hexdigit byte && not (is_ascii_uppercase byte)
+
+-- the word is an OFFSET: `0x`, and 1 to 8 such digits
+abbrev pub is_offset : Word → Bool
+is_offset word = starts_with nat_eq word (codes "0x")
+    && (nat_lt 2 (length word) && (nat_le (length word) 10 && list_all is_offset_digit (drop 2 word)))
+
+-- FILE OFFSET FILE OFFSET
+abbrev pub are_places : List Word → Bool
+are_places (first ∷ first_offset ∷ second ∷ second_offset ∷ []) = is_offset first_offset && is_offset second_offset
+are_places _ = false
+
+-- with `--explain` the second FILE and the fourth are OFFSETs
+abbrev pub has_offsets : Options → Bool
+has_offsets o = not o.explain || are_places o.files
+
 -- all of these conditions
 pub record FitTogether (o : Options) : Type 0 where
-  pub files_or_demo : IsTrue (has_files_or_demo o)
-  pub few_files : IsTrue (has_few_files o)
+  pub one_task : IsTrue (has_one_task o)
+  pub file_count : IsTrue (has_file_count o)
   pub name_only_with_common : IsTrue (has_name_only_with_common o)
   pub out_only_for_one : IsTrue (has_out_only_for_one o)
   pub distinct_files : IsTrue (has_distinct_files o)
   pub common_apart : IsTrue (has_common_apart o)
   pub file_names : IsTrue (has_file_names o)
+  pub offsets : IsTrue (has_offsets o)

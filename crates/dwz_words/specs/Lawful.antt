@@ -40,6 +40,7 @@ options_of rows = record {
   workers = unwrap_or (option_number (codes "j") rows) 4;
   files = unwrap_or (all_of (codes "FILE") rows) [];
   demo = option_number (codes "demo") rows;
+  explain = is_set (codes "explain") rows;
 }
 
 -- ---- lawful words

@@ -19,6 +19,7 @@ pub data Argument : Type 0 where
   out : Word → Argument
   workers : Word → Argument
   demo : Word → Argument
+  explain : Argument
   file : Word → Argument
 
 -- the words of an argument
@@ -30,6 +31,7 @@ words_of (name word) = codes "-M" ∷ word ∷ []
 words_of (out word) = codes "-o" ∷ word ∷ []
 words_of (workers word) = codes "-j" ∷ word ∷ []
 words_of (demo word) = codes "--demo" ∷ word ∷ []
+words_of explain = codes "--explain" ∷ []
 words_of (file word) = word ∷ []
 
 -- the word begins with `-`
@@ -52,6 +54,7 @@ is_plain (name word) = not (begins_with_dash word)
 is_plain (out word) = not (begins_with_dash word)
 is_plain (workers word) = is_plain_number 1 64 word
 is_plain (demo word) = is_plain_number 2 10000 word
+is_plain explain = true
 is_plain (file word) = not (begins_with_dash word)
 
 -- the name of the option, of which there may be one; a FILE has none
@@ -63,6 +66,7 @@ option_name (name word) = Some (codes "M")
 option_name (out word) = Some (codes "o")
 option_name (workers word) = Some (codes "j")
 option_name (demo word) = Some (codes "demo")
+option_name explain = Some (codes "explain")
 option_name (file word) = None
 
 -- the argument is the option of this name
@@ -95,6 +99,7 @@ value_of (name word) = word
 value_of (out word) = word
 value_of (workers word) = word
 value_of (demo word) = word
+value_of explain = codes "true"
 value_of (file word) = word
 
 -- the value of the option of this name, if it is there
@@ -115,4 +120,5 @@ options_said arguments = record {
   workers = option_map_or (digits_value 10) (value_at (codes "j") arguments) 4;
   files = map value_of (filter is_file arguments);
   demo = option_map (digits_value 10) (value_at (codes "demo") arguments);
+  explain = is_some (value_at (codes "explain") arguments);
 }

@@ -2,8 +2,8 @@
 
 ghost use Rattle.std.specs.Prelude.{◌≡◌, IfOk, false};
 ghost use Rattle.clap.specs.Words.{app_of, rule_of};
-ghost use Rattle.dwz_words.specs.Command.{demo_rule, dwarf_rule, dwz_command, file_rule};
-ghost use Rattle.dwz_words.specs.Command.{letter_rule, quiet_rule, workers_rule};
+ghost use Rattle.dwz_words.specs.Command.{demo_rule, dwz_command, file_rule};
+ghost use Rattle.dwz_words.specs.Command.{letter_rule, long_flag_rule, quiet_rule, workers_rule};
 
 use clap::{Arg, ArgAction, Command};
 use dwz_model::NoMemory;
@@ -16,13 +16,12 @@ fn quiet_flag<'a>(alloc: Global) -> Arg<'a>
     Arg::new(alloc, "q").short('q').action(ArgAction::SetTrue)
 }
 
-fn dwarf_flag<'a>(alloc: Global) -> Arg<'a>
-    ensures rule { rule_of result ≡ dwarf_rule }
+/// A flag, by a name.
+fn long_flag<'a>(alloc: Global, name: &'a str) -> Arg<'a>
+    ensures rule { rule_of result ≡ long_flag_rule name.entry.now }
     ensures local { result.global ≡ false }
 {
-    Arg::new(alloc, "dwarf-5")
-        .long("dwarf-5")
-        .action(ArgAction::SetTrue)
+    Arg::new(alloc, name).long(name).action(ArgAction::SetTrue)
 }
 
 /// An option with one value, by a letter.
@@ -59,7 +58,7 @@ fn file_words<'a>(alloc: Global) -> Arg<'a>
     Arg::new(alloc, "FILE").num_args(0..)
 }
 
-/// `[-q] [--dwarf-5] [-m COMMON [-M NAME]] [-o OUT] [-j N] FILE...`, and `--demo N`.
+/// `[-q] [--dwarf-5] [-m COMMON [-M NAME]] [-o OUT] [-j N] FILE...`, `--demo N`, and `--explain FILE OFFSET FILE OFFSET`.
 pub(crate) fn make_command<'a>(alloc: Global) -> Result<Command<'a>, NoMemory>
     ensures { IfOk result (λ command. app_of command ≡ dwz_command) }
 {
@@ -67,11 +66,14 @@ pub(crate) fn make_command<'a>(alloc: Global) -> Result<Command<'a>, NoMemory>
         .no_binary_name(true)
         .disable_help_flag(true)
         .disable_version_flag(true);
-    let flagged = bare.arg(quiet_flag(alloc))?.arg(dwarf_flag(alloc))?;
+    let flagged = bare
+        .arg(quiet_flag(alloc))?
+        .arg(long_flag(alloc, "dwarf-5"))?;
     let named = flagged
         .arg(letter_option(alloc, "m", 'm'))?
         .arg(letter_option(alloc, "M", 'M'))?
         .arg(letter_option(alloc, "o", 'o'))?;
     let numbered = named.arg(workers_option(alloc))?.arg(demo_option(alloc))?;
-    numbered.arg(file_words(alloc))
+    let filed = numbered.arg(file_words(alloc))?;
+    filed.arg(long_flag(alloc, "explain"))
 }

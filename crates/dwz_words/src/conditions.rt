@@ -1,38 +1,54 @@
 //! What options have to meet beside the rules of single words.
 //!
 //! With `clap`'s `required` and `conflicts_with` its contract doesn't say exactly where words fail: so which options may stand together,
-//! and how many FILEs there are, is tested here.
+//! how many FILEs there are, and what an OFFSET is, is tested here.
 
 ghost use Rattle.std.specs.Prelude.{◌≡◌, ◌↔◌, IsTrue, true};
 ghost use Rattle.std.specs.List.{list_all};
 ghost use Rattle.std.specs.Option.{option_map_or};
-ghost use Rattle.dwz_words.specs.Conditions.{FitTogether, are_distinct, has_common_apart};
-ghost use Rattle.dwz_words.specs.Conditions.{has_distinct_files, has_few_files, has_file_names};
-ghost use Rattle.dwz_words.specs.Conditions.{has_files_or_demo, has_name_only_with_common};
-ghost use Rattle.dwz_words.specs.Conditions.{has_out_only_for_one, is_among, is_file_name};
+ghost use Rattle.dwz_words.specs.Conditions.{FitTogether, are_distinct, are_places, has_common_apart};
+ghost use Rattle.dwz_words.specs.Conditions.{has_distinct_files, has_file_count, has_file_names};
+ghost use Rattle.dwz_words.specs.Conditions.{has_name_only_with_common, has_offsets, has_one_task};
+ghost use Rattle.dwz_words.specs.Conditions.{has_out_only_for_one, is_among, is_file_name, is_offset};
+ghost use Rattle.dwz_words.specs.Conditions.{is_offset_digit, task_count};
 
 use crate::options::Options;
 use dwz_model::Blob;
 
 const MOST_FILES: usize = 256;
 
-fn has_files_or_demo(options: &Options) -> bool
-    ensures { result ≡ has_files_or_demo options.now }
+/// Of `0x` and the digits behind it, in bytes.
+const MOST_OFFSET_BYTES: usize = 10;
+
+/// How many tasks are asked for.
+fn task_count(options: &Options) -> usize
+    ensures { result ≡ task_count options.now }
 {
-    if options.demo.is_some() {
-        options.files.is_empty()
-            && options.common.is_none()
-            && options.name.is_none()
-            && options.out.is_none()
-    } else {
-        !options.files.is_empty()
-    }
+    let tasks = [
+        options.common.is_some(),
+        options.explain,
+        options.demo.is_some(),
+    ];
+    tasks.iter().filter(|is| **is).count()
 }
 
-fn has_few_files(options: &Options) -> bool
-    ensures { result ≡ has_few_files options.now }
+fn has_one_task(options: &Options) -> bool
+    ensures { result ≡ has_one_task options.now }
 {
-    options.files.len() <= MOST_FILES
+    task_count(options) <= 1
+}
+
+fn has_file_count(options: &Options) -> bool
+    ensures { result ≡ has_file_count options.now }
+{
+    let count = options.files.len();
+    if options.demo.is_some() {
+        count == 0
+    } else if options.explain {
+        count == 4
+    } else {
+        count > 0 && count <= MOST_FILES
+    }
 }
 
 fn has_name_only_with_common(options: &Options) -> bool
@@ -44,7 +60,7 @@ fn has_name_only_with_common(options: &Options) -> bool
 fn has_out_only_for_one(options: &Options) -> bool
     ensures { result ≡ has_out_only_for_one options.now }
 {
-    options.out.is_none() || options.files.len() == 1 && options.common.is_none()
+    options.out.is_none() || options.files.len() == 1 && task_count(options) == 0
 }
 
 fn is_among(words: &[Blob], word: &[u8]) -> bool
@@ -66,7 +82,7 @@ fn are_distinct(words: &[Blob]) -> bool
 fn has_distinct_files(options: &Options) -> bool
     ensures { result ≡ has_distinct_files options.now }
 {
-    are_distinct(options.files.as_slice())
+    options.explain || are_distinct(options.files.as_slice())
 }
 
 fn has_common_apart(options: &Options) -> bool
@@ -108,15 +124,55 @@ fn has_file_names(options: &Options) -> bool
         && is_file_name_or_none(&options.out)
 }
 
+fn is_offset_digit(byte: u8) -> bool
+    ensures { result ≡ is_offset_digit byte }
+{
+    byte.is_ascii_hexdigit() && !byte.is_ascii_uppercase()
+}
+
+fn are_offset_digits(digits: &[u8]) -> bool
+    ensures { result ≡ list_all is_offset_digit digits.now }
+{
+    digits.iter().all(|digit| is_offset_digit(*digit))
+}
+
+/// Whether the word is `0x` and 1 to 8 hexadecimal digits in lower case.
+pub(crate) fn is_offset(word: &[u8]) -> bool
+    ensures { result ≡ is_offset word.now }
+{
+    word.starts_with(b"0x")
+        && word.len() > 2
+        && word.len() <= MOST_OFFSET_BYTES
+        && are_offset_digits(&word[2..])
+}
+
+fn are_places(words: &[Blob]) -> bool
+    ensures { result ≡ are_places words.now }
+{
+    match words {
+        [_, first_offset, _, second_offset] => {
+            is_offset(first_offset.as_slice()) && is_offset(second_offset.as_slice())
+        }
+        _ => false,
+    }
+}
+
+fn has_offsets(options: &Options) -> bool
+    ensures { result ≡ has_offsets options.now }
+{
+    !options.explain || are_places(options.files.as_slice())
+}
+
 /// Whether options meet all of the conditions.
 pub(crate) fn fit_together(options: &Options) -> bool
     ensures { IsTrue result ↔ FitTogether options.now }
 {
-    has_files_or_demo(options)
-        && has_few_files(options)
+    has_one_task(options)
+        && has_file_count(options)
         && has_name_only_with_common(options)
         && has_out_only_for_one(options)
         && has_distinct_files(options)
         && has_common_apart(options)
         && has_file_names(options)
+        && has_offsets(options)
 }

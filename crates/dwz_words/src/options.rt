@@ -23,6 +23,8 @@ pub struct Options {
     pub files: Names,
     /// `--demo N`: the number of units of each generated file, from 2 to 10,000.
     pub demo: Option<u32>,
+    /// `--explain`: say why two entries aren't shared. FILEs are then FILE OFFSET FILE OFFSET.
+    pub explain: bool,
 }
 
 /// Why there are no options.

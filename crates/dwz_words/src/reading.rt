@@ -74,6 +74,7 @@ fn options_of(alloc: Global, matches: &ArgMatches<'_>) -> Result<Options, NoMemo
         workers: matches.get_one::<u32>("j").unwrap_or(4),
         files: names(alloc, matches.get_strs("FILE").unwrap_or(&[]))?,
         demo: matches.get_one::<u32>("demo"),
+        explain: matches.get_one::<bool>("explain").unwrap_or(false),
     })
 }
 

@@ -1,5 +1,8 @@
-use Rattle.dwz_def_explain.proofs.VerdictLemmas.{one_verdict}
+use Rattle.dwz_def_explain.proofs.VerdictLemmas.{one_verdict, some_verdict}
 use Rattle.dwz_def_explain.proofs.laws.verdict_laws.Goals as goal
 
-pub returns : goal.returns
-returns c = one_verdict
+pub returns-clause-one : goal.returns-clause-one
+returns-clause-one c = one_verdict
+
+pub returns-clause-some : goal.returns-clause-some
+returns-clause-some c = some_verdict

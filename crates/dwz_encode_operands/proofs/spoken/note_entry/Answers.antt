@@ -1,4 +1,4 @@
-use Rattle.std.proofs.Common.{◌≡◌, ◌+◌, ℕ, Option, List, arith, get_or, refl, subst, sym, Ok}
+use Rattle.std.proofs.Common.{◌≡◌, ◌+◌, ℕ, Option, List, arith, get_or, refl, subst, sym, ◌∙◌, Ok}
 use Rattle.std.specs.Prelude.{IsOk}
 use Rattle.dwz_def_reading.specs.Entries.{RawAttr}
 use Rattle.dwz_forms.specs.RawValues.{raw_view}
@@ -10,6 +10,7 @@ use Rattle.dwz_graph.proofs.RowLemmas.{row_there}
 use Rattle.dwz_graph.proofs.ValueSteps.{next_read, no_pair}
 use Rattle.dwz_unit.specs.Rows.{units_of}
 use Rattle.dwz_unit.proofs.ReadsLemmas.{reads_count, reads_next}
+use Rattle.dwz_encode_operands.proofs.PassedLemmas.{passed_over}
 use Rattle.dwz_encode_operands.proofs.spoken.note_entry.Goals as goal
 use Rattle.dwz_encode_operands.proofs.spoken.note_entry.Goals.{then-pair-ne-DW_AT_SIBLING+in_ok-left, else-pair-ne-DW_AT_SIBLING}
 
@@ -56,6 +57,10 @@ loop-pair-preserved c =
                 (values_sibling s after more old values j a c.loop-pair.first c.loop-pair.left.now got h w.if-pair-ne-DW_AT_SIBLING.false))
           ]);
     }
+
+pub returns-in-Some : goal.returns-in-Some
+returns-in-Some c = λ s row d after more plain found means is are.
+    passed_over s after row d c.args.first.now c.args.targets.now more c.behind.result.now c.in-Some.count (sym (c.named_count.ensures row found) ∙ c.in-Some.is) means are c.behind.ensures
 
 pub returns : goal.returns
 returns c = λ s row d after more plain found means is are. (

@@ -1,5 +1,5 @@
-use Rattle.std.proofs.Common.{◌≡◌, ℕ, ◌+◌, true, false, arith, get_or, refl, subst, sym, ap, ◌∙◌, Ok}
-use Rattle.std.specs.Prelude.{IsOk}
+use Rattle.std.proofs.Common.{◌≡◌, ℕ, ◌+◌, List, Option, true, false, arith, get_or, refl, subst, sym, ap, ◌∙◌, Ok}
+use Rattle.std.specs.Prelude.{IsOk, is_some}
 use Rattle.dwz_def_tops.specs.Alike.{any_attr, attr_binds}
 use Rattle.dwz_def_reading.specs.Entries.{RawAttr}
 use Rattle.dwz_forms.specs.RawValues.{raw_view}
@@ -7,6 +7,10 @@ use Rattle.dwz_def_reading.specs.Documents.{attr_map, node_map}
 use Rattle.dwz_def_reading.specs.Meant.{attr_with, meaning}
 use Rattle.dwz_graph.proofs.RowLemmas.{row_there}
 use Rattle.dwz_graph.proofs.ValueSteps.{next_read, no_pair}
+use Rattle.dwz_def_reading.proofs.AttrPairs.{read_pairs}
+use Rattle.dwz_model.specs.declared.place.Pair.{Pair}
+use Rattle.dwz_unit.specs.Known.{pairs_of}
+use Rattle.dwz_unit.specs.Named.{named_count}
 use Rattle.dwz_unit.specs.Rows.{units_of}
 use Rattle.dwz_unit.proofs.ReadsLemmas.{reads_count, reads_next}
 use Rattle.dwz_move.proofs.BindLemmas.{value_counts}
@@ -16,6 +20,15 @@ use Rattle.dwz_move.proofs.bind.entry_binds.Goals as goal
 pub returns-then-entry-eq-DW_TAG_IMPORTED_UNIT : goal.returns-then-entry-eq-DW_TAG_IMPORTED_UNIT
 returns-then-entry-eq-DW_TAG_IMPORTED_UNIT c = λ s numbers row d tops unit name has m into. by_tag s tops unit name (units_of c.args.units.now) c.args.i numbers row d m c.entry.result c.entry.ensures.entry
     c.if-entry-eq-DW_TAG_IMPORTED_UNIT.true
+
+pub returns-then-is_some : goal.returns-then-is_some
+returns-then-is_some c = λ s numbers row d tops unit name has m into. (
+    let pairs = c.values-cursor.result.pairs.now in
+    let r = c.values-cursor.ensures.read row m.found in
+    let are = read_pairs row.entry.at pairs c.values-cursor.result.cursor r.behind row.entry.attrs r.read in
+    let told : is_some (named_count (pairs_of row.entry)) ≡ true = ap (λ (o : Option ℕ). is_some o) (sym (c.named_count.ensures row m.found)) ∙ sym c.is_some.ensures ∙ c.if-is_some.true in
+    by_attrs s tops unit name (units_of c.args.units.now) c.args.i numbers row d m c.entry.result c.entry.ensures.entry c.forms_bind.result c.if-entry-eq-DW_TAG_IMPORTED_UNIT.false
+    (c.forms_bind.ensures (units_of c.args.units.now) s c.args.i numbers row d tops unit name has m into are (ap (λ (w : List Pair). is_some (named_count w)) are ∙ told)))
 
 pub loop-pair-init : goal.loop-pair-init
 loop-pair-init c = record {

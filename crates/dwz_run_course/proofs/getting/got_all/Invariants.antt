@@ -4,5 +4,5 @@ use Rattle.std.proofs.Common.{◌≡◌, map}
 
 abbrev pub invariant-loop-i : goal.invariant-loop-i
 invariant-loop-i g l =
-    GotSoFar (g.F.Files.told l.initial.files) (g.F.Files.told l.files) l.names l.i (map (λ c. c.items) l.contents.items) l.before
+    GotSoFar (g.F.Files.told l.initial.files) (g.F.Files.told l.files) (map (λ name. name.now) l.names) l.i (map (λ c. c.items) l.contents.items) l.before
     × ((g.F.Files.told l.files).last_read ≡ (g.F.Files.told l.initial.files).last_read)

@@ -9,18 +9,18 @@ pub returns-in-Err-Refused-clause-ends : goal.returns-in-Err-Refused-clause-ends
 returns-in-Err-Refused-clause-ends g c words lawful =
     let given = rw c.in-Err-Refused.field-0-is at c.in-Err-Refused.ensures in
     let why = c.requires.answers _ _ _ _ given in
-    let came = came_of _ _ words _ _ c.args.options.now c.as_slice.result.now c.in-Ok.contents.items c.deref-2.result.now c.requires.files lawful c.as_slice.ensures c.deref-2.ensures.value
-    c.in-Ok.ensures.got (of_bytes c.in-Ok.contents.items _ c.deref.ensures.value c.look_at_all.ensures) why.0 in
+    let came = came_of _ _ words _ _ c.args.options.now c.in-Ok.names.items c.deref.result.now c.in-Ok-got_all.contents.items c.deref-3.result.now c.requires.files lawful c.deref.ensures.value c.in-Ok.ensures c.deref-3.ensures.value
+    c.in-Ok-got_all.ensures.got (of_bytes c.in-Ok-got_all.contents.items _ c.deref-2.ensures.value c.look_at_all.ensures) why.0 in
     refused_by _ _ words _ _ c.was_refused.result c.in-Err-Refused.refusal c.args.options.now None came c.requires.files refl c.got_all.ensures.leaves c.was_refused.ensures
 
 pub returns-in-Err-Refused-clause-reads : goal.returns-in-Err-Refused-clause-reads
-returns-in-Err-Refused-clause-reads g c = kept_by (status_of c.was_refused.result) _ _ c.in-Ok.ensures.reads
+returns-in-Err-Refused-clause-reads g c = kept_by (status_of c.was_refused.result) _ _ c.in-Ok-got_all.ensures.reads
 
 pub returns-in-Ok-put_all-clause-ends : goal.returns-in-Ok-put_all-clause-ends
 returns-in-Ok-put_all-clause-ends g c words lawful = (
   c.in-Ok-answer.output,
-  came_of _ _ words _ _ c.args.options.now c.as_slice.result.now c.in-Ok.contents.items c.deref-2.result.now c.requires.files lawful c.as_slice.ensures c.deref-2.ensures.value c.in-Ok.ensures.got
-      (of_bytes c.in-Ok.contents.items _ c.deref.ensures.value c.look_at_all.ensures) (c.requires.answers _ _ _ _ c.in-Ok-answer.ensures).0,
+  came_of _ _ words _ _ c.args.options.now c.in-Ok.names.items c.deref.result.now c.in-Ok-got_all.contents.items c.deref-3.result.now c.requires.files lawful c.deref.ensures.value c.in-Ok.ensures c.deref-3.ensures.value c.in-Ok-got_all.ensures.got
+      (of_bytes c.in-Ok-got_all.contents.items _ c.deref-2.ensures.value c.look_at_all.ensures) (c.requires.answers _ _ _ _ c.in-Ok-answer.ensures).0,
   with_puts _ _ _ _ c.requires.files (all_put _ _ _ c.in-Ok-made_ready.all.items _ c.got_all.ensures.leaves c.in-Ok-put_all.ensures.done
       (c.in-Ok-made_ready.ensures ∙ ap (λ (puts : List Put). map ready_of puts) c.into_vec.ensures)),
   c.in-Ok-done_text.ensures,
@@ -31,8 +31,8 @@ returns-clause-ends g c words lawful =
     let s = stopped _ _ _ c.in-Ok-made_ready.all.items _ c.in-Err.text c.got_all.ensures.leaves c.in-Err.ensures.stopped
     (c.in-Ok-made_ready.ensures ∙ ap (λ (puts : List Put). map ready_of puts) c.into_vec.ensures) in (
       c.in-Ok-answer.output,
-      came_of _ _ words _ _ c.args.options.now c.as_slice.result.now c.in-Ok.contents.items c.deref-2.result.now c.requires.files lawful c.as_slice.ensures c.deref-2.ensures.value c.in-Ok.ensures.got
-          (of_bytes c.in-Ok.contents.items _ c.deref.ensures.value c.look_at_all.ensures) (c.requires.answers _ _ _ _ c.in-Ok-answer.ensures).0,
+      came_of _ _ words _ _ c.args.options.now c.in-Ok.names.items c.deref.result.now c.in-Ok-got_all.contents.items c.deref-3.result.now c.requires.files lawful c.deref.ensures.value c.in-Ok.ensures c.deref-3.ensures.value c.in-Ok-got_all.ensures.got
+          (of_bytes c.in-Ok-got_all.contents.items _ c.deref-2.ensures.value c.look_at_all.ensures) (c.requires.answers _ _ _ _ c.in-Ok-answer.ensures).0,
       s.0,
       stopped_by _ _ _ _ _ c.requires.files s.1,
       s.2,

@@ -7,10 +7,11 @@ pub returns : goal.returns
 returns c =
     let bare = bare_app _ _ _ _ (codes "dwz") c.new.ensures.app c.no_binary_name.ensures c.disable_help_flag.ensures c.disable_version_flag-bare.ensures in
     let quiet = added _ _ _ _ _ c.in_ok-arg.ensures c.quiet_flag.ensures.local bare c.quiet_flag.ensures.rule in
-    let dwarf = added _ _ _ _ _ c.in_ok-flagged.ensures c.dwarf_flag.ensures.local quiet c.dwarf_flag.ensures.rule in
+    let dwarf = added _ _ _ _ _ c.in_ok-flagged.ensures c.long_flag.ensures.local quiet c.long_flag.ensures.rule in
     let common = added _ _ _ _ _ c.in_ok-arg-2.ensures c.letter_option.ensures.local dwarf c.letter_option.ensures.rule in
     let name = added _ _ _ _ _ c.in_ok-arg-3.ensures c.letter_option-2.ensures.local common c.letter_option-2.ensures.rule in
     let out = added _ _ _ _ _ c.in_ok-named.ensures c.letter_option-3.ensures.local name c.letter_option-3.ensures.rule in
     let workers = added _ _ _ _ _ c.in_ok-arg-4.ensures c.workers_option.ensures.local out c.workers_option.ensures.rule in
     let demo = added _ _ _ _ _ c.in_ok-numbered.ensures c.demo_option.ensures.local workers c.demo_option.ensures.rule in
-    IfOk-weaker c.arg-8.result _ _ (λ r h. added _ r _ _ _ h c.file_words.ensures.local demo c.file_words.ensures.rule) c.arg-8.ensures
+    let file = added _ _ _ _ _ c.in_ok-filed.ensures c.file_words.ensures.local demo c.file_words.ensures.rule in
+    IfOk-weaker c.arg-9.result _ _ (λ r h. added _ r _ _ _ h c.long_flag-2.ensures.local file c.long_flag-2.ensures.rule) c.arg-9.ensures

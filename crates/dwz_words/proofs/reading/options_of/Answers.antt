@@ -33,4 +33,8 @@ returns c =
     c.in_ok-names.ensures ∙ (ap (λ s. map (λ t. t.now) s.now) c.unwrap_or-3.ensures
     ∙ (names_read c.get_strs.result _ refl
     ∙ ap (λ (o : Option (List Text)). unwrap_or o []) (c.get_strs.ensures ∙ raw_values-rows found (codes "FILE")))) in
-    rw (quiet, common, name, out, workers, files, demo) refl
+    let explain : c.unwrap_or-4.result ≡ is_set (codes "explain") (rows_of found) =
+    c.unwrap_or-4.ensures ∙ bool_read _ (one_of (codes "explain") (rows_of found)) c.get_one-4.result
+    (λ e. c.get_one-4.ensures.none (one_text-rows found (codes "explain") ∙ e))
+    (λ t e. c.get_one-4.ensures.value t (one_text-rows found (codes "explain") ∙ e)) in
+    rw (quiet, common, name, out, workers, files, demo, explain) refl

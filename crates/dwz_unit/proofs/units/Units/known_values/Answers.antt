@@ -8,12 +8,12 @@ use Rattle.dwz_unit.proofs.units.Units.known_values.Goals.{After-index-row}
 
 -- the entry, and what is kept of it
 there : (c : After-index-row) → EntryThere c.self.inside.info.now c.self.inside.decls.items c.args.self.now c.args.i c.index-row.result.now
-there c = entry_there c.self.inside.info.now c.self.inside.abbrevs.now c.self.inside.mode c.self.inside.units.items c.self.inside.entries.items c.self.inside.decls.items c.args.self.now c.self.invariant c.self.view_is c.args.i c.index-row.result.now
-    (omega (arith, entries_are c.self.inside.info.now c.self.inside.abbrevs.now c.self.inside.mode c.self.inside.units.items c.self.inside.entries.items c.self.inside.decls.items c.args.self.now c.self.invariant c.self.view_is, c.requires)) c.index-row.ensures
+there c = entry_there c.self.inside.info.now c.self.inside.abbrevs.now c.self.inside.mode c.self.inside.units.items c.self.inside.entries.items c.self.inside.decls.items c.args.self.now c.self.invariant.0 c.self.view_is c.args.i c.index-row.result.now
+    (omega (arith, entries_are c.self.inside.info.now c.self.inside.abbrevs.now c.self.inside.mode c.self.inside.units.items c.self.inside.entries.items c.self.inside.decls.items c.args.self.now c.self.invariant.0 c.self.view_is, c.requires)) c.index-row.ensures
 
 pub index-row-requires : goal.index-row-requires
 index-row-requires c =
-    let are = entries_are c.self.inside.info.now c.self.inside.abbrevs.now c.self.inside.mode c.self.inside.units.items c.self.inside.entries.items c.self.inside.decls.items c.args.self.now c.self.invariant c.self.view_is in
+    let are = entries_are c.self.inside.info.now c.self.inside.abbrevs.now c.self.inside.mode c.self.inside.units.items c.self.inside.entries.items c.self.inside.decls.items c.args.self.now c.self.invariant.0 c.self.view_is in
     omega (arith, are, c.requires, c.self.inside.entries.ok.0)
 
 pub new-cursor-requires : goal.new-cursor-requires
@@ -47,4 +47,4 @@ pub returns-clause-short : goal.returns-clause-short
 returns-clause-short c =
     let e = there (goal.at.returns-clause-short c).After-index-row in
     short_there c.self.inside.info.now c.self.inside.decls.items c.args.self.now c.args.i c.index-row.result.now e c.in-Ok._code c.uleb.new.self
-    (ap (λ (q : Input). uleb_at q) (sym c.new-cursor.ensures) ∙ c.in-Ok.ensures) c.self.invariant.short
+    (ap (λ (q : Input). uleb_at q) (sym c.new-cursor.ensures) ∙ c.in-Ok.ensures) c.self.invariant.0.short

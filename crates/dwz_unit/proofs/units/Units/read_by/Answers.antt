@@ -7,6 +7,7 @@ use Rattle.dwz_def_reading.specs.Units.{unit_at}
 use Rattle.dwz_model.specs.declared.place.Pair.{Pair}
 use Rattle.dwz_unit.specs.Kept.{KeepsUnit, known_in}
 use Rattle.dwz_unit.specs.Known.{KnownRow, row_view}
+use Rattle.dwz_unit.specs.Named.{named_count}
 use Rattle.dwz_unit.specs.Rows.{rows_of}
 use Rattle.dwz_unit.proofs.ReadLemmas.{all_kept, answered, fewer_units, known_grown, nearer, none_yet, one_more, unit_fails}
 use Rattle.dwz_unit.specs.Modes.{mode_view}
@@ -47,8 +48,11 @@ loop-at-preserved c =
     r (c.len.ensures ∙ c.loop-at.units.ok.0) is grows (omega (arith, c.in_ok-unit.ensures.room, length-map c.unit_of.new.entries.items (row_view new.decls))) c.in_ok-push.ensures.items
 
 pub invariant_of-result : goal.invariant_of-result
-invariant_of-result c = all_kept c.args.info.now c.args.abbrevs.now c.args.mode c.loop-at.at c.loop-at.tables c.loop-at.units.items c.loop-at.entries.items _ c.loop-at.invariant c.loop-at-test.false
-    c.in_ok-into_pairs.ensures c.requires.info c.requires.abbrevs
+invariant_of-result c = (
+  all_kept c.args.info.now c.args.abbrevs.now c.args.mode c.loop-at.at c.loop-at.tables c.loop-at.units.items c.loop-at.entries.items _ c.loop-at.invariant c.loop-at-test.false
+      c.in_ok-decls.ensures c.requires.info c.requires.abbrevs,
+  c.in_ok-named.ensures ∙ ap (λ (w : List (List Pair)). map named_count w) c.as_slice.ensures.value,
+)
 
 pub returns-clause-answers : goal.returns-clause-answers
 returns-clause-answers c = answered c.args.info.now c.args.abbrevs.now c.args.mode c.loop-at.at c.loop-at.tables c.loop-at.units.items (known_in c.loop-at.tables c.loop-at.entries.items) c.loop-at.invariant c.loop-at-test.false

@@ -1,0 +1,8 @@
+mod FileDocs
+mod UnitCounts
+mod LanguageLemmas
+mod UnitSteps
+mod SectionSteps
+mod RowSpots
+mod EntrySteps
+mod AttrSteps

@@ -1,0 +1,80 @@
+//! The units and the entries of a file, a line for each.
+
+ghost use Rattle.std.specs.Prelude.{◌≡◌, ◌<◌, length, map};
+
+use dwz_codes::{Row, attribute_names, tag_names};
+use dwz_graph::Graph;
+use dwz_graph_view::{EntryView, UnitView, attr_form, entry, section, unit, units};
+use dwz_model::{DEBUG_INFO, Place, UnitKind};
+
+// Where a unit begins, its number, and where its root begins; its language, and the type that it describes.
+fn show_unit(rt: &impl Print, number: u32, view: &UnitView) -> anyhow::Result<()> {
+    print!(rt;
+        "  0x{:x}: unit {number}, root at 0x{:x}",
+        view.place.offset, view.root.offset
+    )?;
+    if let Some(language) = view.language {
+        print!(rt; ", language {language}")?;
+    }
+    if let UnitKind::TypeUnit { signature, main } = view.kind {
+        print!(rt; ", type 0x{signature:x} at 0x{:x}", main.offset)?;
+    }
+    println!(rt)?;
+    Ok(())
+}
+
+/// The units of files that were read, in order of place.
+pub(crate) fn show_units(rt: &impl Print, graph: &Graph) -> anyhow::Result<()> {
+    for number in 0..units(graph) {
+        show_unit(rt, number, &unit(graph, number))?;
+    }
+    Ok(())
+}
+
+// The name that a table has for a code, or else the code.
+fn show_name(rt: &impl Print, row: Option<Row>, code: u16) -> anyhow::Result<()> {
+    match row {
+        Some(row) => print!(rt; " {}", row.name)?,
+        None => print!(rt; " 0x{code:x}")?,
+    }
+    Ok(())
+}
+
+// Where an entry begins, its tag, and the names of its attributes.
+fn show_entry(
+    rt: &impl Print,
+    graph: &Graph,
+    place: Place,
+    view: &EntryView,
+) -> anyhow::Result<()> {
+    print!(rt; "  0x{:x}:", place.offset)?;
+    show_name(rt, tag_names().find(u64::from(view.tag)), view.tag)?;
+    for index in 0..view.attrs {
+        if let Some(attr) = attr_form(graph, place, index) {
+            show_name(rt, attribute_names().find(u64::from(attr.name)), attr.name)?;
+        }
+    }
+    println!(rt)?;
+    Ok(())
+}
+
+/// The entries of the first of files that were read from these contents, in order of place.
+pub(crate) fn show_entries(
+    rt: &impl Print,
+    contents: &[Vec<u8>],
+    graph: &Graph,
+) -> anyhow::Result<()>
+    requires contents { graph.now ≡ map (λ v. v.items) contents.now }
+    requires some { 0 < length graph.now }
+{
+    let Some(info) = section(contents, graph, 0, DEBUG_INFO) else {
+        return Ok(());
+    };
+    for offset in 0..u32::try_from(info.len())? {
+        let place = Place { file: 0, offset };
+        if let Some(view) = entry(graph, place) {
+            show_entry(rt, graph, place, &view)?;
+        }
+    }
+    Ok(())
+}

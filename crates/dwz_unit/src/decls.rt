@@ -1,0 +1,45 @@
+//! The declarations of entries, by number.
+
+ghost use Rattle.std.specs.Prelude.{◌≡◌, ◌<◌, Some, length, slice_get};
+
+use crate::rows::Row;
+use dwz_model::Pairs;
+use std::marker::Model;
+
+/// The declarations of all entries (DWARF 5, 7.5.3). They are far fewer than entries, so what follows from names and forms alone is found
+/// once for each of them.
+#[derive(Drop)]
+pub struct Declarations<'u> {
+    pub(crate) entries: &'u [Row],
+    pub(crate) pairs: &'u [Pairs],
+}
+
+impl<'u> Model for Declarations<'u> {
+    ghost use Rattle.std.specs.Prelude.{◌<◌, All, length, map};
+    ghost use Rattle.dwz_unit.specs.Declarations.{Declarations};
+
+    ghost Value = { Declarations };
+
+    ghost view = { λ d. record { pairs = d.pairs.now; numbers = map (λ row. row.decl) d.entries.now } };
+
+    ghost invariant = { λ d. All (λ row. row.decl < length d.pairs.now) d.entries.now };
+}
+
+impl<'u> Declarations<'u> {
+    /// The names and forms of each, by its number.
+    pub fn pairs(&self) -> &'u [Pairs]
+        ensures { result.now ≡ self.now.pairs }
+    {
+        self.pairs
+    }
+
+    /// The number of the declaration of the entry with that number.
+    #[inline(always)]
+    pub fn number(&self, entry: u32) -> usize
+        requires { entry < length self.now.numbers }
+        ensures number { slice_get self.now.numbers entry ≡ Some result }
+        ensures within { result < length self.now.pairs }
+    {
+        self.entries[entry as usize].decl as usize
+    }
+}

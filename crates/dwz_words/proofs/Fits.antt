@@ -1,0 +1,73 @@
+-- What options come to that fit together, by the task that they ask for.
+use Rattle.std.proofs.Common.{◌≡◌, ◌≤◌, ◌+◌, refl, ap, subst, ℕ, Bool, true, false, Option, Some, None, arith, length}
+use Rattle.std.specs.Prelude.{if◌then◌else◌, is_none, is_some, nat_le, nat_lt, ◌==◌, ◌&&◌, ◌||◌}
+use Rattle.std.proofs.lemmas.Bool.{eqb-true, leb-true}
+use Rattle.clap.proofs.WalkLemmas.{both}
+use Rattle.dwz_words.specs.Conditions.{FitTogether, Word, are_distinct, task_count}
+use Rattle.dwz_words.specs.declared.options.Options.{Options}
+
+-- what a flag adds to the count of those that hold
+abbrev weight : Bool → ℕ
+weight b = if b then 1 else 0
+
+adds_none : (b : Bool) → weight b ≡ 0 → b ≡ false
+adds_none true none = absurd (omega arith)
+adds_none false none = refl
+
+not_given : {X : Type 0} (o : Option X) → weight (is_some o) ≡ 0 → o ≡ None
+not_given None none = refl
+not_given (Some x) none = absurd (omega arith)
+
+given : {X : Type 0} (o : Option X) (x : X) → o ≡ Some x → weight (is_some o) ≡ 1
+given o x e = ap (λ o. weight (is_some o)) e
+
+module _ (o : Options) (fit : FitTogether o) where
+  count_is : task_count o ≡ weight (is_some o.common) + weight o.explain + weight (is_some o.demo)
+  count_is = omega arith
+
+  at_most_one : task_count o ≤ 1
+  at_most_one = leb-true (task_count o) 1 fit.one_task
+
+  -- with COMMON nothing is explained or demonstrated
+  pub with_common : (common : Word) → o.common ≡ Some common → (o.explain ≡ false) × (o.demo ≡ None)
+  with_common common e =
+      let one = given o.common common e in (
+        adds_none o.explain (omega (arith, count_is, at_most_one)),
+        not_given o.demo (omega (arith, count_is, at_most_one)),
+      )
+
+  -- with `--explain` there is no COMMON and no demonstration
+  pub with_explain : o.explain ≡ true → (o.common ≡ None) × (o.demo ≡ None)
+  with_explain e =
+      let one : weight o.explain ≡ 1 = ap weight e in (
+        not_given o.common (omega (arith, count_is, at_most_one)),
+        not_given o.demo (omega (arith, count_is, at_most_one)),
+      )
+
+  -- with `--demo` there is no FILE and no COMMON, and nothing is explained
+  pub with_demo : (n : ℕ) → o.demo ≡ Some n → (length o.files ≡ 0) × (o.common ≡ None) × (o.explain ≡ false)
+  with_demo n e =
+      let one = given o.demo n e in
+      let none = subst (λ (d : Option ℕ). (if is_some d then length o.files == 0
+      else (if o.explain then length o.files == 4 else (nat_lt 0 (length o.files) && nat_le (length o.files) 256))) ≡ true) e fit.file_count in (
+        eqb-true (length o.files) 0 none,
+        not_given o.common (omega (arith, count_is, at_most_one)),
+        adds_none o.explain (omega (arith, count_is, at_most_one)),
+      )
+
+  -- with OUT there is one FILE and no task
+  pub with_out : (out : Word) → o.out ≡ Some out
+      → (length o.files ≡ 1) × (o.common ≡ None) × (o.explain ≡ false) × (o.demo ≡ None)
+  with_out out e =
+      let alone = subst (λ (w : Option Word). (is_none w || (length o.files == 1 && task_count o == 0)) ≡ true) e fit.out_only_for_one in
+      let parts = both (length o.files == 1) (task_count o == 0) alone in
+      let none : task_count o ≡ 0 = eqb-true (task_count o) 0 parts.1 in (
+        eqb-true (length o.files) 1 parts.0,
+        not_given o.common (omega (arith, count_is)),
+        adds_none o.explain (omega (arith, count_is)),
+        not_given o.demo (omega (arith, count_is)),
+      )
+
+  -- where nothing is explained, FILEs differ
+  pub files_differ : o.explain ≡ false → are_distinct o.files ≡ true
+  files_differ e = subst (λ (b : Bool). (b || are_distinct o.files) ≡ true) e fit.distinct_files

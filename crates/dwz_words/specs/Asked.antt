@@ -1,0 +1,33 @@
+-- What words ask for beside the options: which files are got, and of which two places something is said.
+use Rattle.std.specs.Prelude.{ℕ, List, [], ◌∷◌, drop, if◌then◌else◌}
+use Rattle.std.specs.Str.{bytes_eq}
+use Rattle.std.specs.Str.Parse.{digits_value}
+use Rattle.dwz_words.specs.Conditions.{Word, is_offset}
+use Rattle.dwz_words.specs.declared.options.Options.{Options}
+
+-- the number that an OFFSET spells; 0 for any other word
+abbrev pub offset_value : Word → ℕ
+offset_value word = if is_offset word then digits_value 16 (drop 2 word) else 0
+
+-- of FILE OFFSET FILE OFFSET the two FILEs, or the one where they are equal; of any other number of words all of them
+abbrev pub names_of_places : List Word → List Word
+names_of_places (first ∷ first_offset ∷ second ∷ second_offset ∷ []) =
+    if bytes_eq first second then first ∷ [] else first ∷ second ∷ []
+names_of_places words = words
+
+-- the names of the files that are got, in order; a file's number is its place among them
+abbrev pub names_got : Options → List Word
+names_got o = if o.explain then names_of_places o.files else o.files
+
+-- of FILE OFFSET FILE OFFSET the two places, each as the number of its file and an offset there; of any other number of words twice the
+-- first byte of file 0
+abbrev pub places_named : List Word → (ℕ × ℕ) × (ℕ × ℕ)
+places_named (first ∷ first_offset ∷ second ∷ second_offset ∷ []) = (
+  (0, offset_value first_offset),
+  (if bytes_eq first second then 0 else 1, offset_value second_offset),
+)
+places_named words = ((0, 0), (0, 0))
+
+-- the two places of which `--explain` asks
+abbrev pub places_asked : Options → (ℕ × ℕ) × (ℕ × ℕ)
+places_asked o = places_named o.files

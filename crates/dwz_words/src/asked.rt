@@ -1,0 +1,78 @@
+//! What options ask for: which files are got, and of which two places something is said.
+
+ghost use Rattle.std.specs.Prelude.{◌≡◌, IfOk, map};
+ghost use Rattle.dwz_words.specs.Asked.{names_got, offset_value, places_asked};
+
+use crate::conditions::is_offset;
+use crate::options::Options;
+use dwz_model::{Blob, NoMemory, Place};
+use std::alloc::Global;
+use std::str;
+
+/// These names, in this order.
+fn all_names<'a>(alloc: Global, files: &'a [Blob]) -> Result<Vec<&'a [u8]>, NoMemory>
+    ensures { IfOk result (λ v. map (λ n. n.now) v.items ≡ files.now) }
+{
+    let mut names = Vec::with_capacity(alloc, files.len())?;
+    for file in files {
+        names.push(file.as_slice())?;
+    }
+    Ok(names)
+}
+
+/// The names of the files that are got, in order: the FILEs; with `--explain`, where they are FILE OFFSET FILE OFFSET, the first and the
+/// third, or just one where these are equal. A file's number is its place among them, from 0.
+pub fn names_got<'a>(alloc: Global, options: &'a Options) -> Result<Vec<&'a [u8]>, NoMemory>
+    ensures { IfOk result (λ v. map (λ n. n.now) v.items ≡ names_got options.now) }
+{
+    match options.files.as_slice() {
+        [first, _, second, _] if options.explain => {
+            let mut names = Vec::with_capacity(alloc, 2)?;
+            names.push(first.as_slice())?;
+            if first.as_slice() != second.as_slice() {
+                names.push(second.as_slice())?;
+            }
+            Ok(names)
+        }
+        files => all_names(alloc, files),
+    }
+}
+
+/// The number that an OFFSET spells, and 0 for any other word.
+fn offset_value(word: &[u8]) -> u32
+    ensures { result ≡ offset_value word.now }
+{
+    if !is_offset(word) {
+        return 0;
+    }
+    let digits = str::from_utf8(&word[2..]).unwrap();
+    u32::from_str_radix(digits, 16).unwrap()
+}
+
+/// The two places of which `--explain` asks, of FILE OFFSET FILE OFFSET: in file 0 at the first OFFSET, and at the second in file 0 where
+/// the FILEs are equal, and else in file 1, as `names_got` numbers them. A word that is no OFFSET counts as 0. Where there aren't four
+/// words, both places are the first byte of file 0.
+pub fn places_asked(options: &Options) -> (Place, Place)
+    ensures { ((result.0.file, result.0.offset), (result.1.file, result.1.offset)) ≡ places_asked options.now }
+{
+    match options.files.as_slice() {
+        [first, first_offset, second, second_offset] => {
+            let file = if first.as_slice() == second.as_slice() {
+                0
+            } else {
+                1
+            };
+            (
+                Place {
+                    file: 0,
+                    offset: offset_value(first_offset.as_slice()),
+                },
+                Place {
+                    file,
+                    offset: offset_value(second_offset.as_slice()),
+                },
+            )
+        }
+        _ => (Place { file: 0, offset: 0 }, Place { file: 0, offset: 0 }),
+    }
+}

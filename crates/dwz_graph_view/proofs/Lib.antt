@@ -6,3 +6,4 @@ mod SectionSteps
 mod RowSpots
 mod EntrySteps
 mod AttrSteps
+mod TopSteps

@@ -4,3 +4,4 @@ pub mod Finding
 pub mod EntryViews
 pub mod EntryRows
 pub mod AttrViews
+pub mod TopPaths

@@ -32,7 +32,7 @@ pub struct EntryView {
 }
 
 // The number of the entry that begins at an offset.
-fn find_entry(units: &Units, offset: u32) -> Option<u32>
+pub(crate) fn find_entry(units: &Units, offset: u32) -> Option<u32>
     ensures found { IfSome result (λ i. (i < entries_in (units_of units.now)) × (place_at (units_of units.now) i ≡ offset)) }
     ensures none { result ≡ None → (i : ℕ) → i < entries_in (units_of units.now) → place_at (units_of units.now) i ≡ offset → ⊥ }
 {

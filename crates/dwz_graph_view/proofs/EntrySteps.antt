@@ -30,7 +30,8 @@ use Rattle.dwz_unit.specs.Rows.{EntryRow, attr_count, entry_shown, rows_of, show
 use Rattle.dwz_unit.specs.Values.{Reads}
 use Rattle.dwz_graph_view.specs.EntryRows.{IsNumberAt, IsRowOf}
 use Rattle.dwz_graph_view.specs.EntryViews.{EntrySpot, begins_at, entry_at, entry_view, first_offset, spots_from, units_before}
-use Rattle.dwz_graph_view.proofs.FileDocs.{IsFileOf, file_of, files_many, same_file}
+use Rattle.dwz_graph_view.proofs.FileDocs.{IsFileOf, file_of, same_file}
+use Rattle.dwz_law_files.proofs.FileCounts.{files_many}
 use Rattle.dwz_graph_view.proofs.RowSpots.{InStep, all_in_step, all_long, attrs_many, counts, means_many, step_at}
 use Rattle.dwz_graph_view.proofs.UnitCounts.{before_few}
 

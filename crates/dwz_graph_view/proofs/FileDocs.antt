@@ -15,12 +15,9 @@ use Rattle.dwz_graph.specs.Files.{AreKept, AreRead, HasFile, IsRead, docs_of}
 use Rattle.dwz_graph.proofs.FileLemmas.{files_few}
 use Rattle.dwz_graph.proofs.GraphLemmas.{file_there, files_read, same_raw, step}
 use Rattle.dwz_unit.specs.Rows.{units_of}
+use Rattle.dwz_law_files.proofs.FileWalk.{later_docs}
 
 -- ---- the documents behind one
-
-later_docs : (doc : Doc ℕ) (r : Result (List (Doc ℕ)) Refusal) (docs : List (Doc ℕ)) → (r >>= with_doc doc) ≡ Ok docs → (rest : List (Doc ℕ)) × (r ≡ Ok rest) × (doc ∷ rest ≡ docs)
-later_docs doc (Ok rest) docs e = (rest, refl, (let same : doc ∷ rest ≡ docs = cc in same))
-later_docs doc (Err f) docs e = absurd cc
 
 pub first_doc : (l : Limits) (n : ℕ) (b : List ℕ) (contents : List (List ℕ)) (raw : List RawUnit) (doc : Doc ℕ) (docs : List (Doc ℕ)) → file_meaning l b ≡ Ok (raw, doc)
     → files_meaning l n (b ∷ contents) ≡ Ok docs
@@ -72,20 +69,6 @@ pub same_file : (contents : List (List ℕ)) (k : ℕ) (f g : File) → IsFileOf
 same_file contents k f g a b = (same_raw no_files_before contents k a.limits b.limits a.bytes b.bytes (units_of f.units) (units_of g.units) a.read.doc b.read.doc a.there b.there).1
 
 -- ---- how many files there are
-
-docs_many : (l : Limits) (n : ℕ) (contents : List (List ℕ)) (files : List File) (left : Limits) (docs : List (Doc ℕ)) → AreRead l n contents files left → files_meaning l n contents ≡ Ok docs
-    → length files ≡ length docs
-unfolding files_meaning
-docs_many l n [] [] left docs h m = ap (λ (w : List (Doc ℕ)). length w) (let same : [] ≡ docs = cc in same)
-docs_many l n [] (y ∷ files) left docs h m = absurd h
-docs_many l n (b ∷ contents) [] left docs h m = absurd h
-docs_many l n (b ∷ contents) (y ∷ files) left docs h m =
-    let r = first_doc l n b contents (units_of y.units) h.0.doc docs h.0.means m in
-    ap suc (docs_many (limits_after l b (units_of y.units)) (suc n) contents files left r.0 h.1 r.1) ∙ ap (λ (w : List (Doc ℕ)). length w) r.2
-
--- each has a document
-pub files_many : (contents : List (List ℕ)) (files : List File) → AreKept contents files → length files ≡ length (docs_of contents)
-files_many contents files kept = docs_many no_files_before 0 contents files kept.end (docs_of contents) kept.are (files_read contents files kept.end kept.are)
 
 -- a file that is read has bytes
 some_bytes : (l : Limits) (bytes : List ℕ) (raw : List RawUnit) (doc : Doc ℕ) → file_meaning l bytes ≡ Ok (raw, doc) → (1 ≤ length bytes) × (length bytes ≤ l.bytes)

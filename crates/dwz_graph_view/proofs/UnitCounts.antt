@@ -15,7 +15,8 @@ use Rattle.dwz_unit.proofs.ShownLemmas.{units_few}
 use Rattle.dwz_graph_view.specs.Finding.{HasUnit}
 use Rattle.dwz_graph_view.specs.EntryViews.{units_before}
 use Rattle.dwz_graph_view.specs.UnitViews.{all_units, units_from}
-use Rattle.dwz_graph_view.proofs.FileDocs.{file_of, files_many, first_doc}
+use Rattle.dwz_graph_view.proofs.FileDocs.{file_of, first_doc}
+use Rattle.dwz_law_files.proofs.FileCounts.{files_many}
 
 -- ---- how many there are
 

@@ -1,5 +1,6 @@
 #!/usr/bin/env python3
-"""Says which definitions a reader of the proved program has to believe: those that the contract of `run` and its laws rest on.
+"""Says which definitions a reader of the proved program has to believe: those that the contract of `run` and its laws rest on, and the laws
+on files that are read beside a common one.
 
     tools/believed.py               fails, with a line for each file of definitions that says otherwise than it is
     tools/believed.py --list        the believed files in reading order, each with the first sentence of its first comment
@@ -21,6 +22,8 @@ ROOTS = [
     ("dwz_run", "src/laws.rt", ["done_laws", "cause_laws", "answer_laws", "stop_laws", "demo_laws"]),
     ("dwz_def_output", "src/written.rt", ["written_laws"]),
     ("dwz_def_run", "src/outcome.rt", ["out_laws"]),
+    ("dwz_def_reading", "src/finished.rt", ["finished_laws", "beside_laws"]),
+    ("dwz_def_reading", "src/places.rt", ["place_laws", "bound_laws"]),
 ]
 BELIEVED = ["model", "bytes", "codes", "outside", "words", "report", "gen", "run_course", "run"]
 MARK = "-- Inner:"

@@ -15,7 +15,7 @@ use Rattle.dwz_def_tops.specs.Targets.{entries_into}
 use Rattle.dwz_def_tops.specs.Deciding.{top_in}
 use Rattle.dwz_def_tops.proofs.SmallDocs.{base_type, entry, named, then, typed, unit}
 use Rattle.dwz_report.specs.Texts.{Text, reason_words, refusal_line, section_name}
-use Rattle.dwz_def_explain.specs.Texts.{child_at, entry_along, explained_text, files_spots, place_in, reference_lines}
+use Rattle.dwz_def_explain.specs.Texts.{child_at, entry_along, explained_text, files_spots, place_named, reference_lines}
 use Rattle.dwz_def_explain.specs.declared.verdict.Verdict.{Verdict}
 use Rattle.dwz_def_explain.specs.declared.verdict.Verdict.TheVariants.{Alike, Differ}
 use Rattle.dwz_def_explain.specs.declared.verdict.What.TheVariants.{Attribute, Language, Tag}
@@ -37,7 +37,7 @@ text_of docs _ _ verdict = []
 -- of the tops with these numbers
 unfoldable printed : List (Doc ℕ) → ℕ → ℕ → Verdict → Text
 unfolding entries_map first_named space_text tops_under entry_spots named_files row_in row_tops same_numbers same_spot spot_in spots_from top_spots tops_among tops_from entries_into top_in digits
-    attribute_rows tag_rows reference_lines child_at entry_along files_spots place_in typedefs
+    attribute_rows tag_rows reference_lines child_at entry_along files_spots place_named typedefs
 printed docs m n verdict = text_of docs (top_in (tops_of (units_of docs)) m) (top_in (tops_of (units_of docs)) n) verdict
 
 -- sizes 4 and 8 behind 40 typedefs each

@@ -23,13 +23,13 @@ files_spots unit top [] = []
 files_spots unit top (doc ∷ docs) =
     spots_from unit top doc.units ++ files_spots (unit + length doc.units) (top + tops_among doc.units) docs
 
-unfoldable pub place_in : List (ℕ × EntryName) → EntryName → ℕ
-place_in [] name = 0
-place_in (s ∷ spots) name = elim (same_spot s.1 name) as (λ _. ℕ) [ true ↦ s.0 | false ↦ place_in spots name ]
+unfoldable pub place_named : List (ℕ × EntryName) → EntryName → ℕ
+place_named [] name = 0
+place_named (s ∷ spots) name = elim (same_spot s.1 name) as (λ _. ℕ) [ true ↦ s.0 | false ↦ place_named spots name ]
 
 -- the place of a name, in whichever file it stands
 abbrev pub place_of_name : List (Doc ℕ) → EntryName → ℕ
-place_of_name docs name = place_in (files_spots 0 0 docs) name
+place_of_name docs name = place_named (files_spots 0 0 docs) name
 
 -- ---- names and numbers
 

@@ -3,6 +3,7 @@ use Rattle.std.specs.Prelude.{◌⊎◌, ◌≡◌, ℕ, suc, ◌+◌, true, fal
 use Rattle.dwz_def_reading.specs.Documents.{Compile, Doc, DwUnit, Entries, Kind, Node, OfType, Partial, node_map, unit_map}
 use Rattle.dwz_def_reading.specs.Lists.{In}
 use Rattle.dwz_def_reading.specs.Trees.{End, Entry}
+pub use Rattle.dwz_def_reading.specs.Places.{Place, at_file}
 use Rattle.dwz_def_tops.specs.Lists.{NoneTwice, Nth}
 use Rattle.dwz_def_tops.specs.Seen.{Closed, IsPartial, SameAlong}
 use Rattle.dwz_def_tops.specs.Shown.{HaveMains, OnePlace, UnitsShown, units_keys}
@@ -97,7 +98,7 @@ pub data ComesFrom (m : Move) (units : List (FileUnit EntryName)) (e : Node Entr
       → Has names (OfSpace d) (m.rows n)
       → e ≡ node_map (image_in m) d → ComesFrom m units e
 
--- ---- places before: a file's number, and a place in its `.debug_info`
+-- ---- places before
 
 -- no two units or entries of a file stand at one place, none of its units is a partial unit, each reference names an entry, and the
 -- type of a type unit is an entry of it
@@ -106,13 +107,6 @@ pub record ArePlaced (units : List (DwUnit ℕ)) : Type 0 where
   pub kinds : (u : DwUnit ℕ) → In u units → IsPartial u.kind → ⊥
   pub closed : Closed units
   pub mains : HaveMains units
-
-pub record Place : Type 0 where
-  pub file : ℕ
-  pub at : ℕ
-
-abbrev pub at_file : ℕ → ℕ → Place
-at_file file at = record { file = file; at = at }
 
 -- the units of all files; the first file has that number
 unfoldable pub units_placed_from : ℕ → List (Doc ℕ) → List (DwUnit Place)

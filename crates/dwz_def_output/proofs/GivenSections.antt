@@ -14,7 +14,7 @@ use Rattle.dwz_def_reading.specs.Units.{RawUnit, SpellsUnits}
 use Rattle.dwz_def_reading.proofs.PartLemmas.{bind_ok}
 use Rattle.dwz_def_reading.proofs.UnitListLemmas.{some_unit}
 use Rattle.dwz_def_reading.specs.Documents.{Doc}
-use Rattle.dwz_def_reading.specs.Files.{Limits, Reads, ends_at, file_meaning, is_too_long, section_of}
+use Rattle.dwz_def_reading.specs.Files.{Limits, Reads, ends_at, file_meaning_by, is_too_long, section_of}
 use Rattle.dwz_def_reading.proofs.FileLemmas.{file_agrees}
 use Rattle.dwz_def_tops.specs.Spots.{same_numbers}
 use Rattle.dwz_def_tops.proofs.SpotLemmas.{numbers_same, numbers_true}
@@ -23,12 +23,12 @@ use Rattle.dwz_def_output.specs.Contents.{if_other}
 
 -- ---- a file that reads has no fault
 
-pub no_fault_at : (o : Option Fault) (u : Unit {0}) → ends_at o ≡ Ok u → o ≡ None
+no_fault_at : (o : Option Fault) (u : Unit {0}) → ends_at o ≡ Ok u → o ≡ None
 no_fault_at None u e = refl
 no_fault_at (Some f) u e = absurd cc
 
 pub reads_sound : (l : Limits) (input : List ℕ) (raw : List RawUnit) (doc : Doc ℕ) → Reads l input raw doc → elf_fault input ≡ None
-unfolding file_meaning
+unfolding file_meaning_by
 reads_sound l input raw doc reads =
     let e = ((file_agrees l input).ok (raw, doc)).1 reads in
     let a = bind_ok (unless_so (is_too_long l input) (file_fault FileSize 0)) _ (raw, doc) e in

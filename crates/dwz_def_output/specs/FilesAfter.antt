@@ -14,6 +14,7 @@ use Rattle.dwz_def_plan.specs.Homes.{Common, same_home}
 use Rattle.dwz_def_plan.specs.Plan.{PartialUnit}
 use Rattle.dwz_def_images.specs.Units.{changes}
 use Rattle.dwz_def_reading.specs.Files.{debug_abbrev, debug_info, section_of}
+pub use Rattle.dwz_def_reading.specs.Finished.{sum_of}
 use Rattle.dwz_def_readback.specs.Files.{CommonFile, Made, Run, Stands, imports_common}
 use Rattle.dwz_def_output.specs.Contents.{common_after, sections_after_by}
 use Rattle.sha2.specs.Sha256.{sha256}
@@ -49,10 +50,6 @@ abbrev pub order_of : ElfView → List (ℕ × ℕ)
 order_of e = in_order (moving (keep_end e) 0 e.sections)
 
 -- ---- the files
-
--- the checksum of a common file: over its `.debug_info`, `.debug_str` and `.debug_abbrev`
-abbrev pub sum_of : List ℕ → List ℕ
-sum_of bytes = sha256 (debug_info bytes ++ section_of bytes 3 ++ debug_abbrev bytes)
 
 -- that of the common file of a run
 abbrev pub sum_by : CommonFile → Run → List ℕ

@@ -3,7 +3,6 @@ pub mod PathLemmas
 pub mod SaysLemmas
 pub mod SameLemmas
 pub mod ReadBuilt
-pub mod ReadNamed
 pub mod ReadPlaces
 pub mod HomeLemmas
 pub mod OriginLemmas

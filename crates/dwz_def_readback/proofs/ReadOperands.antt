@@ -30,7 +30,7 @@ use Rattle.dwz_def_encoding.specs.Fitting.{EachAttr}
 use Rattle.dwz_def_encoding.specs.Meant.{ListSays, OperandIn, OperandsIn, Own, Tells, all_entry_keys, entry_keys, led_to, own_of, place_counted}
 use Rattle.dwz_def_encoding.proofs.ReadAgain.{bases_read}
 use Rattle.dwz_def_readback.proofs.ReadBuilt.{own}
-use Rattle.dwz_def_readback.proofs.ReadNamed.{expr_named, list_named}
+use Rattle.dwz_def_reading.proofs.ReadNamed.{expr_named, list_named}
 use Rattle.dwz_def_readback.proofs.ReadPlaces.{entries_places}
 
 -- ---- in a unit that is read

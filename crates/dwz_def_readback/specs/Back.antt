@@ -36,15 +36,9 @@ use Rattle.dwz_def_reading.specs.NamedLists.{lists_of_units}
 use Rattle.dwz_def_reading.specs.Shared.{NoneShared}
 use Rattle.dwz_def_reading.specs.Patching.{of_units}
 use Rattle.dwz_def_reading.specs.Ranges.{RangeSet, SpellsSets}
+pub use Rattle.dwz_def_reading.specs.Finished.{around_in, given_by}
 
 -- ---- the relation: what a file says
-
--- what a common file with this number gives to the others: its entries, and its texts
-abbrev pub given_by : ℕ → List ℕ → List RawUnit → Common Place
-given_by number bytes raw = record { entries = all_places raw; place = at_file number; strs = section_of bytes 3 }
-
-abbrev pub around_in : Option (Common Place) → ℕ → List ℕ → List RawUnit → Around Place
-around_in common number bytes raw = record { sources = sources_of bytes; all = all_places raw; place = at_file number; common = common }
 
 -- The file with a number has no fault of an ELF file that is read back; its units, of which some may be partial, with the forms that lead
 -- to a common file, are spelled, and mean these. Each set of address ranges is of one of the units that aren't partial; and no location

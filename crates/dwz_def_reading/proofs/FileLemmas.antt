@@ -8,70 +8,27 @@ use Rattle.dwz_model.specs.declared.fault.Reason.TheVariants.{FileSize, Machine}
 use Rattle.dwz_model.specs.declared.fault.Refusal.{Refusal}
 use Rattle.dwz_bytes.specs.Input.{input}
 use Rattle.dwz_bytes.specs.Reading.{◌>>=◌}
-use Rattle.dwz_def_reading.specs.declared.elf.FileHeader.{FileHeader}
 use Rattle.dwz_def_reading.specs.Documents.{Doc, DwUnit}
-use Rattle.dwz_def_reading.specs.ElfFaults
-use Rattle.dwz_def_reading.specs.ElfFaults.{Either, ElfManner, InOrder, IsElfFault, IsElfFaultFor, IsFirstElfFault, IsFirstElfFaultFor, by_itself, file_fault}
-use Rattle.dwz_def_reading.specs.FirstOf.{OrElse}
-use Rattle.dwz_def_reading.specs.ElfHeaders.{file_header}
-use Rattle.dwz_def_reading.specs.ElfNames.{sections_in}
-use Rattle.dwz_def_reading.specs.ElfReading.{elf_fault}
-use Rattle.dwz_def_reading.specs.Entries.{Mode, given, unless_so}
-use Rattle.dwz_def_reading.specs.Files.{First, HaveGoodRanges, IsFileFault, IsForMachine, IsNotTooLong, IsOtherMachine, IsRefusal, IsTooLong, Limits, ReadAll, Reads, around_of, debug_abbrev}
-use Rattle.dwz_def_reading.specs.Files.{debug_aranges, debug_info, doc_with, ends_at, file_meaning, files_meaning, is_other_machine, is_place_of, is_too_long, limits_after, lists_said, refused_in}
+use Rattle.dwz_def_reading.specs.ElfFaults.{ElfManner, IsElfFaultFor, IsFirstElfFaultFor, file_fault}
+use Rattle.dwz_def_reading.specs.ElfReading.{elf_fault_for}
+use Rattle.dwz_def_reading.specs.Entries.{Mode, unless_so}
+use Rattle.dwz_def_reading.specs.Files.{First, HaveGoodRanges, IsFaultBy, IsFileFault, IsForMachine, IsNotTooLong, IsOtherMachine, IsRefusal, IsTooLong, Limits, ReadAll, Reads, ReadsBy, debug_abbrev}
+use Rattle.dwz_def_reading.specs.Files.{debug_aranges, debug_info, doc_with, ends_at, file_meaning, file_meaning_by, files_meaning, given_rule, is_other_machine, is_place_of, is_too_long, limits_after, lists_said, refused_in}
 use Rattle.dwz_def_reading.specs.Files.{longest_file, machine_at, machine_of, sets_said, units_said}
 use Rattle.dwz_def_reading.specs.Meanings.{MeanUnits}
 use Rattle.dwz_def_reading.specs.MeaningFaults.{HaveUnitFault}
 use Rattle.dwz_def_reading.specs.NamedLists.{lists_of_units}
 use Rattle.dwz_def_reading.specs.Ranges.{IsSetsFault, RangeSet, SpellsSets}
 use Rattle.dwz_def_reading.specs.Shared.{IsSharedFault, NoneShared}
+use Rattle.dwz_def_reading.specs.Rules.{ReadingRule}
 use Rattle.dwz_def_reading.specs.Units.{IsUnitsFault, RawUnit, SpellsUnits, units_at}
 use Rattle.dwz_def_reading.proofs.AgreeLemmas.{Agrees, Made, Next, OrNext, agrees_err, agrees_ok, and_with, in_words, then_made}
 use Rattle.dwz_def_reading.proofs.ElfFaultLemmas.{elf_is_sound}
+use Rattle.dwz_def_reading.proofs.ElfFirst.{first_is_one}
 use Rattle.dwz_def_reading.proofs.MeaningUnits.{units_agree}
 use Rattle.dwz_def_reading.proofs.RangeLemmas.{sets_agree}
 use Rattle.dwz_def_reading.proofs.SharedLemmas.{shared_agrees}
 use Rattle.dwz_def_reading.proofs.UnitListLemmas.{units_again, units_fault, units_fault_again, units_found}
-
--- ---- the first ELF fault is one
-
--- what the one says of a fault, the other does
-record Covers (First Any : Fault → Type 0) : Type 0 where
-  each : (f : Fault) → First f → Any f
-
-itself : (First : Fault → Type 0) → Covers First First
-itself First = record { each = λ f h. h }
-
-weaker : (First Any Then AnyThen : Fault → Type 0) → Covers First Any → Covers Then AnyThen → Covers (OrElse First Then) (Either Any AnyThen)
-weaker First Any Then AnyThen one others = record { each = λ f h. elim h [ inl is ↦ inl (one.each f is) | inr p ↦ inr (others.each f p.1) ] }
-
-weaker_in_order : {X : Type 0} (One Any : List X → X → Fault → Type 0) → ((before : List X) (x : X) → Covers (One before x) (Any before x)) → (before xs : List X)
-    → Covers (InOrder OrElse One before xs) (InOrder Either Any before xs)
-weaker_in_order One Any each before [] = record { each = λ f h. h }
-weaker_in_order One Any each before (x ∷ xs) = weaker _ _ _ _ (each before x) (weaker_in_order One Any each (before ++ x ∷ []) xs)
-
-weaker_fields : (m : ElfManner) (bytes : List ℕ) (file : FileHeader) → Covers (ElfFaults.FieldRowsFor m OrElse bytes file) (ElfFaults.FieldRowsFor m Either bytes file)
-weaker_fields m bytes file =
-    weaker _ _ _ _ (itself _)
-    (weaker _ _ _ _ (itself _)
-    (weaker _ _ _ _ (itself _)
-    (weaker _ _ _ _ (itself _)
-    (weaker _ _ _ _ (itself _)
-    (weaker _ _ _ _ (itself _) (itself _))))))
-
-first_covered : (m : ElfManner) (bytes : List ℕ) → Covers (IsFirstElfFaultFor m bytes) (IsElfFaultFor m bytes)
-first_covered m bytes =
-    let file = file_header bytes in
-    let sections = sections_in bytes in
-    weaker _ _ _ _ (weaker _ _ _ _ (itself _) (itself _))
-    (weaker _ _ _ _ (weaker_fields m bytes file)
-    (weaker _ _ _ _ (itself _)
-    (weaker _ _ _ _ (weaker_in_order _ _ (λ before s. itself _) [] sections)
-    (weaker _ _ _ _ (weaker_in_order _ _ (λ before s. weaker _ _ _ _ (itself _) (itself _)) [] sections)
-    (itself _)))))
-
-pub first_is_one : (m : ElfManner) (bytes : List ℕ) (f : Fault) → IsFirstElfFaultFor m bytes f → IsElfFaultFor m bytes f
-first_is_one m bytes = (first_covered m bytes).each
 
 -- ---- tests
 
@@ -126,33 +83,29 @@ machine_agrees (Some other) machine =
       unflipped true e = refl
       unflipped false e = absurd cc
 
-elf_agrees : (bytes : List ℕ) → Agrees (ends_at (elf_fault bytes)) (λ u. (g : Fault) → IsElfFault bytes g → ⊥) (IsFirstElfFault bytes)
-elf_agrees bytes = by (elf_fault bytes) refl where
-  by : (o : Option Fault) → elf_fault bytes ≡ o → Agrees (ends_at o) (λ u. (g : Fault) → IsElfFault bytes g → ⊥) (IsFirstElfFault bytes)
+elf_agrees : (m : ElfManner) (bytes : List ℕ) → Agrees (ends_at (elf_fault_for m bytes)) (λ u. (g : Fault) → IsElfFaultFor m bytes g → ⊥) (IsFirstElfFaultFor m bytes)
+elf_agrees m bytes = by (elf_fault_for m bytes) refl where
+  by : (o : Option Fault) → elf_fault_for m bytes ≡ o → Agrees (ends_at o) (λ u. (g : Fault) → IsElfFaultFor m bytes g → ⊥) (IsFirstElfFaultFor m bytes)
   by None none = in_words (agrees_ok tt)
-      (λ u. (λ same. (elf_is_sound by_itself bytes).none none, λ h. refl))
-      (λ f. (λ no_fault. absurd no_fault, λ h. (elf_is_sound by_itself bytes).none none f (first_is_one by_itself bytes f h)))
+      (λ u. (λ same. (elf_is_sound m bytes).none none, λ h. refl))
+      (λ f. (λ no_fault. absurd no_fault, λ h. (elf_is_sound m bytes).none none f (first_is_one m bytes f h)))
   by (Some g) some = in_words (agrees_err g)
-      (λ u. (λ no_fault. absurd no_fault, λ h. h g (first_is_one by_itself bytes g (((elf_is_sound by_itself bytes).first g).0 some))))
+      (λ u. (λ no_fault. absurd no_fault, λ h. h g (first_is_one m bytes g (((elf_is_sound m bytes).first g).0 some))))
       (λ f. (
-        λ same. subst (IsFirstElfFault bytes) (sym same) (((elf_is_sound by_itself bytes).first g).0 some),
-        λ h. let is = ((elf_is_sound by_itself bytes).first f).1 h in let same : Some f ≡ Some g = sym is ∙ some in cc,
+        λ same. subst (IsFirstElfFaultFor m bytes) (sym same) (((elf_is_sound m bytes).first g).0 some),
+        λ h. let is = ((elf_is_sound m bytes).first f).1 h in let same : Some f ≡ Some g = sym is ∙ some in cc,
       ))
+
+-- what is told of `.debug_sup` is told, or nothing is
+sup_agrees : (o : Option Fault) → Agrees (ends_at o) (λ u. o ≡ None) (λ f. o ≡ Some f)
+sup_agrees None = in_words (agrees_ok tt) (λ u. (λ same. refl, λ h. refl)) (λ f. (λ none. absurd none, λ h. absurd (let no : None ≡ Some f = h in cc)))
+sup_agrees (Some g) =
+    in_words (agrees_err g) (λ u. (λ none. absurd none, λ h. absurd (let no : Some g ≡ None = h in cc))) (λ f. (λ same. ap (λ (x : Fault). Some x) (sym same), λ h. let same : g ≡ f = cc in sym same))
 
 -- ---- a file
 
-abbrev Read : Type 0
-Read = List RawUnit × Doc ℕ
-
-abbrev doc_of : List ℕ → List RawUnit → List (DwUnit ℕ) → Read
-doc_of bytes raw units = (raw, record { machine = machine_of bytes; units = units })
-
--- the units of a file, where one stands, and what they mean
-abbrev Spelled : Limits → List ℕ → List RawUnit → Type 0
-Spelled l bytes units = SpellsUnits (debug_abbrev bytes) (given l.entries) 0 units 0 (debug_info bytes)
-
-abbrev Mean : List ℕ → List RawUnit → List (DwUnit ℕ) → Type 0
-Mean bytes units = MeanUnits (around_of bytes units) units
+abbrev Read : (P : Type 0) → Type 0
+Read P = List RawUnit × Doc P
 
 -- reading units agrees with how they are spelled
 units_spelled : (abbrevs : List ℕ) (mode : Mode) (bytes : List ℕ)
@@ -162,192 +115,232 @@ units_spelled abbrevs mode bytes = record {
   err = λ f. (units_fault abbrevs mode 0 (input bytes 0) f, units_fault_again abbrevs mode 0 0 bytes f);
 }
 
--- what the sets of address ranges and the lists say
+-- what the sets of address ranges say
 abbrev Sets : List ℕ → List RawUnit → List RangeSet → Type 0
 Sets bytes units sets = SpellsSets (is_place_of units) sets 0 (debug_aranges bytes)
-
-abbrev Free : List ℕ → List RawUnit → Type 0
-Free bytes units = NoneShared (lists_of_units (around_of bytes units) units)
 
 sets_agreed : (bytes : List ℕ) (units : List RawUnit) → Agrees (sets_said bytes units) (Sets bytes units) (IsSetsFault (is_place_of units) 0 (debug_aranges bytes))
 sets_agreed bytes units = sets_agree (is_place_of units) (input (debug_aranges bytes) 0)
 
--- what is behind the units
-abbrev Behind-units : List ℕ → List RawUnit → Read → Type 0
-Behind-units bytes units = Next (Mean bytes units) (λ said. Next (Sets bytes units) (λ sets. Next (λ (u : Unit {0}). Free bytes units) (λ good x. x ≡ doc_of bytes units said)))
+module _ {P : Type 0} (rule : ReadingRule P) where
+  abbrev doc_of : List ℕ → List RawUnit → List (DwUnit P) → Read P
+  doc_of bytes raw units = (raw, record { machine = machine_of bytes; units = units })
 
-abbrev Behind-fault : List ℕ → List RawUnit → Fault → Type 0
-Behind-fault bytes units =
-    OrNext (HaveUnitFault (around_of bytes units) units) (Mean bytes units)
-    (λ said. OrNext (IsSetsFault (is_place_of units) 0 (debug_aranges bytes)) (Sets bytes units)
-    (λ sets. OrNext (IsSharedFault (lists_of_units (around_of bytes units) units)) (λ (u : Unit {0}). Free bytes units) (λ good f. ⊥)))
+  -- the units of a file, where one stands, and what they mean
+  abbrev Spelled : Limits → List ℕ → List RawUnit → Type 0
+  Spelled l bytes units = SpellsUnits (debug_abbrev bytes) (rule.mode l.entries) 0 units 0 (debug_info bytes)
 
-behind_agrees : (bytes : List ℕ) (units : List RawUnit) → Agrees (units_said bytes units) (Behind-units bytes units) (Behind-fault bytes units)
-behind_agrees bytes units =
-    and_with (units_agree (around_of bytes units) units) (λ said. sets_said bytes units >>= λ sets. lists_said bytes units >>= λ good. doc_with bytes units said)
-    (λ said. and_with (sets_agreed bytes units) (λ sets. lists_said bytes units >>= λ good. doc_with bytes units said)
-    (λ sets. and_with (shared_agrees (lists_of_units (around_of bytes units) units)) (λ good. doc_with bytes units said)
-    (λ good. agrees_ok (doc_of bytes units said))))
+  abbrev Mean : List ℕ → List RawUnit → List (DwUnit P) → Type 0
+  Mean bytes units = MeanUnits (rule.around bytes units) units
 
-units_then : (l : Limits) (bytes : List ℕ)
-    → Agrees (units_at (debug_abbrev bytes) (given l.entries) 0 (input (debug_info bytes) 0) >>= units_said bytes)
-    (Next (Spelled l bytes) (Behind-units bytes))
-    (OrNext (IsUnitsFault (debug_abbrev bytes) (given l.entries) 0 0 (debug_info bytes)) (Spelled l bytes) (Behind-fault bytes))
-units_then l bytes = and_with (units_spelled (debug_abbrev bytes) (given l.entries) (debug_info bytes)) (units_said bytes) (behind_agrees bytes)
+  abbrev Free : List ℕ → List RawUnit → Type 0
+  Free bytes units = NoneShared (lists_of_units (rule.around bytes units) units)
 
-pub file_agrees : (l : Limits) (bytes : List ℕ) → Agrees (file_meaning l bytes) (λ x. Reads l bytes x.0 x.1) (IsFileFault l bytes)
-unfolding file_meaning
-file_agrees l bytes =
-    in_words (and_unless (size_agrees l bytes) (λ size. ends_at (elf_fault bytes) >>= after_elf)
-    (and_unless (elf_agrees bytes) after_elf
-    (and_unless (machine_agrees l.machine (machine_of bytes)) after_machine (units_then l bytes))))
-    means faults where
-      after_machine : Unit {0} → Result Read Fault
-      after_machine machine = units_at (debug_abbrev bytes) (given l.entries) 0 (input (debug_info bytes) 0) >>= units_said bytes
+  -- what is behind the units
+  abbrev Behind-units : List ℕ → List RawUnit → Read P → Type 0
+  Behind-units bytes units = Next (Mean bytes units) (λ said. Next (Sets bytes units) (λ sets. Next (λ (u : Unit {0}). Free bytes units) (λ good x. x ≡ doc_of bytes units said)))
 
-      after_elf : Unit {0} → Result Read Fault
-      after_elf elf = unless_so (is_other_machine l.machine (machine_of bytes)) (file_fault Machine machine_at) >>= after_machine
+  abbrev Behind-fault : List ℕ → List RawUnit → Fault → Type 0
+  Behind-fault bytes units =
+      OrNext (HaveUnitFault (rule.around bytes units) units) (Mean bytes units)
+      (λ said. OrNext (IsSetsFault (is_place_of units) 0 (debug_aranges bytes)) (Sets bytes units)
+      (λ sets. OrNext (IsSharedFault (lists_of_units (rule.around bytes units) units)) (λ (u : Unit {0}). Free bytes units) (λ good f. ⊥)))
 
-      means : (x : Read)
-          → (IsNotTooLong l bytes × (((g : Fault) → IsElfFault bytes g → ⊥) × (IsForMachine l.machine (machine_of bytes) × Next (Spelled l bytes) (Behind-units bytes) x)))
-          ↔ Reads l bytes x.0 x.1
-      means x = (
-        λ h.
-            let n = h.1.1.1 in
-            let raw = n.0 in
-            let m = n.2 in
-            let said = m.0 in
-            let sets = m.2.0 in
-            let free : Free bytes raw = m.2.2.1 in
-            let is : x ≡ doc_of bytes raw said = m.2.2.2 in
-            let reads : Reads l bytes raw (doc_of bytes raw said).1 = record {
-              size = h.0;
-              elf = h.1.0;
-              same_machine = h.1.1.0;
-              spelled = n.1;
-              means = m.1;
-              machine = refl;
-              ranges = record { sets = sets; spelled = m.2.1 };
-              lists = free;
-            } in
-            subst (λ (y : Read). Reads l bytes y.0 y.1) (sym is) reads,
-        λ r. (
-          r.size,
-          (
-            r.elf,
+  behind_agrees : (bytes : List ℕ) (units : List RawUnit) → Agrees (units_said rule bytes units) (Behind-units bytes units) (Behind-fault bytes units)
+  behind_agrees bytes units =
+      and_with (units_agree (rule.around bytes units) units) (λ said. sets_said bytes units >>= λ sets. lists_said (rule.around bytes units) units >>= λ good. doc_with bytes units said)
+      (λ said. and_with (sets_agreed bytes units) (λ sets. lists_said (rule.around bytes units) units >>= λ good. doc_with bytes units said)
+      (λ sets. and_with (shared_agrees (lists_of_units (rule.around bytes units) units)) (λ good. doc_with bytes units said)
+      (λ good. agrees_ok (doc_of bytes units said))))
+
+  units_then : (l : Limits) (bytes : List ℕ)
+      → Agrees (units_at (debug_abbrev bytes) (rule.mode l.entries) 0 (input (debug_info bytes) 0) >>= units_said rule bytes)
+      (Next (Spelled l bytes) (Behind-units bytes))
+      (OrNext (IsUnitsFault (debug_abbrev bytes) (rule.mode l.entries) 0 0 (debug_info bytes)) (Spelled l bytes) (Behind-fault bytes))
+  units_then l bytes = and_with (units_spelled (debug_abbrev bytes) (rule.mode l.entries) (debug_info bytes)) (units_said rule bytes) (behind_agrees bytes)
+
+  pub file_agrees_by : (l : Limits) (bytes : List ℕ) → Agrees (file_meaning_by rule l bytes) (λ x. ReadsBy rule l bytes x.0 x.1) (IsFaultBy rule l bytes)
+  unfolding file_meaning_by
+  file_agrees_by l bytes =
+      in_words (and_unless (size_agrees l bytes) (λ size. ends_at (elf_fault_for rule.manner bytes) >>= after_elf)
+      (and_unless (elf_agrees rule.manner bytes) after_elf
+      (and_unless (machine_agrees l.machine (machine_of bytes)) after_machine
+      (and_unless (sup_agrees (rule.sup_fault bytes)) after_sup (units_then l bytes)))))
+      means faults where
+        after_sup : Unit {0} → Result (Read P) Fault
+        after_sup sup = units_at (debug_abbrev bytes) (rule.mode l.entries) 0 (input (debug_info bytes) 0) >>= units_said rule bytes
+
+        after_machine : Unit {0} → Result (Read P) Fault
+        after_machine machine = ends_at (rule.sup_fault bytes) >>= after_sup
+
+        after_elf : Unit {0} → Result (Read P) Fault
+        after_elf elf = unless_so (is_other_machine l.machine (machine_of bytes)) (file_fault Machine machine_at) >>= after_machine
+
+        means : (x : Read P)
+            → (IsNotTooLong l bytes × (((g : Fault) → IsElfFaultFor rule.manner bytes g → ⊥) × (IsForMachine l.machine (machine_of bytes)
+            × ((rule.sup_fault bytes ≡ None) × Next (Spelled l bytes) (Behind-units bytes) x))))
+            ↔ ReadsBy rule l bytes x.0 x.1
+        means x = (
+          λ h.
+              let n = h.1.1.1.1 in
+              let raw = n.0 in
+              let m = n.2 in
+              let said = m.0 in
+              let sets = m.2.0 in
+              let free : Free bytes raw = m.2.2.1 in
+              let is : x ≡ doc_of bytes raw said = m.2.2.2 in
+              let reads : ReadsBy rule l bytes raw (doc_of bytes raw said).1 = record {
+                size = h.0;
+                elf = h.1.0;
+                same_machine = h.1.1.0;
+                sup = h.1.1.1.0;
+                spelled = n.1;
+                means = m.1;
+                machine = refl;
+                ranges = record { sets = sets; spelled = m.2.1 };
+                lists = free;
+              } in
+              subst (λ (y : Read P). ReadsBy rule l bytes y.0 y.1) (sym is) reads,
+          λ r. (
+            r.size,
             (
-              r.same_machine,
+              r.elf,
               (
-                x.0,
-                r.spelled,
+                r.same_machine,
                 (
-                  x.1.units,
-                  r.means,
-                  (r.ranges.sets, r.ranges.spelled, (tt, r.lists, λ i. (x.0, record { machine = r.machine i; units = x.1.units }))),
+                  r.sup,
+                  (
+                    x.0,
+                    r.spelled,
+                    (
+                      x.1.units,
+                      r.means,
+                      (r.ranges.sets, r.ranges.spelled, (tt, r.lists, λ i. (x.0, record { machine = r.machine i; units = x.1.units }))),
+                    ),
+                  ),
                 ),
               ),
             ),
           ),
-        ),
-      )
+        )
 
-      -- what is behind the units, in the words of the definition
-      behind : (units : List RawUnit) (f : Fault) → Behind-fault bytes units f
-          ↔ (HaveUnitFault (around_of bytes units) units f
-          ⊎ (((said : List (DwUnit ℕ)) × MeanUnits (around_of bytes units) units said)
-          × (IsSetsFault (is_place_of units) 0 (debug_aranges bytes) f
-          ⊎ (HaveGoodRanges bytes units × IsSharedFault (lists_of_units (around_of bytes units) units) f))))
-      behind units f = (
-        λ h. elim h [
-          | inl is ↦ inl is
-          | inr p ↦ inr (
-            (p.0, p.1),
-            elim p.2 [
-              | inl is ↦ inl is
-              | inr q ↦ inr (record { sets = q.0; spelled = q.1 }, elim q.2 [ inl is ↦ is | inr r ↦ absurd r.2 ])
-            ],
-          )
-        ],
-        λ h. elim h [
-          | inl is ↦ inl is
-          | inr p ↦ inr (
-            p.0.0,
-            p.0.1,
-            elim p.1 [
-              | inl is ↦ inl is
-              | inr q ↦ inr (q.0.sets, q.0.spelled, inl q.1)
-            ],
-          )
-        ],
-      )
+        -- what is behind the units, in the words of the definition
+        behind : (units : List RawUnit) (f : Fault) → Behind-fault bytes units f
+            ↔ (HaveUnitFault (rule.around bytes units) units f
+            ⊎ (((said : List (DwUnit P)) × MeanUnits (rule.around bytes units) units said)
+            × (IsSetsFault (is_place_of units) 0 (debug_aranges bytes) f
+            ⊎ (HaveGoodRanges bytes units × IsSharedFault (lists_of_units (rule.around bytes units) units) f))))
+        behind units f = (
+          λ h. elim h [
+            | inl is ↦ inl is
+            | inr p ↦ inr (
+              (p.0, p.1),
+              elim p.2 [
+                | inl is ↦ inl is
+                | inr q ↦ inr (record { sets = q.0; spelled = q.1 }, elim q.2 [ inl is ↦ is | inr r ↦ absurd r.2 ])
+              ],
+            )
+          ],
+          λ h. elim h [
+            | inl is ↦ inl is
+            | inr p ↦ inr (
+              p.0.0,
+              p.0.1,
+              elim p.1 [
+                | inl is ↦ inl is
+                | inr q ↦ inr (q.0.sets, q.0.spelled, inl q.1)
+              ],
+            )
+          ],
+        )
 
-      faults : (f : Fault)
-          → (((f ≡ file_fault FileSize 0) × IsTooLong l bytes)
-          ⊎ (IsNotTooLong l bytes
-          × (IsFirstElfFault bytes f
-          ⊎ (((g : Fault) → IsElfFault bytes g → ⊥)
-          × (((f ≡ file_fault Machine machine_at) × IsOtherMachine l.machine (machine_of bytes))
-          ⊎ (IsForMachine l.machine (machine_of bytes)
-          × OrNext (IsUnitsFault (debug_abbrev bytes) (given l.entries) 0 0 (debug_info bytes)) (Spelled l bytes) (Behind-fault bytes) f))))))
-          ↔ IsFileFault l bytes f
-      faults f = (
-        λ h. elim h [
-          | inl is ↦ inl is
-          | inr p ↦ inr (
-            p.0,
-            elim p.1 [
-              | inl is ↦ inl is
-              | inr q ↦ inr (
-                q.0,
-                elim q.1 [
-                  | inl is ↦ inl is
-                  | inr m ↦ inr (m.0, elim m.1 [ inl is ↦ inl is | inr u ↦ inr (record { units = u.0; spelled = u.1; fault = (behind u.0 f).0 u.2 }) ])
-                ],
-              )
-            ],
-          )
-        ],
-        λ h. elim h [
-          | inl is ↦ inl is
-          | inr p ↦ inr (
-            p.0,
-            elim p.1 [
-              | inl is ↦ inl is
-              | inr q ↦ inr (
-                q.0,
-                elim q.1 [
-                  | inl is ↦ inl is
-                  | inr m ↦ inr (m.0, elim m.1 [ inl is ↦ inl is | inr u ↦ inr (u.units, u.spelled, (behind u.units f).1 u.fault) ])
-                ],
-              )
-            ],
-          )
-        ],
-      )
+        faults : (f : Fault)
+            → (((f ≡ file_fault FileSize 0) × IsTooLong l bytes)
+            ⊎ (IsNotTooLong l bytes
+            × (IsFirstElfFaultFor rule.manner bytes f
+            ⊎ (((g : Fault) → IsElfFaultFor rule.manner bytes g → ⊥)
+            × (((f ≡ file_fault Machine machine_at) × IsOtherMachine l.machine (machine_of bytes))
+            ⊎ (IsForMachine l.machine (machine_of bytes)
+            × ((rule.sup_fault bytes ≡ Some f)
+            ⊎ ((rule.sup_fault bytes ≡ None)
+            × OrNext (IsUnitsFault (debug_abbrev bytes) (rule.mode l.entries) 0 0 (debug_info bytes)) (Spelled l bytes) (Behind-fault bytes) f))))))))
+            ↔ IsFaultBy rule l bytes f
+        faults f = (
+          λ h. elim h [
+            | inl is ↦ inl is
+            | inr p ↦ inr (
+              p.0,
+              elim p.1 [
+                | inl is ↦ inl is
+                | inr q ↦ inr (
+                  q.0,
+                  elim q.1 [
+                    | inl is ↦ inl is
+                    | inr m ↦ inr (
+                      m.0,
+                      elim m.1 [
+                        | inl is ↦ inl is
+                        | inr s ↦ inr (s.0, elim s.1 [ inl is ↦ inl is | inr u ↦ inr (record { units = u.0; spelled = u.1; fault = (behind u.0 f).0 u.2 }) ])
+                      ],
+                    )
+                  ],
+                )
+              ],
+            )
+          ],
+          λ h. elim h [
+            | inl is ↦ inl is
+            | inr p ↦ inr (
+              p.0,
+              elim p.1 [
+                | inl is ↦ inl is
+                | inr q ↦ inr (
+                  q.0,
+                  elim q.1 [
+                    | inl is ↦ inl is
+                    | inr m ↦ inr (
+                      m.0,
+                      elim m.1 [
+                        | inl is ↦ inl is
+                        | inr s ↦ inr (s.0, elim s.1 [ inl is ↦ inl is | inr u ↦ inr (u.units, u.spelled, (behind u.units f).1 u.fault) ])
+                      ],
+                    )
+                  ],
+                )
+              ],
+            )
+          ],
+        )
+
+pub file_agrees : (l : Limits) (bytes : List ℕ) → Agrees (file_meaning l bytes) (λ x. Reads l bytes x.0 x.1) (IsFileFault l bytes)
+file_agrees = file_agrees_by given_rule
 
 -- ---- files
 
 abbrev refusal : ℕ → Fault → Refusal
 refusal number f = record { file = number; section = f.section; at = f.at; reason = f.reason }
 
-numbered : (number : ℕ) (l : Limits) (bytes : List ℕ) → Agrees (file_meaning l bytes) (λ x. Reads l bytes x.0 x.1) (IsFileFault l bytes)
-    → Agrees (refused_in number (file_meaning l bytes)) (λ x. Reads l bytes x.0 x.1) (IsRefusal l number bytes)
-numbered number l bytes a = by (file_meaning l bytes) a where
-  by : (r : Result Read Fault) → Agrees r (λ x. Reads l bytes x.0 x.1) (IsFileFault l bytes) → Agrees (refused_in number r) (λ x. Reads l bytes x.0 x.1) (IsRefusal l number bytes)
-  by (Ok y) b = record {
-    ok = λ x. (λ is. let same : y ≡ x = cc in (b.ok x).0 (ap (λ (w : Read). Ok w) same), λ reads. let is = (b.ok x).1 reads in let same : y ≡ x = cc in ap (λ (w : Read). Ok w) same);
-    err = λ r. (λ is. absurd cc, λ h. absurd (let none = (b.err h.fault).1 h.is_fault in cc));
-  }
-  by (Err f) b = record {
-    ok = λ x. (λ is. absurd cc, λ reads. absurd (let none = (b.ok x).1 reads in cc));
-    err = λ r. (
-      λ is. record { fault = f; is_fault = (b.err f).0 refl; same = let same : refusal number f ≡ r = cc in sym same },
-      λ h.
-          let is = (b.err h.fault).1 h.is_fault in
-          let same : f ≡ h.fault = cc in
-          ap (λ (g : Fault). Err (refusal number g)) same ∙ ap (λ (q : Refusal). Err q) (sym h.same),
-    );
-  }
+-- the same answer, in the file with a number
+pub refused_agrees : {X : Type 0} {r : Result X Fault} {M : X → Type 0} {F : Fault → Type 0} (number : ℕ) → Agrees r M F
+    → Agrees (refused_in number r) M (λ q. (f : Fault) × F f × (q ≡ refusal number f))
+refused_agrees {X} {r = Ok y} {M} {F} number a = record {
+  ok = λ x. (λ is. let same : y ≡ x = cc in (a.ok x).0 (ap (λ (w : X). Ok w) same), λ m. let is = (a.ok x).1 m in let same : y ≡ x = cc in ap (λ (w : X). Ok w) same);
+  err = λ r. (λ is. absurd cc, λ h. absurd (let none = (a.err h.0).1 h.1 in cc));
+}
+refused_agrees {X} {r = Err f} {M} {F} number a = record {
+  ok = λ x. (λ is. absurd cc, λ m. absurd (let none = (a.ok x).1 m in cc));
+  err = λ r. (
+    λ is. (f, (a.err f).0 refl, let same : refusal number f ≡ r = cc in sym same),
+    λ h.
+        let is = (a.err h.0).1 h.1 in
+        let same : f ≡ h.0 = cc in
+        ap (λ (g : Fault). Err (refusal number g)) same ∙ ap (λ (q : Refusal). Err q) (sym h.2),
+  );
+}
+
+numbered : (number : ℕ) (l : Limits) (bytes : List ℕ) → Agrees (refused_in number (file_meaning l bytes)) (λ x. Reads l bytes x.0 x.1) (IsRefusal l number bytes)
+numbered number l bytes =
+    in_words (refused_agrees number (file_agrees l bytes)) (λ x. (λ h. h, λ h. h)) (λ q. (λ h. record { fault = h.0; is_fault = h.1; same = h.2 }, λ h. (h.fault, h.is_fault, h.same)))
 
 pub files_agree : (l : Limits) (number : ℕ) (files : List (List ℕ)) → Agrees (files_meaning l number files) (ReadAll l files) (First l number files)
 unfolding files_meaning
@@ -356,10 +349,10 @@ files_agree l number [] = in_words (agrees_ok []) means (λ r. (λ none. none, �
   means [] = (λ same. tt, λ is. refl)
   means (doc ∷ docs) = (λ same. absurd cc, λ none. absurd none)
 files_agree l number (bytes ∷ files) =
-    in_words (and_with (numbered number l bytes (file_agrees l bytes)) (λ x. files_meaning (limits_after l bytes x.0) (suc number) files >>= λ docs. Ok (x.1 ∷ docs))
+    in_words (and_with (numbered number l bytes) (λ x. files_meaning (limits_after l bytes x.0) (suc number) files >>= λ docs. Ok (x.1 ∷ docs))
     (λ x. then_made (files_agree (limits_after l bytes x.0) (suc number) files) (λ docs. x.1 ∷ docs)))
     means faults where
-      means : (docs : List (Doc ℕ)) → Next (λ (x : Read). Reads l bytes x.0 x.1) (λ x. Made (ReadAll (limits_after l bytes x.0) files) (λ ds. x.1 ∷ ds)) docs ↔ ReadAll l (bytes ∷ files) docs
+      means : (docs : List (Doc ℕ)) → Next (λ (x : Read ℕ). Reads l bytes x.0 x.1) (λ x. Made (ReadAll (limits_after l bytes x.0) files) (λ ds. x.1 ∷ ds)) docs ↔ ReadAll l (bytes ∷ files) docs
       means [] = (λ h. absurd (let none = h.2.2 in cc), λ none. absurd none)
       means (doc ∷ docs) = (
         λ h.
@@ -370,7 +363,7 @@ files_agree l number (bytes ∷ files) =
         λ h. ((h.0, doc), h.1, (docs, h.2, refl)),
       )
 
-      faults : (r : Refusal) → OrNext (IsRefusal l number bytes) (λ (x : Read). Reads l bytes x.0 x.1) (λ x. First (limits_after l bytes x.0) (suc number) files) r ↔ First l number (bytes ∷ files) r
+      faults : (r : Refusal) → OrNext (IsRefusal l number bytes) (λ (x : Read ℕ). Reads l bytes x.0 x.1) (λ x. First (limits_after l bytes x.0) (suc number) files) r ↔ First l number (bytes ∷ files) r
       faults r = (
         λ h. elim h [ inl is ↦ inl is | inr p ↦ inr (p.0.0, p.0.1, p.1, p.2) ],
         λ h. elim h [ inl is ↦ inl is | inr p ↦ inr ((p.0, p.1), p.2, p.3) ],

@@ -14,7 +14,7 @@ use Rattle.dwz_def_reading.specs.ElfHeaders.{headers_from, number_at}
 use Rattle.dwz_def_reading.specs.ElfNames.{section_name_in}
 use Rattle.dwz_def_reading.specs.ElfReading.{elf_fault, field_fault, first_in, first_other, header_fault, identification_fault, missing_fault, names_fault, section_range, unkept_fault}
 use Rattle.dwz_def_reading.specs.Entries.{attrs_at, front_at}
-use Rattle.dwz_def_reading.specs.Files.{Limits, file_meaning, files_meaning, longest_file, longest_files, most_entries, no_files_before, section_of, unit_places}
+use Rattle.dwz_def_reading.specs.Files.{Limits, file_meaning_by, files_meaning, longest_file, longest_files, most_entries, no_files_before, section_of, unit_places}
 use Rattle.dwz_def_reading.specs.Items.{items_at, items_from}
 use Rattle.dwz_def_reading.specs.Meanings.{all_places, first_raw, has, places_in, without_siblings}
 use Rattle.dwz_def_reading.specs.Classes.{class_in, class_rows}
@@ -87,7 +87,7 @@ doc_said machine = record {
 
 -- what files say behind others; whatever unfolds this unfolds all that is read with
 said_behind : Limits → List (List ℕ) → Result (List (Doc ℕ)) Refusal
-unfolding files_meaning file_meaning section_of longest_file longest_files most_entries headers_from number_at section_name_in elf_fault_for field_fault_for first_in first_other header_fault
+unfolding files_meaning file_meaning_by section_of longest_file longest_files most_entries headers_from number_at section_name_in elf_fault_for field_fault_for first_in first_other header_fault
     identification_fault
     missing_fault names_fault section_range unkept_fault_for units_at units_from unit_at entries_in header_reason tree_at zero_count front_at attrs_at siblings_at forest_at table_at declaration_at pair_at
     items_at items_from uleb_at groups_at shaped_at text_in form_rows units_meaning entries_meaning attrs_meaning meaning class_in class_rows without_siblings all_places places_in has first_raw

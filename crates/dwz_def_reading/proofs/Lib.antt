@@ -54,10 +54,17 @@ pub mod SharedLemmas
 pub mod PassLemmas
 pub mod MeaningLemmas
 pub mod MeaningUnits
+pub mod ReadNamed
+pub mod PlacesRise
+pub mod PlacesMapped
+pub mod PlacesNumbered
+pub mod ListsMapped
 pub mod ClassLemmas
 pub mod NamedLemmas
 pub mod WidthLemmas
+mod ElfFirst
 pub mod FileLemmas
+pub mod FinishedLemmas
 pub mod CutLemmas
 pub mod StandLemmas
 pub mod FilledLemmas

@@ -8,16 +8,17 @@ use Rattle.dwz_model.specs.declared.fault.Refusal.{Refusal}
 use Rattle.dwz_bytes.specs.Input.{input}
 use Rattle.dwz_bytes.specs.Reading.{◌>>=◌}
 use Rattle.dwz_def_reading.specs.Documents.{Doc, DwUnit}
-use Rattle.dwz_def_reading.specs.ElfFaults.{IsElfFault, IsFirstElfFault, file_fault}
+use Rattle.dwz_def_reading.specs.ElfFaults.{IsElfFaultFor, IsFirstElfFaultFor, by_itself, file_fault}
 use Rattle.dwz_def_reading.specs.ElfHeaders.{file_header}
 use Rattle.dwz_def_reading.specs.ElfNames.{sections_in}
-use Rattle.dwz_def_reading.specs.ElfReading.{bytes_in, elf_fault, section_range}
-use Rattle.dwz_def_reading.specs.Entries.{Mode, given, unless_so}
+use Rattle.dwz_def_reading.specs.ElfReading.{bytes_in, elf_fault_for, section_range}
+use Rattle.dwz_def_reading.specs.Entries.{given, unless_so}
 use Rattle.dwz_def_reading.specs.Meanings.{Around, MeanUnits, Sources, alone, has}
 use Rattle.dwz_def_reading.specs.Meant.{units_meaning}
 use Rattle.dwz_def_reading.specs.MeaningFaults.{HaveUnitFault}
 use Rattle.dwz_def_reading.specs.NamedLists.{lists_of_units}
 use Rattle.dwz_def_reading.specs.Ranges.{IsSetsFault, RangeSet, SpellsSets, sets_at}
+use Rattle.dwz_def_reading.specs.Rules.{ReadingRule}
 use Rattle.dwz_def_reading.specs.Shared.{IsSharedFault, NoneShared, none_shared}
 use Rattle.dwz_def_reading.specs.Units.{CompileUnit, IsUnitsFault, PartialUnit, RawKind, RawUnit, TypeUnit, SpellsUnits, entries_in, units_at}
 
@@ -111,20 +112,26 @@ pub record HaveGoodRanges (bytes : List ℕ) (units : List RawUnit) : Type 0 whe
   pub sets : List RangeSet
   pub spelled : SpellsSets (is_place_of units) sets 0 (debug_aranges bytes)
 
-abbrev pub ShareNoLists : List ℕ → List RawUnit → Type 0
-ShareNoLists bytes units = NoneShared (lists_of_units (around_of bytes units) units)
-
--- the units are spelled, and mean those of the document; each set of address ranges is of one of them; and no location list shares a
--- byte with an operand of another
-pub record Reads (l : Limits) (bytes : List ℕ) (units : List RawUnit) (doc : Doc ℕ) : Type 0 where
+-- The file, read by that rule, is not too long and has no fault of an ELF file; it is for the machine of the files before it; nothing is
+-- wrong with its `.debug_sup`; its units are spelled, and mean those of the document; each set of address ranges is of one of the units;
+-- and no location list shares a byte with an operand of another.
+pub record ReadsBy {P : Type 0} (rule : ReadingRule P) (l : Limits) (bytes : List ℕ) (units : List RawUnit) (doc : Doc P) : Type 0 where
   pub size : IsNotTooLong l bytes
-  pub elf : (f : _) → IsElfFault bytes f → ⊥
+  pub elf : (f : _) → IsElfFaultFor rule.manner bytes f → ⊥
   pub same_machine : IsForMachine l.machine (machine_of bytes)
-  pub spelled : SpellsUnits (debug_abbrev bytes) (given l.entries) 0 units 0 (debug_info bytes)
-  pub means : MeanUnits (around_of bytes units) units doc.units
+  pub sup : rule.sup_fault bytes ≡ None
+  pub spelled : SpellsUnits (debug_abbrev bytes) (rule.mode l.entries) 0 units 0 (debug_info bytes)
+  pub means : MeanUnits (rule.around bytes units) units doc.units
   pub machine : doc.machine ≡ machine_of bytes
   pub ranges : HaveGoodRanges bytes units
-  pub lists : ShareNoLists bytes units
+  pub lists : NoneShared (lists_of_units (rule.around bytes units) units)
+
+-- a file by itself: it has no `.debug_sup`, none of its units is partial, and no form leads to another file
+abbrev pub given_rule : ReadingRule ℕ
+given_rule = record { manner = by_itself; sup_fault = λ bytes. None; mode = given; around = around_of }
+
+abbrev pub Reads : Limits → List ℕ → List RawUnit → Doc ℕ → Type 0
+Reads = ReadsBy given_rule
 
 -- each file says what its document does
 abbrev pub ReadAll : Limits → List (List ℕ) → List (Doc ℕ) → Type 0
@@ -149,34 +156,38 @@ abbrev pub is_other_machine : Option ℕ → ℕ → Bool
 is_other_machine None machine = false
 is_other_machine (Some other) machine = not (machine == other)
 
-abbrev pub doc_with : List ℕ → List RawUnit → List (DwUnit ℕ) → Result (List RawUnit × Doc ℕ) Fault
+abbrev pub doc_with : {P : Type 0} → List ℕ → List RawUnit → List (DwUnit P) → Result (List RawUnit × Doc P) Fault
 doc_with bytes raw units = Ok (raw, record { machine = machine_of bytes; units = units })
 
 -- the sets of address ranges come behind the meanings, and then the lists
 abbrev pub sets_said : List ℕ → List RawUnit → Result (List RangeSet) Fault
 sets_said bytes units = sets_at (is_place_of units) (input (debug_aranges bytes) 0)
 
-abbrev pub lists_said : List ℕ → List RawUnit → Result (Unit {0}) Fault
-lists_said bytes units = none_shared (lists_of_units (around_of bytes units) units)
+abbrev pub lists_said : {P : Type 0} → Around P → List RawUnit → Result (Unit {0}) Fault
+lists_said around units = none_shared (lists_of_units around units)
 
-abbrev pub units_said : List ℕ → List RawUnit → Result (List RawUnit × Doc ℕ) Fault
-units_said bytes units = units_meaning (around_of bytes units) units >>= λ said. sets_said bytes units >>= λ sets. lists_said bytes units
-    >>= λ good. doc_with bytes units said
+abbrev pub units_said : {P : Type 0} → ReadingRule P → List ℕ → List RawUnit → Result (List RawUnit × Doc P) Fault
+units_said rule bytes units = units_meaning (rule.around bytes units) units >>= λ said. sets_said bytes units
+    >>= λ sets. lists_said (rule.around bytes units) units >>= λ good. doc_with bytes units said
 
 -- the units of a file as they are stored, and its document
-unfoldable pub file_meaning : Limits → List ℕ → Result (List RawUnit × Doc ℕ) Fault
-file_meaning l bytes =
+unfoldable pub file_meaning_by : {P : Type 0} → ReadingRule P → Limits → List ℕ → Result (List RawUnit × Doc P) Fault
+file_meaning_by rule l bytes =
     unless_so (is_too_long l bytes) (file_fault FileSize 0)
-    >>= λ size. ends_at (elf_fault bytes)
+    >>= λ size. ends_at (elf_fault_for rule.manner bytes)
     >>= λ elf. unless_so (is_other_machine l.machine (machine_of bytes)) (file_fault Machine machine_at)
-    >>= λ machine. units_at (debug_abbrev bytes) (given l.entries) 0 (input (debug_info bytes) 0)
-    >>= units_said bytes
+    >>= λ machine. ends_at (rule.sup_fault bytes)
+    >>= λ sup. units_at (debug_abbrev bytes) (rule.mode l.entries) 0 (input (debug_info bytes) 0)
+    >>= units_said rule bytes
+
+abbrev pub file_meaning : Limits → List ℕ → Result (List RawUnit × Doc ℕ) Fault
+file_meaning = file_meaning_by given_rule
 
 abbrev pub refused_in : {X : Type 0} → ℕ → Result X Fault → Result X Refusal
 refused_in number (Ok x) = Ok x
 refused_in number (Err f) = Err (record { file = number; section = f.section; at = f.at; reason = f.reason })
 
-abbrev pub with_doc : Doc ℕ → List (Doc ℕ) → Result (List (Doc ℕ)) Refusal
+abbrev pub with_doc : {P : Type 0} → Doc P → List (Doc P) → Result (List (Doc P)) Refusal
 with_doc doc docs = Ok (doc ∷ docs)
 
 -- the documents of files, the first of which has a number
@@ -197,29 +208,34 @@ IsOtherMachine (Some other) machine = machine ≢ other
 
 -- the units are spelled, and the first of them that means nothing has that fault; or all mean something, and the first bad set of
 -- address ranges has it; or there is none, and it is placed at the first operand that shares a byte
-pub record HasMeaningFaultFor (mode : Mode) (bytes : List ℕ) (f : Fault) : Type 0 where
+pub record HasMeaningFaultBy {P : Type 0} (rule : ReadingRule P) (l : Limits) (bytes : List ℕ) (f : Fault) : Type 0 where
   pub units : List RawUnit
-  pub spelled : SpellsUnits (debug_abbrev bytes) mode 0 units 0 (debug_info bytes)
-  pub fault : HaveUnitFault (around_of bytes units) units f
-      ⊎ (((said : List (DwUnit ℕ)) × MeanUnits (around_of bytes units) units said)
+  pub spelled : SpellsUnits (debug_abbrev bytes) (rule.mode l.entries) 0 units 0 (debug_info bytes)
+  pub fault : HaveUnitFault (rule.around bytes units) units f
+      ⊎ (((said : List (DwUnit P)) × MeanUnits (rule.around bytes units) units said)
       × (IsSetsFault (is_place_of units) 0 (debug_aranges bytes) f
-      ⊎ (HaveGoodRanges bytes units × IsSharedFault (lists_of_units (around_of bytes units) units) f)))
+      ⊎ (HaveGoodRanges bytes units × IsSharedFault (lists_of_units (rule.around bytes units) units) f)))
 
 abbrev pub HasMeaningFault : Limits → List ℕ → Fault → Type 0
-HasMeaningFault l = HasMeaningFaultFor (given l.entries)
+HasMeaningFault = HasMeaningFaultBy given_rule
 
--- The first fault of a file: it is too long; else the first fault of the ELF file; else it is for another machine than the files
--- before it; else the first fault of the units; else the first of their meanings; else that of the first bad set of address ranges;
--- else that of the first shared list.
-abbrev pub IsFileFault : Limits → List ℕ → Fault → Type 0
-IsFileFault l bytes f =
+-- The first fault of a file that is read by a rule: it is too long; else the first fault of the ELF file; else it is for another machine
+-- than the files before it; else what is wrong with its `.debug_sup`; else the first fault of the units; else the first of their meanings;
+-- else that of the first bad set of address ranges; else that of the first shared list.
+abbrev pub IsFaultBy : {P : Type 0} → ReadingRule P → Limits → List ℕ → Fault → Type 0
+IsFaultBy rule l bytes f =
     ((f ≡ file_fault FileSize 0) × IsTooLong l bytes)
     ⊎ (IsNotTooLong l bytes
-    × (IsFirstElfFault bytes f
-    ⊎ (((g : Fault) → IsElfFault bytes g → ⊥)
+    × (IsFirstElfFaultFor rule.manner bytes f
+    ⊎ (((g : Fault) → IsElfFaultFor rule.manner bytes g → ⊥)
     × (((f ≡ file_fault Machine machine_at) × IsOtherMachine l.machine (machine_of bytes))
     ⊎ (IsForMachine l.machine (machine_of bytes)
-    × (IsUnitsFault (debug_abbrev bytes) (given l.entries) 0 0 (debug_info bytes) f ⊎ HasMeaningFault l bytes f))))))
+    × ((rule.sup_fault bytes ≡ Some f)
+    ⊎ ((rule.sup_fault bytes ≡ None)
+    × (IsUnitsFault (debug_abbrev bytes) (rule.mode l.entries) 0 0 (debug_info bytes) f ⊎ HasMeaningFaultBy rule l bytes f))))))))
+
+abbrev pub IsFileFault : Limits → List ℕ → Fault → Type 0
+IsFileFault = IsFaultBy given_rule
 
 -- a fault of the file with that number
 pub record IsRefusal (l : Limits) (number : ℕ) (bytes : List ℕ) (r : Refusal) : Type 0 where

@@ -43,7 +43,11 @@ pub mod Classes
 pub mod Meant
 pub mod MeaningFaults
 pub mod NamedLists
+pub mod Rules
+pub mod OtherPlaces
 pub mod Files
+pub mod Places
+pub mod Finished
 pub mod Patching
 pub mod PatchedLists
 pub mod LinesWritten

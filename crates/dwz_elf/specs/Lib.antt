@@ -1,3 +1,4 @@
+pub mod Manners
 pub mod Reads
 pub mod Names
 pub mod Rebuilds

@@ -4,9 +4,9 @@ use Rattle.dwz_model.specs.declared.fault.Fault.{Fault}
 use Rattle.dwz_model.specs.declared.fault.ReadErr.{ReadErr}
 use Rattle.dwz_model.specs.declared.fault.ReadErr.TheVariants.{Refused, NoMemory}
 use Rattle.dwz_def_reading.specs.declared.elf.Section.{Section}
-use Rattle.dwz_def_reading.specs.ElfReading.{field_fault, first_in, header_fault, identification_fault, missing_fault, names_fault}
+use Rattle.dwz_def_reading.specs.ElfFaults.{ElfManner, by_itself}
+use Rattle.dwz_def_reading.specs.ElfReading.{field_fault_for, first_in, header_fault, identification_fault, missing_fault, names_fault, unkept_fault_for}
 use Rattle.dwz_def_reading.specs.FirstOf.{◌or◌}
-use Rattle.dwz_def_reading.specs.ElfReading.{unkept_fault}
 use Rattle.dwz_def_reading.specs.ElfHeaders.{end_of, file_header, headers_end}
 use Rattle.dwz_def_reading.specs.ElfNames.{names_header}
 
@@ -23,11 +23,15 @@ pub record IsWhole (bytes : List ℕ) : Type 0 where
   pub named : (file_header bytes).names < (file_header bytes).headers
   pub names : end_of (names_header bytes) ≤ length bytes
 
--- the first fault of the file header and of the name table, and that of the section headers
-unfoldable pub front_fault_of : List ℕ → Option Fault
-front_fault_of bytes = identification_fault bytes
-    or (field_fault (length bytes) (file_header bytes) or names_fault (length bytes) (names_header bytes))
+-- the first fault of the file header and of the name table, and that of the section headers, of a file that is read in a manner
+unfoldable pub front_fault_for : ElfManner → List ℕ → Option Fault
+front_fault_for m bytes = identification_fault bytes
+    or (field_fault_for m (length bytes) (file_header bytes) or names_fault (length bytes) (names_header bytes))
 
-unfoldable pub rest_fault_of : ℕ → ℕ → List Section → Option Fault
-rest_fault_of len names sections = first_in (header_fault len names) [] sections
-    or (first_in (λ before. unkept_fault sections) [] sections or missing_fault sections)
+unfoldable pub rest_fault_for : ElfManner → ℕ → ℕ → List Section → Option Fault
+rest_fault_for m len names sections = first_in (header_fault len names) [] sections
+    or (first_in (λ before. unkept_fault_for m sections) [] sections or missing_fault sections)
+
+-- the former of a file by itself
+abbrev pub front_fault_of : List ℕ → Option Fault
+front_fault_of = front_fault_for by_itself

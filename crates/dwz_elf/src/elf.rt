@@ -2,17 +2,20 @@
 
 ghost use Rattle.std.specs.Prelude.{◌≡◌, ◌≤◌, ◌<◌, Err, IfNone, IfOk, List, None, Some, length, map, drop, take};
 ghost use Rattle.std.specs.List.{list_any};
+ghost use Rattle.dwz_def_reading.specs.ElfFaults.{read_back};
 ghost use Rattle.dwz_def_reading.specs.ElfHeaders;
 ghost use Rattle.dwz_def_reading.specs.ElfNames;
 ghost use Rattle.dwz_def_reading.specs.declared.elf.Header.{Header};
-ghost use Rattle.dwz_def_reading.specs.ElfReading.{bytes_in, elf_fault, elf_of, range_in, section_range};
+ghost use Rattle.dwz_def_reading.specs.ElfReading.{bytes_in, elf_fault, elf_fault_for, elf_of, range_in, section_range};
+ghost use Rattle.dwz_elf.specs.Manners.{manner_of};
 ghost use Rattle.dwz_elf.specs.Names.{is_there_called};
-ghost use Rattle.dwz_elf.specs.Reads.{GivesOrRefuses, IsWhole, front_fault_of, rest_fault_of};
+ghost use Rattle.dwz_elf.specs.Reads.{GivesOrRefuses, IsWhole, front_fault_for, front_fault_of, rest_fault_for};
 ghost use Rattle.dwz_model.specs.declared.fault.Fault.{Fault};
 ghost use Rattle.dwz_model.specs.declared.fault.ReadErr.TheVariants.{Refused};
 
 use crate::fault;
 use crate::header::{file_header, header_at, headers_from, is_there};
+use crate::manner::Manner;
 use crate::name::{has_name, names_end, section_of};
 use dwz_def_reading::{FileHeader, Header, Section};
 use dwz_model::{Fault, NoMemory, ReadErr};
@@ -36,16 +39,16 @@ impl Model for Elf {
 }
 
 // The first fault of the file header and of the name table.
-#[tactic(auto, unfolding(crate::specs::Reads::front_fault_of))]
-fn front_fault(bytes: &[u8]) -> Option<Fault>
-    ensures fault { result ≡ front_fault_of bytes.now }
+#[tactic(auto, unfolding(crate::specs::Reads::front_fault_for))]
+fn front_fault(manner: Manner, bytes: &[u8]) -> Option<Fault>
+    ensures fault { result ≡ front_fault_for (manner_of manner) bytes.now }
     ensures whole { IfNone result (IsWhole bytes.now) }
 {
     if let Some(fault) = fault::identification_fault(bytes) {
         return Some(fault);
     }
     let file = file_header(bytes);
-    if let Some(fault) = fault::field_fault(bytes.len(), &file) {
+    if let Some(fault) = fault::field_fault(manner, bytes.len(), &file) {
         return Some(fault);
     }
     let names = names_header(bytes, &file);
@@ -92,17 +95,37 @@ fn sections_of(alloc: Global, bytes: &[u8], file: &FileHeader) -> Result<Vec<Sec
 }
 
 // The first fault of the section headers, in a file of that length whose name table has that index.
-#[tactic(auto, unfolding(crate::specs::Reads::rest_fault_of))]
-fn rest_fault(len: usize, names: u16, sections: &[Section]) -> Option<Fault>
-    ensures { result ≡ rest_fault_of len names sections.now }
+#[tactic(auto, unfolding(crate::specs::Reads::rest_fault_for))]
+fn rest_fault(manner: Manner, len: usize, names: u16, sections: &[Section]) -> Option<Fault>
+    ensures { result ≡ rest_fault_for (manner_of manner) len names sections.now }
 {
     if let Some(fault) = fault::headers_fault(len, names, sections) {
         return Some(fault);
     }
-    if let Some(fault) = fault::kept_fault(sections) {
+    if let Some(fault) = fault::kept_fault(manner, sections) {
         return Some(fault);
     }
     fault::missing_fault(sections)
+}
+
+// Reads the sections of a file in that manner.
+fn read_in(alloc: Global, manner: Manner, bytes: &[u8]) -> Result<Elf, ReadErr>
+    ensures gives { GivesOrRefuses result (elf_fault_for (manner_of manner) bytes.now) (elf_of bytes.now) }
+    ensures at_once { (f : Fault) → front_fault_for (manner_of manner) bytes.now ≡ Some f → result ≡ Err (Refused f) }
+{
+    if let Some(fault) = front_fault(manner, bytes) {
+        return Err(ReadErr::Refused(fault));
+    }
+    let file = file_header(bytes);
+    let sections = sections_of(alloc, bytes, &file)?;
+    if let Some(fault) = rest_fault(manner, bytes.len(), file.names, &sections) {
+        return Err(ReadErr::Refused(fault));
+    }
+    Ok(Elf {
+        len: bytes.len(),
+        file,
+        sections,
+    })
 }
 
 impl Elf {
@@ -122,19 +145,16 @@ impl Elf {
         ensures gives { GivesOrRefuses result (elf_fault bytes.now) (elf_of bytes.now) }
         ensures at_once { (f : Fault) → front_fault_of bytes.now ≡ Some f → result ≡ Err (Refused f) }
     {
-        if let Some(fault) = front_fault(bytes) {
-            return Err(ReadErr::Refused(fault));
-        }
-        let file = file_header(bytes);
-        let sections = sections_of(alloc, bytes, &file)?;
-        if let Some(fault) = rest_fault(bytes.len(), file.names, &sections) {
-            return Err(ReadErr::Refused(fault));
-        }
-        Ok(Elf {
-            len: bytes.len(),
-            file,
-            sections,
-        })
+        read_in(alloc, Manner::by_itself(), bytes)
+    }
+
+    /// Reads the sections of a file that may have been written by this tool: as `read`, but `.debug_sup` may be there, and the
+    /// file may have one section header more, which was added for it.
+    pub fn read_with_sup(alloc: Global, bytes: &[u8]) -> Result<Elf, ReadErr>
+        ensures gives { GivesOrRefuses result (elf_fault_for read_back bytes.now) (elf_of bytes.now) }
+        ensures at_once { (f : Fault) → front_fault_for read_back bytes.now ≡ Some f → result ≡ Err (Refused f) }
+    {
+        read_in(alloc, Manner::read_back(), bytes)
     }
 
     /// The machine that the file is for.

@@ -6,10 +6,12 @@ ghost use Rattle.dwz_def_reading.specs.ElfFaults;
 ghost use Rattle.dwz_def_reading.specs.ElfHeaders;
 ghost use Rattle.dwz_def_reading.specs.ElfHeaders.{headers_end};
 ghost use Rattle.dwz_def_reading.specs.ElfReading;
+ghost use Rattle.dwz_elf.specs.Manners.{manner_of};
 
 use crate::header::{end_of, has_relocations, is_compressed, is_there};
+use crate::manner::Manner;
 use dwz_def_reading::{FileHeader, Header, Section};
-use dwz_model::{Fault, Reason, WHOLE_FILE};
+use dwz_model::{DEBUG_SUP, Fault, Reason, WHOLE_FILE};
 
 // The magic number, class 64, little-endian, version 1.
 const IDENTIFICATION: [u8; 7] = [0x7f, 0x45, 0x4c, 0x46, 2, 1, 1];
@@ -22,9 +24,6 @@ const HEADER: u16 = 64;
 const ET_EXEC: u16 = 2;
 
 const ET_DYN: u16 = 3;
-
-// So many section headers that one can be added below SHN_LORESERVE.
-const MOST_HEADERS: u16 = 65278;
 
 // Where the fields of the file header are.
 const E_TYPE: u64 = 16;
@@ -83,8 +82,8 @@ pub(crate) fn identification_fault(bytes: &[u8]) -> Option<Fault>
 
 /// The first fault of the file header's fields, in a file of that length.
 #[tactic(auto, unfolding(dwz_def_reading::specs::ElfReading::field_fault_for))]
-pub(crate) fn field_fault(len: usize, file: &FileHeader) -> Option<Fault>
-    ensures fault { result ≡ ElfReading.field_fault len file.now }
+pub(crate) fn field_fault(manner: Manner, len: usize, file: &FileHeader) -> Option<Fault>
+    ensures fault { result ≡ ElfReading.field_fault_for (manner_of manner) len file.now }
     ensures names { IfNone result (file.now.names < file.now.headers) }
     ensures room { IfNone result (headers_end file.now ≤ len) }
 {
@@ -97,7 +96,7 @@ pub(crate) fn field_fault(len: usize, file: &FileHeader) -> Option<Fault>
     if file.header_size != HEADER {
         return Some(file_fault(Reason::SectionTable, E_SHENTSIZE));
     }
-    if file.headers == 0 || file.headers > MOST_HEADERS {
+    if file.headers == 0 || file.headers > manner.most_headers {
         return Some(file_fault(Reason::SectionTable, E_SHNUM));
     }
     if file.names == 0 || file.names >= file.headers {
@@ -205,16 +204,25 @@ fn is_rewritten(sections: &[Section], index: u32) -> bool
     }
 }
 
+// Whether the section is an index, which can't be kept.
+fn is_index(manner: Manner, section: &Section) -> bool
+    ensures { result ≡ ElfFaults.is_index manner.may_have_sup section.now }
+{
+    section.name.is_index && !(manner.may_have_sup && section.name.code == DEBUG_SUP)
+}
+
 // The fault of a section that can't be kept, or read.
 #[tactic(auto, unfolding(dwz_def_reading::specs::ElfReading::unkept_fault_for))]
-fn unkept_fault(sections: &[Section], section: &Section) -> Option<Fault>
-    ensures { result ≡ ElfReading.unkept_fault sections.now section.now }
+fn unkept_fault(manner: Manner, sections: &[Section], section: &Section) -> Option<Fault>
+    ensures { result ≡ ElfReading.unkept_fault_for (manner_of manner) sections.now section.now }
 {
     let header = &section.header;
     if !is_there(header) {
         return None;
     }
-    if section.name.is_index || (has_relocations(header) && is_rewritten(sections, header.info)) {
+    if is_index(manner, section)
+        || (has_relocations(header) && is_rewritten(sections, header.info))
+    {
         return Some(file_fault(Reason::Index, header.at));
     }
     if section.name.is_debug && is_compressed(header) {
@@ -224,11 +232,11 @@ fn unkept_fault(sections: &[Section], section: &Section) -> Option<Fault>
 }
 
 /// The first fault of a section that can't be kept, or read.
-pub(crate) fn kept_fault(sections: &[Section]) -> Option<Fault>
-    ensures { result ≡ ElfReading.first_in (λ before. ElfReading.unkept_fault sections.now) [] sections.now }
+pub(crate) fn kept_fault(manner: Manner, sections: &[Section]) -> Option<Fault>
+    ensures { result ≡ ElfReading.first_in (λ before. ElfReading.unkept_fault_for (manner_of manner) sections.now) [] sections.now }
 {
     for section in sections {
-        let fault = unkept_fault(sections, section);
+        let fault = unkept_fault(manner, sections, section);
         if fault.is_some() {
             return fault;
         }

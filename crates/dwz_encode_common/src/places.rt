@@ -25,7 +25,7 @@ pub(crate) fn place_of<'p, 'a>(
     row: Row,
 ) -> Option<Place<'p, 'a>>
     requires { map (λ b. b.items) bases.now ≡ map file_bases known.now.files.items }
-    ensures { HasPlace graph.now known.now row result }
+    ensures { HasPlace graph.now.given known.now row result }
 {
     let Some(file) = graph.files().get(row.file as usize) else {
         return None;

@@ -92,7 +92,7 @@ fn put_row_at(
     row: Row,
 ) -> Result<(), NoMemory>
     requires { map (λ b. b.items) bases.now ≡ map file_bases known.now.files.items }
-    ensures { OnOk result (pool.new ≡ with_all pool.old (by_row graph.now known.now row row_texts)) }
+    ensures { OnOk result (pool.new ≡ with_all pool.old (by_row graph.now.given known.now row row_texts)) }
 {
     match place_of(graph, known, bases, row) {
         Some(place) => put_row(pool, &place),
@@ -109,7 +109,7 @@ fn put_name_at(
     row: Row,
 ) -> Result<(), NoMemory>
     requires { map (λ b. b.items) bases.now ≡ map file_bases known.now.files.items }
-    ensures { OnOk result (pool.new ≡ with_all pool.old (by_row graph.now known.now row row_name)) }
+    ensures { OnOk result (pool.new ≡ with_all pool.old (by_row graph.now.given known.now row row_name)) }
 {
     match place_of(graph, known, bases, row) {
         Some(place) => put_name(pool, &place),
@@ -126,7 +126,7 @@ fn put_entry(
     origin: Origin,
 ) -> Result<(), NoMemory>
     requires { map (λ b. b.items) bases.now ≡ map file_bases known.now.files.items }
-    ensures { OnOk result (pool.new ≡ with_all pool.old (origin_texts graph.now known.now origin)) }
+    ensures { OnOk result (pool.new ≡ with_all pool.old (origin_texts graph.now.given known.now origin)) }
 {
     match origin {
         Origin::Read(row) => put_row_at(pool, graph, known, bases, row),
@@ -147,7 +147,7 @@ fn put_unit(
     items: &UnitItems,
 ) -> Result<(), NoMemory>
     requires { map (λ b. b.items) bases.now ≡ map file_bases known.now.files.items }
-    ensures { OnOk result (pool.new ≡ with_all pool.old (items_give (origin_texts graph.now known.now) known.now items.now)) }
+    ensures { OnOk result (pool.new ≡ with_all pool.old (items_give (origin_texts graph.now.given known.now) known.now items.now)) }
 {
     let mut walk = Walk::new(known, items);
     while let Some(entry) = walk.next() {
@@ -164,8 +164,8 @@ pub fn common_texts(
     known: &EntryTable,
     order: &[UnitItems],
 ) -> Result<Pool, NoMemory>
-    ensures said { IfOk result (λ pool. pool ≡ with_all [] (order_texts graph.now known.now order.now)) }
-    ensures common { (f : RunFacts) → f.contents ≡ graph.now → IsCommonOrder f known.now order.now
+    ensures said { IfOk result (λ pool. pool ≡ with_all [] (order_texts graph.now.given known.now order.now)) }
+    ensures common { (f : RunFacts) → f.contents ≡ graph.now.given → IsCommonOrder f known.now order.now
         → IfOk result (λ pool. pool ≡ texts (run f)) }
 {
     let bases = bases_of_files(alloc, known.files.as_slice())?;

@@ -1,3 +1,4 @@
+pub mod EndLemmas
 pub mod TextSteps
 pub mod RowUnits
 pub mod SpaceEntries

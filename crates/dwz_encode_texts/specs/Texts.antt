@@ -1,5 +1,5 @@
 -- Where texts stand that are stored by an offset or by a slot (DWARF 5, 7.5.5, class string): in `.debug_str` of the file that has them.
-use Rattle.std.specs.Prelude.{ℕ, List, Option, map, slice_get}
+use Rattle.std.specs.Prelude.{ℕ, zero, suc, Bool, true, false, List, [], ◌∷◌, Option, map, slice_get}
 use Rattle.std.specs.List.{filter, flat_map}
 use Rattle.std.specs.Option.{option_and_then}
 use Rattle.dwz_def_reading.specs.Entries.{RawAttr}
@@ -7,6 +7,7 @@ use Rattle.dwz_def_reading.specs.Units.{RawUnit}
 use Rattle.dwz_def_reading.specs.Meanings.{Around, offset_of, scope_of}
 use Rattle.dwz_def_reading.specs.Classes.{OfTextBySlot, OfTextInStr}
 use Rattle.dwz_def_reading.specs.Classes.{Class, class_of}
+use Rattle.dwz_model.specs.declared.place.Pair.{Pair}
 use Rattle.dwz_unit.specs.Rows.{EntryRow, rows_of}
 use Rattle.dwz_def_encoding.specs.Bases.{bases_of}
 use Rattle.dwz_def_encoding.specs.Placing.{slot_number}
@@ -43,3 +44,15 @@ row_texts around raw r = own_texts around.sources.offsets (slots_base_at around 
 -- those of a file, entry by entry, in preorder
 abbrev pub file_texts : Around ℕ → List RawUnit → List TextAt
 file_texts around raw = flat_map (row_texts around raw) (rows_of raw)
+
+-- ---- by declarations (DWARF 5, 7.5.3)
+
+abbrev pub end_behind : Bool → ℕ → ℕ
+end_behind text (suc n) = suc (suc n)
+end_behind true zero = 1
+end_behind false zero = 0
+
+-- how many values of these names and forms there are up to the last text
+unfoldable pub texts_end : List Pair → ℕ
+texts_end [] = 0
+texts_end (pair ∷ pairs) = end_behind (is_pair_placed pair) (texts_end pairs)

@@ -9,6 +9,7 @@
 //! Read first: `specs/Texts.antt`, `specs/Used.antt`, `specs/PrunedFiles.antt`; and `Pruned.antt` of `dwz_def_encoding`.
 #![tactic(auto)]
 
+mod ends;
 mod files;
 mod laws;
 mod moving;

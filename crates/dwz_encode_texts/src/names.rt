@@ -56,8 +56,8 @@ pub fn texts_of_spaces(
     graph: &Graph,
     indexes: &[Index],
 ) -> Result<Vec<TextAt>, NoMemory>
-    requires { AreIndexes (docs_of graph.now) indexes.now }
-    ensures { IfOk result (λ texts. HaveNames graph.now indexes.now texts.items) }
+    requires { AreIndexes (docs_of graph.now.given) indexes.now }
+    ensures { IfOk result (λ texts. HaveNames graph.now.given indexes.now texts.items) }
 {
     let mut texts = Vec::new(alloc);
     for (number, file) in graph.files().iter().enumerate() {

@@ -8,15 +8,16 @@ ghost use Rattle.dwz_forms.specs.RawValues.{raw_view};
 ghost use Rattle.dwz_def_reading.specs.Meanings.{Around, number_of};
 ghost use Rattle.dwz_def_reading.specs.Classes.{OfTextInStr};
 ghost use Rattle.dwz_def_reading.specs.Classes.{class_of};
+ghost use Rattle.dwz_unit.specs.Declarations.{AreOf};
 ghost use Rattle.dwz_unit.specs.Rows.{EntryRow, rows_of, units_of};
 ghost use Rattle.dwz_graph.specs.Resolved.{around};
 ghost use Rattle.dwz_def_encoding.specs.Placing;
 ghost use Rattle.dwz_layout.specs.declared.known.TextAt.TheVariants.{Own};
-ghost use Rattle.dwz_layout_numbers.specs.Befores.{is_pair_placed};
 ghost use Rattle.dwz_encode_texts.specs.Texts;
 ghost use Rattle.dwz_encode_texts.specs.Texts.{file_texts, own_texts, slots_base};
 
-use dwz_codes::{Class, DW_AT_SIBLING, class_of};
+use crate::ends::{TextEnds, is_text};
+use dwz_codes::{Class, class_of};
 use dwz_forms::Raw;
 use dwz_graph::{InputSections, here_of, offset_of, slot};
 use dwz_layout::TextAt;
@@ -59,34 +60,29 @@ pub(crate) fn own_text(offsets: &[u8], base: Option<u32>, pair: &Pair, raw: &Raw
     TextAt::Own(str_offset(class_of(pair.form), offsets, base, offset_of(raw)))
 }
 
-// Whether a value of that name and form is a text that is stored by an offset or by a slot.
-#[inline(always)]
-fn is_text(pair: &Pair) -> bool
-    ensures { result ≡ is_pair_placed pair.now }
-{
-    pair.name != DW_AT_SIBLING
-        && match class_of(pair.form) {
-            Class::TextInStr => true,
-            Class::TextInLineStr => true,
-            Class::TextBySlot => true,
-            _ => false,
-        }
-}
-
-// Appends those of an entry.
+// Appends those of an entry. Its values are read up to the last text.
 fn put_texts(
     texts: &mut Vec<TextAt>,
     units: &Units,
+    ends: &TextEnds,
     offsets: &[u8],
     base: Option<u32>,
     entry: u32,
 ) -> Result<(), NoMemory>
-    requires { entry < entries_in (units_of units.now) }
+    requires ends { AreOf (rows_of (units_of units.now)) ends.now }
+    requires entry { entry < entries_in (units_of units.now) }
     ensures { (row : EntryRow) → slice_get (rows_of (units_of units.now)) entry ≡ Some row
         → OnOk result (texts.new.items ≡ texts.old.items ++ own_texts offsets.now base row.entry.attrs) }
 {
+    let end = ends.of(entry);
+    if end == 0 {
+        return Ok(());
+    }
     let Values { pairs, mut cursor } = units.values(entry);
-    for pair in pairs {
+    for (k, pair) in pairs.iter().enumerate() {
+        if k == end {
+            return Ok(());
+        }
         let raw = known_value(&mut cursor, pair);
         if is_text(pair) {
             texts.push(own_text(offsets, base, pair, &raw))?;
@@ -117,10 +113,11 @@ pub fn texts_of(
     ensures { IfOk result (λ texts. texts.items ≡ file_texts (around sections.now (units_of units.now)) (units_of units.now)) }
 {
     let bases = slot_bases(alloc, units)?;
+    let ends = TextEnds::new(alloc, units)?;
     let mut texts = Vec::new(alloc);
     for i in 0..units.entries() {
         let base = bases[units.entry(i).unit as usize];
-        put_texts(&mut texts, units, sections.offsets, base, i)?;
+        put_texts(&mut texts, units, &ends, sections.offsets, base, i)?;
     }
     Ok(texts)
 }

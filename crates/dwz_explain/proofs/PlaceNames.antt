@@ -8,7 +8,7 @@ use Rattle.dwz_def_tops.specs.Spots.{EntryName, RootOf, Within, below_spots, sam
 use Rattle.dwz_def_tops.proofs.Members.{in_map_from}
 use Rattle.dwz_def_tops.proofs.SpotLemmas.{same_spot-same, same_spot-true}
 use Rattle.dwz_def_images.specs.After.{Place, at_file, name_from, name_of_place}
-use Rattle.dwz_def_explain.specs.Texts.{files_spots, place_in, place_of_name}
+use Rattle.dwz_def_explain.specs.Texts.{files_spots, place_named, place_of_name}
 use Rattle.dwz_graph.specs.Names.{names_from}
 use Rattle.dwz_layout_numbers.specs.Names.{all_names, names_of_files}
 use Rattle.dwz_layout_numbers.proofs.OnceNames.{one_entry}
@@ -159,12 +159,12 @@ spot_placed file unit top (doc ∷ docs) n name entry is =
       | inr b ↦ (let o = spot_placed (suc file) (unit + length doc.units) (top + tops_among doc.units) docs n name entry b in (o.0, in_right (at_file o.0 n, name) own rest o.1))
     ]
 
-place_found : (spots : List (ℕ × EntryName)) (name : EntryName) (n : ℕ) → In (n, name) spots → In (place_in spots name, name) spots
-unfolding place_in
+place_found : (spots : List (ℕ × EntryName)) (name : EntryName) (n : ℕ) → In (n, name) spots → In (place_named spots name, name) spots
+unfolding place_named
 place_found [] name n is = absurd is
 place_found (s ∷ spots) name n is = by (same_spot s.1 name) refl is (place_found spots name n) where
-  by : (b : Bool) → same_spot s.1 name ≡ b → In (n, name) (s ∷ spots) → (In (n, name) spots → In (place_in spots name, name) spots)
-      → In (elim b as (λ _. ℕ) [ true ↦ s.0 | false ↦ place_in spots name ], name) (s ∷ spots)
+  by : (b : Bool) → same_spot s.1 name ≡ b → In (n, name) (s ∷ spots) → (In (n, name) spots → In (place_named spots name, name) spots)
+      → In (elim b as (λ _. ℕ) [ true ↦ s.0 | false ↦ place_named spots name ], name) (s ∷ spots)
   by true q h more = inl (λ i. (s.0, same_spot-true s.1 name q i))
   by false q (inl e) more = absurd (let z : same_spot s.1 name ≡ true = ap (λ (w : ℕ × EntryName). same_spot w.1 name) e ∙ same_spot-same name in cc)
   by false q (inr r) more = inr (more r)

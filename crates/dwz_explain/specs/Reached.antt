@@ -19,9 +19,9 @@ use Rattle.dwz_explain.specs.Shown.{HasSubtree, MeansSubtree}
 
 -- the files are kept, each has its index, and the outline is theirs
 pub record IsAsked (a : Asked) : Type 0 where
-  pub kept : AreKept a.graph.now a.files.now
-  pub indexed : AreIndexes (docs_of a.graph.now) a.indexes.now
-  pub outline : IsOutline (docs_of a.graph.now) a.tops.now
+  pub kept : AreKept a.graph.now.given a.files.now
+  pub indexed : AreIndexes (docs_of a.graph.now.given) a.indexes.now
+  pub outline : IsOutline (docs_of a.graph.now.given) a.tops.now
 
 -- the top with a number among those of all files is of the file with that number
 pub record HoldsTop (files : List File) (indexes : List Index) (file n : ℕ) : Type 0 where

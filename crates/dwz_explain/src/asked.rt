@@ -39,10 +39,10 @@ pub(crate) fn asked_of<'g, 'a>(
     indexes: &'g [Index],
     tops: &'g Tops,
 ) -> Asked<'g, 'a>
-    requires indexes { AreIndexes (docs_of graph.now) indexes.now }
-    requires tops { IsOutline (docs_of graph.now) tops.now }
+    requires indexes { AreIndexes (docs_of graph.now.given) indexes.now }
+    requires tops { IsOutline (docs_of graph.now.given) tops.now }
     ensures asked { IsAsked result }
-    ensures graph { result.graph.now ≡ graph.now }
+    ensures graph { result.graph.now.given ≡ graph.now.given }
 {
     let files = graph.files();
     Asked {

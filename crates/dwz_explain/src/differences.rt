@@ -44,7 +44,7 @@ fn first_name(first: Option<u16>, second: Option<u16>) -> u16
 fn name_of_first(run: &Asked, first: Spot, second: Spot, index: u32) -> u16
     requires first { HasEntry run.now.files.now first }
     requires second { HasEntry run.now.files.now second }
-    ensures { (x y : Subtree) → Shows run.now.graph.now run.now.files.now first x → Shows run.now.graph.now run.now.files.now second y
+    ensures { (x y : Subtree) → Shows run.now.graph.now.given run.now.files.now first x → Shows run.now.graph.now.given run.now.files.now second y
         → result ≡ Texts.first_name (slice_get x.node.attrs index) (slice_get y.node.attrs index) }
 {
     let a = attribute_at(units_at(run, first.file), first.entry, index);
@@ -55,9 +55,9 @@ fn name_of_first(run: &Asked, first: Spot, second: Spot, index: u32) -> u16
 // The entry, as it is stored.
 fn stored(run: &Asked, spot: Spot) -> RawEntry
     requires { HasEntry run.now.files.now spot }
-    ensures tag { (x : Subtree) → Shows run.now.graph.now run.now.files.now spot x → x.node.tag ≡ result.tag }
-    ensures place { (x : Subtree) → Shows run.now.graph.now run.now.files.now spot x
-        → Texts.place_of_name (docs_of run.now.graph.now) x.node.at ≡ result.at }
+    ensures tag { (x : Subtree) → Shows run.now.graph.now.given run.now.files.now spot x → x.node.tag ≡ result.tag }
+    ensures place { (x : Subtree) → Shows run.now.graph.now.given run.now.files.now spot x
+        → Texts.place_of_name (docs_of run.now.graph.now.given) x.node.at ≡ result.at }
 {
     units_at(run, spot.file).entry(spot.entry)
 }
@@ -66,7 +66,7 @@ fn stored(run: &Asked, spot: Spot) -> RawEntry
 fn words_of(run: &Asked, what: &What, first: Spot, second: Spot) -> Result<Vec<u8>, NoMemory>
     requires first { HasEntry run.now.files.now first }
     requires second { HasEntry run.now.files.now second }
-    ensures { (x y : Subtree) → Shows run.now.graph.now run.now.files.now first x → Shows run.now.graph.now run.now.files.now second y
+    ensures { (x y : Subtree) → Shows run.now.graph.now.given run.now.files.now first x → Shows run.now.graph.now.given run.now.files.now second y
         → IfOk result (λ text. text.items ≡ Texts.what_words what.now x.node y.node) }
 {
     let alloc = run.alloc;
@@ -95,8 +95,8 @@ pub(crate) fn what_line(
 ) -> Result<Vec<u8>, NoMemory>
     requires first { HasEntry run.now.files.now first }
     requires second { HasEntry run.now.files.now second }
-    ensures { (x y : Subtree) → Shows run.now.graph.now run.now.files.now first x → Shows run.now.graph.now run.now.files.now second y
-        → IfOk result (λ text. text.items ≡ Texts.what_line (docs_of run.now.graph.now) what.now x y) }
+    ensures { (x y : Subtree) → Shows run.now.graph.now.given run.now.files.now first x → Shows run.now.graph.now.given run.now.files.now second y
+        → IfOk result (λ text. text.items ≡ Texts.what_line (docs_of run.now.graph.now.given) what.now x y) }
 {
     let words = words_of(run, what, first, second)?;
     let a = stored(run, first).at;

@@ -15,10 +15,10 @@ use dwz_model::Place;
 /// The number of the top that begins at a place and may move, among the tops of all files, whose outline is `tops`. None where there is
 /// no such top.
 pub fn movable_at(graph: &Graph, indexes: &[Index], tops: &Tops, place: Place) -> Option<u32>
-    requires indexes { AreIndexes (docs_of graph.now) indexes.now }
-    requires tops { IsOutline (docs_of graph.now) tops.now }
-    ensures { MatchOption result (NoneMovableAt (docs_of graph.now) (at_file place.file place.offset))
-        (IsMovableAt (docs_of graph.now) (at_file place.file place.offset)) }
+    requires indexes { AreIndexes (docs_of graph.now.given) indexes.now }
+    requires tops { IsOutline (docs_of graph.now.given) tops.now }
+    ensures { MatchOption result (NoneMovableAt (docs_of graph.now.given) (at_file place.file place.offset))
+        (IsMovableAt (docs_of graph.now.given) (at_file place.file place.offset)) }
 {
     let _files = graph.files();
     let _indexes = indexes;

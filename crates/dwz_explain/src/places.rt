@@ -22,9 +22,9 @@ use std::thread::Threads;
 
 // The top that begins at a place and may move, or the refusal of the place.
 fn top_at(graph: &Graph, indexes: &[Index], tops: &Tops, place: Place) -> Result<u32, GraphErr>
-    requires indexes { AreIndexes (docs_of graph.now) indexes.now }
-    requires tops { IsOutline (docs_of graph.now) tops.now }
-    ensures { AnswersTop (docs_of graph.now) (at_file place.file place.offset) result }
+    requires indexes { AreIndexes (docs_of graph.now.given) indexes.now }
+    requires tops { IsOutline (docs_of graph.now.given) tops.now }
+    ensures { AnswersTop (docs_of graph.now.given) (at_file place.file place.offset) result }
 {
     match movable_at(graph, indexes, tops, place) {
         Some(top) => Ok(top),
@@ -48,13 +48,13 @@ fn text_of<R: Threads + Sync>(
     a: u32,
     b: u32,
 ) -> Result<Blob, NoMemory>
-    requires indexes { AreIndexes (docs_of graph.now) indexes.now }
-    requires tops { IsOutline (docs_of graph.now) tops.now }
+    requires indexes { AreIndexes (docs_of graph.now.given) indexes.now }
+    requires tops { IsOutline (docs_of graph.now.given) tops.now }
     requires workers { (0 < workers) × (workers ≤ 64) }
-    requires first { Movable (units_of (docs_of graph.now)) a }
-    requires second { Movable (units_of (docs_of graph.now)) b }
-    ensures { (p q : FilePlace) → IsMovableAt (docs_of graph.now) p a → IsMovableAt (docs_of graph.now) q b
-        → IfOk result (IsTextOf (docs_of graph.now) p q) }
+    requires first { Movable (units_of (docs_of graph.now.given)) a }
+    requires second { Movable (units_of (docs_of graph.now.given)) b }
+    ensures { (p q : FilePlace) → IsMovableAt (docs_of graph.now.given) p a → IsMovableAt (docs_of graph.now.given) q b
+        → IfOk result (IsTextOf (docs_of graph.now.given) p q) }
 {
     let verdict = explain(rt, alloc, graph, indexes, tops, workers, a, b)?;
     explain_text(alloc, graph, indexes, tops, a, b, &verdict)
@@ -71,9 +71,9 @@ pub fn explain_places<R: Threads + Sync>(
     second: Place,
     workers: u32,
 ) -> Result<Blob, GraphErr>
-    requires few { length graph.now < 2 ^ 32 }
+    requires few { length graph.now.given < 2 ^ 32 }
     requires workers { (0 < workers) × (workers ≤ 64) }
-    ensures { Answers (Explains (docs_of graph.now) (at_file first.file first.offset) (at_file second.file second.offset)) result }
+    ensures { Answers (Explains (docs_of graph.now.given) (at_file first.file first.offset) (at_file second.file second.offset)) result }
 {
     let indexes = indexes(alloc, graph)?;
     let outline = outline_files(rt, alloc, graph, &indexes, workers)?;

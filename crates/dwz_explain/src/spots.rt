@@ -17,10 +17,10 @@ use dwz_model::Place;
 /// Where the top with a number begins.
 pub(crate) fn place_of_top(run: &Asked, top: u32) -> Place
     requires asked { IsAsked run.now }
-    requires there { top < length (tops_of (units_of (docs_of run.now.graph.now))) }
+    requires there { top < length (tops_of (units_of (docs_of run.now.graph.now.given))) }
     ensures file { HoldsTop run.now.files.now run.now.indexes.now result.file top }
-    ensures offset { (t : Top) → In t (tops_of (units_of (docs_of run.now.graph.now))) → t.number ≡ top
-        → place_of_name (docs_of run.now.graph.now) t.node.at ≡ result.offset }
+    ensures offset { (t : Top) → In t (tops_of (units_of (docs_of run.now.graph.now.given))) → t.number ≡ top
+        → place_of_name (docs_of run.now.graph.now.given) t.node.at ≡ result.offset }
 {
     run.tops.rows.as_slice()[top as usize].place
 }
@@ -38,10 +38,10 @@ fn entry_of(run: &Asked, file: u32, top: u32) -> TopEntry
 /// The entry of the top with a number.
 pub(crate) fn spot_of_top(run: &Asked, top: u32) -> Spot
     requires asked { IsAsked run.now }
-    requires there { top < length (tops_of (units_of (docs_of run.now.graph.now))) }
+    requires there { top < length (tops_of (units_of (docs_of run.now.graph.now.given))) }
     ensures has { HasEntry run.now.files.now result }
-    ensures shows { (t : Top) → In t (tops_of (units_of (docs_of run.now.graph.now))) → t.number ≡ top
-        → Shows run.now.graph.now run.now.files.now result (whole_top t) }
+    ensures shows { (t : Top) → In t (tops_of (units_of (docs_of run.now.graph.now.given))) → t.number ≡ top
+        → Shows run.now.graph.now.given run.now.files.now result (whole_top t) }
 {
     let file = place_of_top(run, top).file;
     let entry = entry_of(run, file, top).entry;
@@ -52,8 +52,8 @@ pub(crate) fn spot_of_top(run: &Asked, top: u32) -> Spot
 pub(crate) fn spot_along(run: &Asked, spot: Spot, path: &[u32]) -> Spot
     requires { HasEntry run.now.files.now spot }
     ensures has { HasEntry run.now.files.now result }
-    ensures shows { (x : Subtree) → Shows run.now.graph.now run.now.files.now spot x
-        → Shows run.now.graph.now run.now.files.now result (entry_along path.now x) }
+    ensures shows { (x : Subtree) → Shows run.now.graph.now.given run.now.files.now spot x
+        → Shows run.now.graph.now.given run.now.files.now result (entry_along path.now x) }
 {
     let units = units_at(run, spot.file);
     let entry = find_entry(units, spot.entry, path);

@@ -27,10 +27,10 @@ use std::alloc::Global;
 // The top that a reference of a top goes into, by its number; where there is no such reference, the top itself.
 fn target_of(run: &Asked, top: u32, number: u32) -> u32
     requires asked { IsAsked run.now }
-    requires there { top < length (tops_of (units_of (docs_of run.now.graph.now))) }
-    ensures there { result < length (tops_of (units_of (docs_of run.now.graph.now))) }
-    ensures target { (t u : Top) → In t (tops_of (units_of (docs_of run.now.graph.now)))
-        → Movable (units_of (docs_of run.now.graph.now)) t.number → t.number ≡ top → GoesInto number t u → result ≡ u.number }
+    requires there { top < length (tops_of (units_of (docs_of run.now.graph.now.given))) }
+    ensures there { result < length (tops_of (units_of (docs_of run.now.graph.now.given))) }
+    ensures target { (t u : Top) → In t (tops_of (units_of (docs_of run.now.graph.now.given)))
+        → Movable (units_of (docs_of run.now.graph.now.given)) t.number → t.number ≡ top → GoesInto number t u → result ≡ u.number }
 {
     let targets = run.tops.targets.get(top as usize);
     let i = number as usize;
@@ -40,12 +40,12 @@ fn target_of(run: &Asked, top: u32, number: u32) -> u32
 // The line of a reference and of the two tops that it goes into.
 fn line_of(run: &Asked, number: u32, first: u32, second: u32) -> Result<Vec<u8>, NoMemory>
     requires asked { IsAsked run.now }
-    requires first { first < length (tops_of (units_of (docs_of run.now.graph.now))) }
-    requires second { second < length (tops_of (units_of (docs_of run.now.graph.now))) }
-    ensures { (t u : Top) → In t (tops_of (units_of (docs_of run.now.graph.now))) → In u (tops_of (units_of (docs_of run.now.graph.now)))
+    requires first { first < length (tops_of (units_of (docs_of run.now.graph.now.given))) }
+    requires second { second < length (tops_of (units_of (docs_of run.now.graph.now.given))) }
+    ensures { (t u : Top) → In t (tops_of (units_of (docs_of run.now.graph.now.given))) → In u (tops_of (units_of (docs_of run.now.graph.now.given)))
         → t.number ≡ first → u.number ≡ second
         → IfOk result (λ text. text.items ≡ Texts.line (codes "reference " ∷ decimal number ∷ codes ": "
-        ∷ places_text (docs_of run.now.graph.now) t.node u.node ∷ [])) }
+        ∷ places_text (docs_of run.now.graph.now.given) t.node u.node ∷ [])) }
 {
     let a = place_of_top(run, first).offset;
     let b = place_of_top(run, second).offset;
@@ -55,11 +55,11 @@ fn line_of(run: &Asked, number: u32, first: u32, second: u32) -> Result<Vec<u8>,
 // The line of what differs between two tops.
 fn last_line(run: &Asked, what: &What, first: u32, second: u32) -> Result<Vec<u8>, NoMemory>
     requires asked { IsAsked run.now }
-    requires first { first < length (tops_of (units_of (docs_of run.now.graph.now))) }
-    requires second { second < length (tops_of (units_of (docs_of run.now.graph.now))) }
-    ensures { (t u : Top) → In t (tops_of (units_of (docs_of run.now.graph.now))) → In u (tops_of (units_of (docs_of run.now.graph.now)))
+    requires first { first < length (tops_of (units_of (docs_of run.now.graph.now.given))) }
+    requires second { second < length (tops_of (units_of (docs_of run.now.graph.now.given))) }
+    ensures { (t u : Top) → In t (tops_of (units_of (docs_of run.now.graph.now.given))) → In u (tops_of (units_of (docs_of run.now.graph.now.given)))
         → t.number ≡ first → u.number ≡ second
-        → IfOk result (λ text. text.items ≡ reference_lines (docs_of run.now.graph.now) (tops_of (units_of (docs_of run.now.graph.now))) []
+        → IfOk result (λ text. text.items ≡ reference_lines (docs_of run.now.graph.now.given) (tops_of (units_of (docs_of run.now.graph.now.given))) []
         what.now t u) }
 {
     let path = path_of(what);
@@ -71,11 +71,11 @@ fn last_line(run: &Asked, what: &What, first: u32, second: u32) -> Result<Vec<u8
 // The lines of a chain from two tops, and of what differs at its end.
 fn lines_of(run: &Asked, chain: &[u32], what: &What, a: u32, b: u32) -> Result<Vec<u8>, NoMemory>
     requires asked { IsAsked run.now }
-    requires first { a < length (tops_of (units_of (docs_of run.now.graph.now))) }
-    requires second { b < length (tops_of (units_of (docs_of run.now.graph.now))) }
-    ensures { (x y : Top) → LeadsOn (units_of (docs_of run.now.graph.now)) chain.now a b x y
+    requires first { a < length (tops_of (units_of (docs_of run.now.graph.now.given))) }
+    requires second { b < length (tops_of (units_of (docs_of run.now.graph.now.given))) }
+    ensures { (x y : Top) → LeadsOn (units_of (docs_of run.now.graph.now.given)) chain.now a b x y
         → IfOk result (λ text. text.items ≡ Texts.line (codes "depth " ∷ decimal (suc (length chain.now)) ∷ [])
-        ++ reference_lines (docs_of run.now.graph.now) (tops_of (units_of (docs_of run.now.graph.now))) chain.now what.now x y) }
+        ++ reference_lines (docs_of run.now.graph.now.given) (tops_of (units_of (docs_of run.now.graph.now.given))) chain.now what.now x y) }
 {
     let mut text = depth_line(run.alloc, chain)?;
     let mut first = a;
@@ -103,13 +103,13 @@ pub fn explain_text(
     b: u32,
     verdict: &Verdict,
 ) -> Result<Blob, NoMemory>
-    requires indexes { AreIndexes (docs_of graph.now) indexes.now }
-    requires tops { IsOutline (docs_of graph.now) tops.now }
-    requires first { Movable (units_of (docs_of graph.now)) a }
-    requires second { Movable (units_of (docs_of graph.now)) b }
-    ensures { (x y : Top) → In x (tops_of (units_of (docs_of graph.now))) → In y (tops_of (units_of (docs_of graph.now))) → x.number ≡ a
-        → y.number ≡ b → IsExplained (units_of (docs_of graph.now)) x y verdict.now
-        → IfOk result (λ text. text ≡ explained_text (docs_of graph.now) x y verdict.now) }
+    requires indexes { AreIndexes (docs_of graph.now.given) indexes.now }
+    requires tops { IsOutline (docs_of graph.now.given) tops.now }
+    requires first { Movable (units_of (docs_of graph.now.given)) a }
+    requires second { Movable (units_of (docs_of graph.now.given)) b }
+    ensures { (x y : Top) → In x (tops_of (units_of (docs_of graph.now.given))) → In y (tops_of (units_of (docs_of graph.now.given))) → x.number ≡ a
+        → y.number ≡ b → IsExplained (units_of (docs_of graph.now.given)) x y verdict.now
+        → IfOk result (λ text. text ≡ explained_text (docs_of graph.now.given) x y verdict.now) }
 {
     match verdict {
         Verdict::Alike => Ok(Blob::new(alike_line(alloc)?)),

@@ -27,9 +27,9 @@ use std::thread::Threads;
 
 // Tops of files that are kept are short, and have few references.
 fn look_at_tops(graph: &Graph, indexes: &[Index])
-    requires { AreIndexes (docs_of graph.now) indexes.now }
-    ensures short { (t : Top) → In t (tops_of (units_of (docs_of graph.now))) → IsShort t }
-    ensures few { HaveFewTargets (units_of (docs_of graph.now)) }
+    requires { AreIndexes (docs_of graph.now.given) indexes.now }
+    ensures short { (t : Top) → In t (tops_of (units_of (docs_of graph.now.given))) → IsShort t }
+    ensures few { HaveFewTargets (units_of (docs_of graph.now.given)) }
 {
     let _indexes = indexes;
     let _files = graph.files();
@@ -119,13 +119,13 @@ pub fn explain<R: Threads + Sync>(
     a: u32,
     b: u32,
 ) -> Result<Verdict, NoMemory>
-    requires indexes { AreIndexes (docs_of graph.now) indexes.now }
-    requires tops { IsOutline (docs_of graph.now) tops.now }
+    requires indexes { AreIndexes (docs_of graph.now.given) indexes.now }
+    requires tops { IsOutline (docs_of graph.now.given) tops.now }
     requires workers { (0 < workers) × (workers ≤ 64) }
-    requires first { Movable (units_of (docs_of graph.now)) a }
-    requires second { Movable (units_of (docs_of graph.now)) b }
-    ensures { (x y : Top) → In x (tops_of (units_of (docs_of graph.now))) → In y (tops_of (units_of (docs_of graph.now))) → x.number ≡ a
-        → y.number ≡ b → IfOk result (IsExplained (units_of (docs_of graph.now)) x y) }
+    requires first { Movable (units_of (docs_of graph.now.given)) a }
+    requires second { Movable (units_of (docs_of graph.now.given)) b }
+    ensures { (x y : Top) → In x (tops_of (units_of (docs_of graph.now.given))) → In y (tops_of (units_of (docs_of graph.now.given))) → x.number ≡ a
+        → y.number ≡ b → IfOk result (IsExplained (units_of (docs_of graph.now.given)) x y) }
 {
     look_at_tops(graph, indexes);
     let movable = movable_of(alloc, tops)?;

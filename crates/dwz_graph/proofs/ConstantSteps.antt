@@ -12,7 +12,7 @@ use Rattle.dwz_model.specs.declared.fault.Reason.TheVariants.{BadFile}
 use Rattle.dwz_def_reading.specs.Units.{RawUnit}
 use Rattle.dwz_def_reading.specs.Documents.{File, only}
 use Rattle.dwz_def_reading.specs.LineTables.{FileTable}
-use Rattle.dwz_def_reading.specs.Meanings.{MeaningContext, constant_value, number_of, path_by, stmt_list}
+use Rattle.dwz_def_reading.specs.Meanings.{Common, MeaningContext, constant_value, number_of, path_by, stmt_list}
 use Rattle.dwz_def_reading.specs.Classes.{names_file}
 use Rattle.dwz_def_reading.specs.Meant.{file_by, is_zero, path_or, row_of_table}
 use Rattle.dwz_def_reading.specs.Shared.{NamedList}
@@ -53,18 +53,18 @@ constant_found s a o = by (names_file a.pair.name) where
   by true = file_found s a o
   by false = refl
 
-pub constant_goes : {Y : Type 0} (raw : List RawUnit) (s : MeaningContext ℕ) (n : ℕ) (before : List NamedList) (st : State) (files : Files) (a : RawAttr) (line : Option ℕ) (result : Result Y ReadErr)
+pub constant_goes : {Y : Type 0} (common : Option (Common ℕ)) (raw : List RawUnit) (s : MeaningContext ℕ) (n : ℕ) (before : List NamedList) (st : State) (files : Files) (a : RawAttr) (line : Option ℕ) (result : Result Y ReadErr)
     → line ≡ stmt_list s → IsState raw s n before st
     → SaysConstant s.around.sources line a.pair.name a.at (number_of a.raw) files result
-    → Goes raw (IsState raw s n) before st (record st { files = files }) result (map_ok (found_in []) (if names_file a.pair.name then file_by (stmt_list s) s a else Ok (constant_value a)))
-constant_goes raw s n before st files a line result is k h =
-    subst (λ (r : Result Found Fault). Goes raw (IsState raw s n) before st (record st { files = files }) result r)
+    → Goes common raw (IsState raw s n) before st (record st { files = files }) result (map_ok (found_in []) (if names_file a.pair.name then file_by (stmt_list s) s a else Ok (constant_value a)))
+constant_goes common raw s n before st files a line result is k h =
+    subst (λ (r : Result Found Fault). Goes common raw (IsState raw s n) before st (record st { files = files }) result r)
     (sym (ap (λ (o : Option ℕ). map_ok (found_in []) (if names_file a.pair.name then file_by o s a else Ok (constant_value a))) (sym is) ∙ constant_found s a line))
     (by result h) where
       by : {Z : Type 0} → (r : Result Z ReadErr) → SaysConstant s.around.sources line a.pair.name a.at (number_of a.raw) files r
-          → Goes raw (IsState raw s n) before st (record st { files = files }) r (map_ok none_found (number_there s.around.sources line a.pair.name a.at (number_of a.raw)))
+          → Goes common raw (IsState raw s n) before st (record st { files = files }) r (map_ok none_found (number_there s.around.sources line a.pair.name a.at (number_of a.raw)))
       by (Ok y) g =
-          subst (λ (r : Result Found Fault). Goes {Y = Unit {0}} raw (IsState raw s n) before st (record st { files = files }) (Ok tt) r) (sym (ap (map_ok none_found) g.1))
-          (added_none raw (IsState raw s n) before st (record st { files = files }) refl (with_files raw s n before st files g.0 k))
+          subst (λ (r : Result Found Fault). Goes {Y = Unit {0}} common raw (IsState raw s n) before st (record st { files = files }) (Ok tt) r) (sym (ap (map_ok none_found) g.1))
+          (added_none common raw (IsState raw s n) before st (record st { files = files }) refl (with_files raw s n before st files g.0 k))
       by (Err NoMemory) g = tt
       by (Err (Refused f)) g = ap (map_ok none_found) g

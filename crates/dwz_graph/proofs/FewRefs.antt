@@ -1,7 +1,7 @@
 -- Each reference takes a byte of `.debug_info` at least, so there are no more of them than bytes.
 use Rattle.std.proofs.Common.{◌≡◌, ℕ, ◌+◌, ◌<◌, ◌≤◌, Bool, true, false, List, [], ◌∷◌, ◌++◌, length, suc, Option, None, Some, Result, Ok, Err, refl, sym, ap, subst, ◌∙◌, arith}
 use Rattle.std.specs.Prelude.{ℤ, ◌==◌, ◌||◌, ◌&&◌, not, if◌then◌else◌}
-use Rattle.std.specs.List.{list_all}
+use Rattle.std.specs.List.{filter, list_all}
 use Rattle.std.proofs.lemmas.Bool.{eqb-true, false≢true}
 use Rattle.std.proofs.lemmas.List.{length-append, length-map}
 use Rattle.dwz_def_reading.specs.Input.{input}
@@ -9,12 +9,14 @@ use Rattle.dwz_def_reading.proofs.PaddedLemmas.{some_groups}
 use Rattle.dwz_def_reading.specs.Shape.{Shape}
 use Rattle.dwz_def_reading.specs.Shape.TheVariants.{Nothing, Refused, Fixed1, Fixed2, Fixed3, Fixed4, Fixed8, Fixed16, Uleb, Sleb, ZeroEnded, Block1, Block2, Block4, BlockUleb, Address}
 use Rattle.dwz_def_reading.specs.Forms.{form_rows}
+use Rattle.dwz_def_reading.specs.Modes.{forms_with, free_forms}
+use Rattle.dwz_def_reading.specs.Rows.{RowView, has}
 use Rattle.dwz_model.specs.declared.fault.Fault.{Fault}
 use Rattle.dwz_model.specs.declared.place.Pair.{Pair}
-use Rattle.dwz_def_reading.specs.Entries.{IsAttr, Mode, RawAttr, RawEntry, SpellsAttrs, SpellsEntry, root_position, SpellsFront, UnitContext, given}
+use Rattle.dwz_def_reading.specs.Entries.{IsAttr, Mode, RawAttr, RawEntry, SpellsAttrs, SpellsEntry, root_position, SpellsFront, UnitContext, codes_of_common}
 use Rattle.dwz_def_reading.specs.Trees.{End, Entry, Forest, IfChildren, Position, SpellsForest}
 use Rattle.dwz_def_reading.specs.Units.{RawUnit, SpellsUnit, SpellsUnits, units_at}
-use Rattle.dwz_def_reading.specs.Values.{Raw, constant_of, SpellsShape, SpellsValue, shape_of}
+use Rattle.dwz_def_reading.specs.Values.{Raw, constant_of, SpellsShape, SpellsValue, shape_of, written_rows}
 use Rattle.dwz_def_reading.proofs.UnitListLemmas.{units_found}
 use Rattle.dwz_def_reading.proofs.CaseFacts.{and_left}
 use Rattle.dwz_def_reading.specs.Documents.{Kind, Sec, Value, only}
@@ -36,10 +38,10 @@ use Rattle.dwz_def_reading.proofs.MeaningLemmas.{value_agrees}
 use Rattle.dwz_def_reading.proofs.StandLemmas.{within_stands}
 use Rattle.dwz_graph.specs.Named.{Found, and_then, attr_named, collect, entry_named, found_in, joined, kind_named, map_ok, nothing_found, preorder, unit_named, units_named, value_refs}
 use Rattle.dwz_graph.proofs.NamedLemmas.{collect_append}
-use Rattle.dwz_unit.specs.Modes.{mode_of}
+use Rattle.dwz_unit.specs.Modes.{forms_of, mode_of}
 use Rattle.dwz_unit.specs.Rows.{Source, or_none, units_of}
 use Rattle.dwz_unit.specs.declared.mode.FileKind.{FileKind}
-use Rattle.dwz_graph.specs.Given.{AreGiven}
+use Rattle.dwz_unit.specs.declared.mode.FileKind.TheVariants.{Given, Common as CommonFile, Back}
 
 -- ---- values that have a byte
 
@@ -96,12 +98,43 @@ names_one OfInfoEntry = true
 names_one OfCommonEntry = true
 names_one _ = false
 
-abbrev takes_if : ClassRow → Bool
-takes_if r = not (names_one r.class) || takes (shape_of form_rows r.form)
+abbrev takes_if : List RowView → ClassRow → Bool
+takes_if forms r = not (names_one r.class) || takes (shape_of forms r.form)
 
-all_take : list_all takes_if class_rows ≡ true
+-- each value that names an entry has a byte, in these forms
+abbrev AllTake : List RowView → Type 0
+AllTake forms = list_all (takes_if forms) class_rows ≡ true
+
+own_take : AllTake form_rows
 unfolding class_rows form_rows
-all_take = refl
+own_take = refl
+
+written_take : AllTake written_rows
+unfolding class_rows form_rows
+written_take = refl
+
+free_take : (sup : Bool) → AllTake (free_forms (forms_with sup))
+unfolding class_rows form_rows has
+free_take true = refl
+free_take false = refl
+
+common_take : (is_root : Bool) → AllTake (filter (λ row. has row.code (codes_of_common is_root)) form_rows)
+unfolding class_rows form_rows has
+common_take true = refl
+common_take false = refl
+
+with_take : (sup : Bool) → AllTake (forms_with sup)
+with_take true = written_take
+with_take false = own_take
+
+kind_take : (kind : FileKind) (tag : ℕ) (is_root : Bool) → AllTake (forms_of kind tag is_root)
+kind_take Given tag is_root = own_take
+kind_take CommonFile tag is_root = common_take is_root
+kind_take (Back sup) tag true = with_take sup
+kind_take (Back sup) tag false = by (tag == 0x3c) where
+  by : (b : Bool) → AllTake (if b then free_forms (forms_with sup) else forms_with sup)
+  by true = free_take sup
+  by false = with_take sup
 
 second : (a b : Bool) → (a && b) ≡ true → b ≡ true
 second true b e = e
@@ -111,14 +144,14 @@ must : (a b : Bool) → (not a || b) ≡ true → a ≡ true → b ≡ true
 must true b e t = e
 must false b e t = absurd (false≢true t)
 
-class_takes : (rows : List ClassRow) (form : ℕ) → list_all takes_if rows ≡ true → names_one (class_in rows form) ≡ true → takes (shape_of form_rows form) ≡ true
+class_takes : (forms : List RowView) (rows : List ClassRow) (form : ℕ) → list_all (takes_if forms) rows ≡ true → names_one (class_in rows form) ≡ true → takes (shape_of forms form) ≡ true
 unfolding class_in
-class_takes [] form all one = absurd (false≢true one)
-class_takes (r ∷ rows) form all one = by (r.form == form) refl (class_takes rows form (second (takes_if r) (list_all takes_if rows) all)) where
-  by : (b : Bool) → (r.form == form) ≡ b → (names_one (class_in rows form) ≡ true → takes (shape_of form_rows form) ≡ true) → takes (shape_of form_rows form) ≡ true
+class_takes forms [] form all one = absurd (false≢true one)
+class_takes forms (r ∷ rows) form all one = by (r.form == form) refl (class_takes forms rows form (second (takes_if forms r) (list_all (takes_if forms) rows) all)) where
+  by : (b : Bool) → (r.form == form) ≡ b → (names_one (class_in rows form) ≡ true → takes (shape_of forms form) ≡ true) → takes (shape_of forms form) ≡ true
   by true same later =
       let here : names_one r.class ≡ true = ap (λ (b : Bool). names_one (if b then r.class else class_in rows form)) (sym same) ∙ one in
-      ap (λ (n : ℕ). takes (shape_of form_rows n)) (sym (eqb-true r.form form same)) ∙ must (names_one r.class) (takes (shape_of form_rows r.form)) (and_left (takes_if r) (list_all takes_if rows) all)
+      ap (λ (n : ℕ). takes (shape_of forms n)) (sym (eqb-true r.form form same)) ∙ must (names_one r.class) (takes (shape_of forms r.form)) (and_left (takes_if forms r) (list_all (takes_if forms) rows) all)
       here
   by false other later = later (ap (λ (b : Bool). names_one (if b then r.class else class_in rows form)) (sym other) ∙ one)
 
@@ -131,12 +164,12 @@ lie_many (o ∷ os) from to h = let rest = lie_many os (o.at + o.width) to h.2 i
 no_refs : (v w : Value ℕ) (n : ℕ) → v ≡ w → value_refs w ≡ [] → length (value_refs v) ≤ n
 no_refs v w n same none = let e = ap (λ (x : Value ℕ). length (value_refs x)) same ∙ ap (λ (x : List ℕ). length x) none in omega arith
 
-module _ (s : MeaningContext ℕ) (pair : Pair) (a : RawAttr) (start : ℕ) (bytes : List ℕ) (is : IsAttr form_rows pair a start bytes) where
-  spelled : SpellsShape (shape_of form_rows a.pair.form) (constant_of a.pair) bytes a.raw
-  spelled = subst (λ (p : Pair). SpellsValue form_rows p bytes a.raw) (sym is.same) is.value
+module _ (forms : List RowView) (take : AllTake forms) (s : MeaningContext ℕ) (pair : Pair) (a : RawAttr) (start : ℕ) (bytes : List ℕ) (is : IsAttr forms pair a start bytes) where
+  spelled : SpellsShape (shape_of forms a.pair.form) (constant_of a.pair) bytes a.raw
+  spelled = subst (λ (p : Pair). SpellsValue forms p bytes a.raw) (sym is.same) is.value
 
   one_takes : (k : Class) → class_of a.pair.form ≡ k → names_one k ≡ true → 0 < length bytes
-  one_takes k e one = shape_takes (shape_of form_rows a.pair.form) (constant_of a.pair) bytes a.raw (class_takes class_rows a.pair.form all_take (ap names_one e ∙ one)) spelled
+  one_takes k e one = shape_takes (shape_of forms a.pair.form) (constant_of a.pair) bytes a.raw (class_takes forms class_rows a.pair.form take (ap names_one e ∙ one)) spelled
 
   one_ref : (v w : Value ℕ) (k : Class) → class_of a.pair.form ≡ k → names_one k ≡ true → v ≡ w → length (value_refs w) ≤ 1 → length (value_refs v) ≤ length bytes
   one_ref v w k e one same few = let some = one_takes k e one in let len = ap (λ (x : Value ℕ). length (value_refs x)) same in omega arith
@@ -159,7 +192,7 @@ module _ (s : MeaningContext ℕ) (pair : Pair) (a : RawAttr) (start : ℕ) (byt
       (within_stands (expr_context s 1) (suc most_inside) h.expression (block_begins a) (bytes_of a.raw) h.spelled).lie in
       let same = ap (λ (x : Value ℕ). length (value_refs x)) h.value in
       let named = length-map h.expression.operands (λ (o : Operand). s.around.place (target_of s o)) in
-      let held = shape_holds (shape_of form_rows a.pair.form) (constant_of a.pair) bytes a.raw spelled in
+      let held = shape_holds (shape_of forms a.pair.form) (constant_of a.pair) bytes a.raw spelled in
       omega arith
 
   value_few : (k : Class) (v : Value ℕ) → class_of a.pair.form ≡ k → MeansAs k s a v → length (value_refs v) ≤ length bytes
@@ -221,30 +254,31 @@ few_both (Ok a) (Ok b) m n h k f is =
 few_more : (r : Result Found Fault) (m n : ℕ) → m ≤ n → Few r m → Few r n
 few_more r m n le h f is = let low = h f is in omega arith
 
-attrs_few : (s : MeaningContext ℕ) (pairs : List Pair) (attrs : List RawAttr) (start : ℕ) (bytes : List ℕ) → SpellsAttrs form_rows pairs attrs start bytes
+attrs_few : (forms : List RowView) (take : AllTake forms) (s : MeaningContext ℕ) (pairs : List Pair) (attrs : List RawAttr) (start : ℕ) (bytes : List ℕ) → SpellsAttrs forms pairs attrs start bytes
     → Few (collect (attr_named s) attrs) (length bytes)
 unfolding collect
-attrs_few s [] [] start bytes is = few_none (length bytes)
-attrs_few s [] (a ∷ attrs) start bytes is = absurd is
-attrs_few s (pair ∷ pairs) [] start bytes is = absurd is
-attrs_few s (pair ∷ pairs) (a ∷ attrs) start bytes is =
+attrs_few forms take s [] [] start bytes is = few_none (length bytes)
+attrs_few forms take s [] (a ∷ attrs) start bytes is = absurd is
+attrs_few forms take s (pair ∷ pairs) [] start bytes is = absurd is
+attrs_few forms take s (pair ∷ pairs) (a ∷ attrs) start bytes is =
     let len = ap (λ (w : List ℕ). length w) is.parts in
     let parts = length-append is.first_bytes is.second_bytes in
     few_more _ (length is.first_bytes + length is.second_bytes) (length bytes) (omega arith)
-    (few_both (attr_named s a) (collect (attr_named s) attrs) (length is.first_bytes) (length is.second_bytes) (attr_few s pair a start is.first_bytes is.first)
-    (attrs_few s pairs attrs (start + length is.first_bytes) is.second_bytes is.second))
+    (few_both (attr_named s a) (collect (attr_named s) attrs) (length is.first_bytes) (length is.second_bytes) (attr_few forms take s pair a start is.first_bytes is.first)
+    (attrs_few forms take s pairs attrs (start + length is.first_bytes) is.second_bytes is.second))
 
 -- ---- entries and units
 
-module _ (room : ℕ) (s : MeaningContext ℕ) (c : UnitContext) (mode : c.mode ≡ given room) where
+module _ (kind : FileKind) (room : ℕ) (s : MeaningContext ℕ) (c : UnitContext) (mode : c.mode ≡ mode_of kind room) where
   entry_few : (p : Position) (e : RawEntry) (start : ℕ) (bytes : List ℕ) → SpellsEntry c p e start bytes → Few (entry_named s e) (length bytes)
   entry_few p e start bytes is =
       let t = is.parts in
       let len = ap (λ (w : List ℕ). length w) t.parts in
       let parts = length-append t.first_bytes t.second_bytes in
-      let rows : SpellsAttrs form_rows is.decl.pairs e.attrs (start + length t.first_bytes) t.second_bytes =
+      let forms = forms_of kind c.root_tag (p.depth == 1) in
+      let rows : SpellsAttrs forms is.decl.pairs e.attrs (start + length t.first_bytes) t.second_bytes =
       subst (λ (m : Mode). SpellsAttrs (m.forms c.root_tag (p.depth == 1)) is.decl.pairs e.attrs (start + length t.first_bytes) t.second_bytes) mode t.second in
-      few_more _ (length t.second_bytes) (length bytes) (omega arith) (attrs_few s is.decl.pairs e.attrs (start + length t.first_bytes) t.second_bytes rows)
+      few_more _ (length t.second_bytes) (length bytes) (omega arith) (attrs_few forms (kind_take kind c.root_tag (p.depth == 1)) s is.decl.pairs e.attrs (start + length t.first_bytes) t.second_bytes rows)
 
   if_few : (flag : Bool) (f : Forest RawEntry) (bytes : List ℕ) (Spelled : Type 0) → IfChildren flag f Spelled bytes → (Spelled → Few (collect (entry_named s) (preorder f)) (length bytes))
       → Few (collect (entry_named s) (preorder f)) (length bytes)
@@ -273,8 +307,8 @@ kind_few : (s : MeaningContext ℕ) (r : Result _ Fault) → Few (map_ok (λ (k 
 kind_few s (Err e) f is = absurd (let both : Err e ≡ Ok f = is in cc)
 kind_few s (Ok k) f is = few_none 0 f is
 
-module _ (abbrevs : List ℕ) (room : ℕ) (around : Around ℕ) where
-  unit_few : (u : RawUnit) (before start : ℕ) (bytes : List ℕ) → SpellsUnit abbrevs (given room) before u start bytes → Few (unit_named around u) (length bytes)
+module _ (abbrevs : List ℕ) (kind : FileKind) (room : ℕ) (around : Around ℕ) where
+  unit_few : (u : RawUnit) (before start : ℕ) (bytes : List ℕ) → SpellsUnit abbrevs (mode_of kind room) before u start bytes → Few (unit_named around u) (length bytes)
   unfolding collect
   unit_few u before start bytes is =
       let s = scope_of around u in
@@ -286,14 +320,14 @@ module _ (abbrevs : List ℕ) (room : ℕ) (around : Around ℕ) where
       let pad = length-append is.tree is.padding in
       let inner = ap (λ (w : List ℕ). length w) t.parts in
       let both = length-append t.first_bytes t.second_bytes in
-      let root = entry_few room s c mode (root_position before) u.root (start + length is.header) t.first_bytes t.first in
-      let below = if_few room s c mode u.root.children u.below t.second_bytes _ t.second
-      (λ q. entries_few room s c mode u.below _ (start + length is.header + length t.first_bytes) t.second_bytes q) in
+      let root = entry_few kind room s c mode (root_position before) u.root (start + length is.header) t.first_bytes t.first in
+      let below = if_few kind room s c mode u.root.children u.below t.second_bytes _ t.second
+      (λ q. entries_few kind room s c mode u.below _ (start + length is.header + length t.first_bytes) t.second_bytes q) in
       few_more _ (0 + (length t.first_bytes + length t.second_bytes)) (length bytes) (omega arith)
       (few_both (kind_named s u.kind) _ 0 (length t.first_bytes + length t.second_bytes) (kind_few s (kind_meaning s u.kind))
       (few_both (entry_named s u.root) _ (length t.first_bytes) (length t.second_bytes) root below))
 
-  units_few : (raw : List RawUnit) (before start : ℕ) (bytes : List ℕ) → SpellsUnits abbrevs (given room) before raw start bytes → Few (units_named around raw) (length bytes)
+  units_few : (raw : List RawUnit) (before start : ℕ) (bytes : List ℕ) → SpellsUnits abbrevs (mode_of kind room) before raw start bytes → Few (units_named around raw) (length bytes)
   unfolding collect
   units_few [] before start bytes is = few_none (length bytes)
   units_few (u ∷ raw) before start bytes is =
@@ -303,15 +337,13 @@ module _ (abbrevs : List ℕ) (room : ℕ) (around : Around ℕ) where
       (few_both (unit_named around u) _ (length is.first_bytes) (length is.second_bytes) (unit_few u before start is.first_bytes is.first)
       (units_few raw _ (start + length is.first_bytes) is.second_bytes is.second))
 
-read_few : (abbrevs : List ℕ) (room : ℕ) (around : Around ℕ) (info : List ℕ) (r : Result (List RawUnit) Fault) → units_at abbrevs (given room) 0 (input info 0) ≡ r
+read_few : (abbrevs : List ℕ) (kind : FileKind) (room : ℕ) (around : Around ℕ) (info : List ℕ) (r : Result (List RawUnit) Fault) → units_at abbrevs (mode_of kind room) 0 (input info 0) ≡ r
     → Few (units_named around (or_none r)) (length info)
 unfolding collect
-read_few abbrevs room around info (Err f) e = few_none (length info)
-read_few abbrevs room around info (Ok raw) e = units_few abbrevs room around raw 0 0 info (units_found abbrevs (given room) 0 (input info 0) raw e)
+read_few abbrevs kind room around info (Err f) e = few_none (length info)
+read_few abbrevs kind room around info (Ok raw) e = units_few abbrevs kind room around raw 0 0 info (units_found abbrevs (mode_of kind room) 0 (input info 0) raw e)
 
 -- what the units of a section name
-pub refs_few : (source : Source) → AreGiven source → (around : Around ℕ) (f : Found) → units_named around (units_of source) ≡ Ok f → length f.refs ≤ length source.info
+pub refs_few : (source : Source) (around : Around ℕ) (f : Found) → units_named around (units_of source) ≡ Ok f → length f.refs ≤ length source.info
 unfolding units_of
-refs_few source alone around =
-    subst (λ (k : FileKind). Few (units_named around (or_none (units_at source.abbrevs (mode_of k source.room) 0 (input source.info 0)))) (length source.info)) (sym alone)
-    (read_few source.abbrevs source.room around source.info (units_at source.abbrevs (given source.room) 0 (input source.info 0)) refl)
+refs_few source around = read_few source.abbrevs source.kind source.room around source.info (units_at source.abbrevs (mode_of source.kind source.room) 0 (input source.info 0)) refl

@@ -1,80 +1,52 @@
 -- Files are read one after the other.
 use Rattle.std.proofs.Common.{slice_get, zero}
-use Rattle.std.proofs.Common.{◌≡◌, ℕ, suc, ◌+◌, ◌-◌, List, [], ◌∷◌, ◌++◌, length, Some, None, Result, Ok, Err, refl, sym, ap, subst, ◌∙◌, arith}
-use Rattle.std.proofs.lemmas.List.{append-nil}
+use Rattle.std.proofs.Common.{◌≡◌, ℕ, suc, ◌+◌, ◌-◌, List, [], ◌∷◌, ◌++◌, length, map, Some, Result, Ok, Err, refl, sym, ap, subst, ◌∙◌, arith}
 use Rattle.dwz_model.specs.declared.fault.Fault.{Fault}
 use Rattle.dwz_model.specs.declared.fault.ReadErr.{ReadErr}
-use Rattle.dwz_model.specs.declared.fault.ReadErr.TheVariants.{NoMemory, Refused}
 use Rattle.dwz_model.specs.declared.fault.Refusal.{Refusal}
 use Rattle.dwz_def_reading.specs.Reading.{◌>>=◌}
 use Rattle.dwz_def_reading.specs.Documents.{Doc}
 use Rattle.dwz_def_reading.specs.ElfReading.{ElfView, elf_of}
 use Rattle.dwz_def_reading.specs.Faults.{Fails}
-use Rattle.dwz_def_reading.specs.Files.{Limits, file_meaning, files_meaning, limits_after, longest_files, machine_of, most_entries, no_files_before, refused_in, with_doc}
+use Rattle.dwz_def_reading.specs.Files.{Limits, file_meaning, file_meaning_by, files_meaning, given_rule, limits_after, machine_of, no_files_before, refused_in, with_doc}
+use Rattle.dwz_def_reading.specs.Finished.{files_meaning_by}
+use Rattle.dwz_def_reading.specs.Rules.{ReadingRule}
 use Rattle.dwz_def_reading.specs.Units.{RawUnit, entries_in}
 use Rattle.dwz_graph.specs.declared.file.File.{File}
+use Rattle.dwz_graph.specs.ByRule.{AreReadAs, AreReadBy, IsReadBy}
 use Rattle.dwz_graph.specs.Files.{AreRead, FilesFail, HasFile, IsRead, docs_of, or_none, refused_file}
+use Rattle.dwz_graph.proofs.FilesBy.{AreSaid, all_said, given_alike, one_fails}
+use Rattle.dwz_graph.proofs.OneAfter.{many_as}
+use Rattle.dwz_unit.specs.declared.mode.FileKind.{FileKind}
 use Rattle.dwz_unit.specs.Rows.{units_of}
-
-abbrev after_docs : List (Doc ℕ) → Result (List (Doc ℕ)) Refusal → Result (List (Doc ℕ)) Refusal
-after_docs docs (Ok others) = Ok (docs ++ others)
-after_docs docs (Err r) = Err r
-
--- files behind some that are read
-record Goes (l : Limits) (n : ℕ) (xs : List (List ℕ)) (end : Limits) : Type 0 where
-  docs : List (Doc ℕ)
-  on : (ys : List (List ℕ)) → files_meaning l n (xs ++ ys) ≡ after_docs docs (files_meaning end (n + length xs) ys)
-
-none_before : (r : Result (List (Doc ℕ)) Refusal) → r ≡ after_docs [] r
-none_before (Ok docs) = refl
-none_before (Err e) = refl
-
-one_before : (doc : Doc ℕ) (docs : List (Doc ℕ)) (r : Result (List (Doc ℕ)) Refusal) → (after_docs docs r >>= with_doc doc) ≡ after_docs (doc ∷ docs) r
-one_before doc docs (Ok others) = refl
-one_before doc docs (Err e) = refl
 
 pub step : (l : Limits) (n : ℕ) (b : List ℕ) (raw : List RawUnit) (doc : Doc ℕ) (rest : List (List ℕ)) → file_meaning l b ≡ Ok (raw, doc)
     → files_meaning l n (b ∷ rest) ≡ (files_meaning (limits_after l b raw) (suc n) rest >>= with_doc doc)
 unfolding files_meaning
 step l n b raw doc rest e = ap (λ (r : Result (List RawUnit × Doc ℕ) Fault). refused_in n r >>= λ x. files_meaning (limits_after l b x.0) (suc n) rest >>= with_doc x.1) e
 
-goes : (l : Limits) (n : ℕ) (xs : List (List ℕ)) (fs : List File) (end : Limits) → AreRead l n xs fs end → Goes l n xs end
-goes l n [] [] end h = record {
-  docs = [];
-  on = λ ys. (let e : n ≡ n + 0 = omega arith in none_before (files_meaning l n ys) ∙ (λ i. after_docs [] (files_meaning (h i) (e i) ys)));
-}
-goes l n [] (f ∷ fs) end h = absurd h
-goes l n (b ∷ xs) [] end h = absurd h
-goes l n (b ∷ xs) (f ∷ fs) end h =
-    let rest = goes (limits_after l b (units_of f.units)) (suc n) xs fs end h.1 in
-    let r = h.0 in
-    record {
-      docs = r.doc ∷ rest.docs;
-      on = λ ys. (
-          let e : suc n + length xs ≡ n + suc (length xs) = omega arith in
-          step l n b (units_of f.units) r.doc (xs ++ ys) r.means
-          ∙ ap (λ (x : Result (List (Doc ℕ)) Refusal). x >>= with_doc r.doc) (rest.on ys)
-          ∙ one_before r.doc rest.docs (files_meaning end (suc n + length xs) ys)
-          ∙ ap (λ (k : ℕ). after_docs (r.doc ∷ rest.docs) (files_meaning end k ys)) e);
-    }
+-- ---- one after the other
 
-pub are_more : (l : Limits) (n : ℕ) (xs : List (List ℕ)) (fs : List File) (end next : Limits) (b : List ℕ) (f : File) → AreRead l n xs fs end → IsRead end (n + length xs) b f
-    → limits_after end b (units_of f.units) ≡ next → AreRead l n (xs ++ b ∷ []) (fs ++ f ∷ []) next
-are_more l n [] [] end next b f h r e = (
-  subst (λ (m : Limits). IsRead m n b f) (sym h) (subst (λ (k : ℕ). IsRead end k b f) (let none : n + 0 ≡ n = omega arith in none) r),
-  ap (λ (m : Limits). limits_after m b (units_of f.units)) h ∙ e,
-)
-are_more l n [] (g ∷ fs) end next b f h r e = absurd h
-are_more l n (x ∷ xs) [] end next b f h r e = absurd h
-are_more l n (x ∷ xs) (g ∷ fs) end next b f h r e =
-    let one : n + suc (length xs) ≡ suc n + length xs = omega arith in
-    (h.0, are_more (limits_after l x (units_of g.units)) (suc n) xs fs end next b f h.1 (subst (λ (k : ℕ). IsRead end k b f) one r) e)
+-- the units of files that were read
+abbrev pub raws_of : List File → List (List RawUnit)
+raws_of fs = map (λ (f : File). units_of f.units) fs
 
-all_read : (l : Limits) (xs : List (List ℕ)) (fs : List File) (end : Limits) → AreRead l 0 xs fs end → (docs : List (Doc ℕ)) × (files_meaning l 0 xs ≡ Ok docs)
-unfolding files_meaning
-all_read l xs fs end h =
-    let g = goes l 0 xs fs end h in
-    (g.docs, ap (files_meaning l 0) (sym (append-nil xs)) ∙ g.on [] ∙ ap (λ (w : List (Doc ℕ)). Ok w) (append-nil g.docs))
+module _ (Is : Limits → ℕ → List ℕ → File → Type 0) where
+  -- each says what a document does
+  pub are_said : (rule : ReadingRule ℕ) → ((l : Limits) (n : ℕ) (b : List ℕ) (f : File) → Is l n b f → (doc : Doc ℕ) × (file_meaning_by rule l b ≡ Ok (units_of f.units, doc)))
+      → (l : Limits) (n : ℕ) (xs : List (List ℕ)) (fs : List File) (end : Limits) → AreReadAs Is l n xs fs end → AreSaid (λ (k : ℕ). rule) l n xs (raws_of fs) end
+  are_said rule says l n [] [] end h = h
+  are_said rule says l n [] (f ∷ fs) end h = absurd h
+  are_said rule says l n (b ∷ xs) [] end h = absurd h
+  are_said rule says l n (b ∷ xs) (f ∷ fs) end h = (says l n b f h.0, are_said rule says (limits_after l b (units_of f.units)) (suc n) xs fs end h.1)
+
+-- ---- files that are given
+
+given_said : (l : Limits) (n : ℕ) (xs : List (List ℕ)) (fs : List File) (end : Limits) → AreRead l n xs fs end → AreSaid (λ (k : ℕ). given_rule) l n xs (raws_of fs) end
+given_said = are_said IsRead given_rule (λ l n b f r. (r.doc, r.means))
+
+pub given_read : (l : Limits) (xs : List (List ℕ)) (fs : List File) (end : Limits) → AreRead l 0 xs fs end → (docs : List (Doc ℕ)) × (files_meaning l 0 xs ≡ Ok docs)
+given_read l xs fs end h = let r = all_said (λ (k : ℕ). given_rule) l 0 xs (raws_of fs) end (given_said l 0 xs fs end h) in (r.0, given_alike l 0 xs ∙ r.1)
 
 or_same : (r : Result (List (Doc ℕ)) Refusal) (docs : List (Doc ℕ)) → r ≡ Ok docs → r ≡ Ok (or_none r)
 or_same (Ok others) docs e = refl
@@ -82,37 +54,36 @@ or_same (Err f) docs e = absurd cc
 
 pub files_read : (xs : List (List ℕ)) (fs : List File) (end : Limits) → AreRead no_files_before 0 xs fs end → files_meaning no_files_before 0 xs ≡ Ok (docs_of xs)
 unfolding docs_of
-files_read xs fs end h = let r = all_read no_files_before xs fs end h in or_same (files_meaning no_files_before 0 xs) r.0 r.1
+files_read xs fs end h = let r = given_read no_files_before xs fs end h in or_same (files_meaning no_files_before 0 xs) r.0 r.1
 
-bad_step : (l : Limits) (n : ℕ) (b : List ℕ) (f : Fault) (rest : List (List ℕ)) → file_meaning l b ≡ Err f
-    → files_meaning l n (b ∷ rest) ≡ Err (record { file = n; section = f.section; at = f.at; reason = f.reason })
-unfolding files_meaning
-bad_step l n b f rest e = ap (λ (r : Result (List RawUnit × Doc ℕ) Fault). refused_in n r >>= λ x. files_meaning (limits_after l b x.0) (suc n) rest >>= with_doc x.1) e
+pub files_fail : (e : ReadErr) (l : Limits) (all xs : List (List ℕ)) (fs : List File) (end : Limits) (n : ℕ) (b : List ℕ) (rest : List (List ℕ)) → all ≡ xs ++ b ∷ rest → length xs ≡ n
+    → AreRead l 0 xs fs end → Fails e (file_meaning end b) → FilesFail (refused_file n e) (files_meaning l 0 all)
+files_fail e l all xs fs end n b rest is many h bad =
+    subst (λ (r : Result (List (Doc ℕ)) Refusal). FilesFail (refused_file n e) r) (sym (given_alike l 0 all))
+    (one_fails (λ (k : ℕ). given_rule) e l all xs (raws_of fs) end n b rest is many (given_said l 0 xs fs end h) bad)
 
-pub files_fail : (e : ReadErr) (all xs : List (List ℕ)) (fs : List File) (end : Limits) (n : ℕ) (b : List ℕ) (rest : List (List ℕ)) → all ≡ xs ++ b ∷ rest → length xs ≡ n
-    → AreRead no_files_before 0 xs fs end → Fails e (file_meaning end b) → FilesFail (refused_file n e) (files_meaning no_files_before 0 all)
-files_fail NoMemory all xs fs end n b rest is many h bad = tt
-files_fail (Refused f) all xs fs end n b rest is many h bad =
-    let g = goes no_files_before 0 xs fs end h in
-    let at : 0 + length xs ≡ n = omega arith in
-    ap (files_meaning no_files_before 0) is ∙ g.on (b ∷ rest) ∙ ap (λ (k : ℕ). after_docs g.docs (files_meaning end k (b ∷ rest))) at ∙ ap (after_docs g.docs) (bad_step end n b f rest bad)
+-- ---- files by a rule
+
+module _ (rule : ReadingRule ℕ) (kind : FileKind) where
+  by_said : (l : Limits) (n : ℕ) (xs : List (List ℕ)) (fs : List File) (end : Limits) → AreReadBy rule kind l n xs fs end → AreSaid (λ (k : ℕ). rule) l n xs (raws_of fs) end
+  by_said = are_said (IsReadBy rule kind) rule (λ l n b f r. (r.doc, r.means))
+
+  pub by_read : (l : Limits) (xs : List (List ℕ)) (fs : List File) (end : Limits) → AreReadBy rule kind l 0 xs fs end → (docs : List (Doc ℕ)) × (files_meaning_by (λ (k : ℕ). rule) l 0 xs ≡ Ok docs)
+  by_read l xs fs end h = all_said (λ (k : ℕ). rule) l 0 xs (raws_of fs) end (by_said l 0 xs fs end h)
+
+  pub by_fail : (e : ReadErr) (l : Limits) (all xs : List (List ℕ)) (fs : List File) (end : Limits) (n : ℕ) (b : List ℕ) (rest : List (List ℕ)) → all ≡ xs ++ b ∷ rest → length xs ≡ n
+      → AreReadBy rule kind l 0 xs fs end → Fails e (file_meaning_by rule end b) → FilesFail (refused_file n e) (files_meaning_by (λ (k : ℕ). rule) l 0 all)
+  by_fail e l all xs fs end n b rest is many h bad = one_fails (λ (k : ℕ). rule) e l all xs (raws_of fs) end n b rest is many (by_said l 0 xs fs end h) bad
 
 pub behind_is : (l : Limits) (bytes : List ℕ) (raw : List RawUnit) (elf : ElfView) (b e m : ℕ) → elf ≡ elf_of bytes → b ≡ l.bytes - length bytes → e ≡ l.entries - entries_in raw → m ≡ elf.file.machine
     → record { bytes = b; entries = e; machine = Some m } ≡ limits_after l bytes raw
 unfolding elf_of
 behind_is l bytes raw elf b e m is x y z = let w : m ≡ machine_of bytes = z ∙ ap (λ (v : ElfView). v.file.machine) is in λ i. record { bytes = x i; entries = y i; machine = Some (w i) }
 
-pub first_limits : record { bytes = 536870912; entries = 16777216; machine = None } ≡ no_files_before
-unfolding longest_files most_entries
-first_limits = refl
-
 -- ---- a file by its number
 
 pub as_many : (l : Limits) (n : ℕ) (xs : List (List ℕ)) (fs : List File) (end : Limits) → AreRead l n xs fs end → length fs ≡ length xs
-as_many l n [] [] end h = refl
-as_many l n [] (f ∷ fs) end h = absurd h
-as_many l n (b ∷ xs) [] end h = absurd h
-as_many l n (b ∷ xs) (f ∷ fs) end h = let rest = as_many (limits_after l b (units_of f.units)) (suc n) xs fs end h.1 in omega arith
+as_many = many_as IsRead
 
 pub record IsFileThere (l : Limits) (number : ℕ) (xs : List (List ℕ)) (i : ℕ) (b : List ℕ) (f : File) : Type 0 where
   pub limits : Limits

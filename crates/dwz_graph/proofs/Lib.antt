@@ -2,7 +2,9 @@ pub mod RowLemmas
 pub mod RootLemmas
 pub mod NamedLemmas
 pub mod PlaceLemmas
+pub mod SurroundingLemmas
 pub mod NamedSteps
+pub mod CommonSteps
 pub mod UnitThere
 pub mod ValueSteps
 pub mod TextLemmas
@@ -30,7 +32,16 @@ pub mod LineSteps
 pub mod FewRefs
 mod SharedRows
 pub mod PlainBeside
+mod SupLemmas
+mod OneAfter
+mod ContentLemmas
+mod PlacedFiles
+mod FilesBy
 pub mod AheadLemmas
+mod EnoughRoom
+mod RuleLemmas
+mod KeptLemmas
+mod BesideLemmas
 pub mod FileLemmas
 pub mod GraphLemmas
 mod RoomLemmas

@@ -15,7 +15,7 @@ use Rattle.dwz_def_reading.specs.Units.{RawUnit}
 use Rattle.dwz_def_reading.proofs.TextLemmas.{short_section}
 use Rattle.dwz_def_reading.specs.Documents.{Sec, only}
 use Rattle.dwz_def_reading.specs.LocLists.{LocList}
-use Rattle.dwz_def_reading.specs.Meanings.{MeaningContext, loclists_base, offset_of}
+use Rattle.dwz_def_reading.specs.Meanings.{Common, MeaningContext, loclists_base, offset_of}
 use Rattle.dwz_def_reading.specs.Classes.{names_list}
 use Rattle.dwz_def_reading.specs.Meant.{list_by, list_from, list_meaning, list_read, loc_said}
 use Rattle.dwz_def_reading.specs.NamedLists.{by_base, by_offset, named_at, named_by}
@@ -73,9 +73,9 @@ found_there s slot place a list lt read =
     ap (map_ok (found_in (named_at s slot place))) (meant s a place ∙ ap (λ (r : Result LocList Fault). r >>= loc_said s) (there_at s a.at place lt))
     ∙ ap (λ (r : Result LocList Fault). map_ok (found_in (named_by s slot place r)) (r >>= loc_said s)) read
 
-pub adds_goes : {Y : Type 0} (raw : List RawUnit) (s : MeaningContext ℕ) (n : ℕ) (slot : Option ℕ) (place : ℕ) (a : RawAttr) (before : List NamedList) (old new : State) (result : Result Y ReadErr)
-    → AddsAt raw s n slot a.at place before old new result → Goes raw (IsState raw s n) before old new result (list_found s slot place a)
-adds_goes raw s n slot place a before old new (Ok y) h =
+pub adds_goes : {Y : Type 0} (common : Option (Common ℕ)) (raw : List RawUnit) (s : MeaningContext ℕ) (n : ℕ) (slot : Option ℕ) (place : ℕ) (a : RawAttr) (before : List NamedList) (old new : State) (result : Result Y ReadErr)
+    → AddsAt raw s n slot a.at place before old new result → Goes common raw (IsState raw s n) before old new result (list_found s slot place a)
+adds_goes common raw s n slot place a before old new (Ok y) h =
     let g = h.1 in
     record {
       more = [];
@@ -85,36 +85,36 @@ adds_goes raw s n slot place a before old new (Ok y) h =
       within = tt;
       keeps = g.keeps;
     }
-adds_goes raw s n slot place a before old new (Err NoMemory) h = tt
-adds_goes raw s n slot place a before old new (Err (Refused f)) h = ap (map_ok (found_in (named_at s slot place))) (meant s a place ∙ ap (λ (r : Result LocList Fault). r >>= loc_said s) h)
+adds_goes common raw s n slot place a before old new (Err NoMemory) h = tt
+adds_goes common raw s n slot place a before old new (Err (Refused f)) h = ap (map_ok (found_in (named_at s slot place))) (meant s a place ∙ ap (λ (r : Result LocList Fault). r >>= loc_said s) h)
 
 abbrev offset_found : Bool → MeaningContext ℕ → RawAttr → Result Found Fault
 offset_found b s a = map_ok (found_in (if b then named_at s None (offset_of a) else [])) (if b then list_meaning s a (offset_of a) else Ok (only (Sec (offset_of a))))
 
-pub offset_goes : {Y : Type 0} (raw : List RawUnit) (s : MeaningContext ℕ) (n offset : ℕ) (a : RawAttr) (before : List NamedList) (old new : State) (result : Result Y ReadErr) → offset ≡ offset_of a
+pub offset_goes : {Y : Type 0} (common : Option (Common ℕ)) (raw : List RawUnit) (s : MeaningContext ℕ) (n offset : ℕ) (a : RawAttr) (before : List NamedList) (old new : State) (result : Result Y ReadErr) → offset ≡ offset_of a
     → IsState raw s n before old → AddsOffset raw s n a.pair.name a.at offset before old new result
-    → Goes raw (IsState raw s n) before old new result (offset_found (names_list a.pair.name) s a)
-offset_goes {Y} raw s n offset a before old new result is k h = by (names_list a.pair.name) result (subst (λ (o : ℕ). AddsOffset raw s n a.pair.name a.at o before old new result) is h) where
-  by : (b : Bool) (r : Result Y ReadErr) → AddsIf b raw s n a.at (offset_of a) before old new r → Goes raw (IsState raw s n) before old new r (offset_found b s a)
-  by true r g = adds_goes raw s n None (offset_of a) a before old new r g
-  by false (Ok y) g = added_none raw (IsState raw s n) before old new (ap (λ (x : State). x.refs.items) g) (subst (λ (x : State). IsState raw s n before x) (sym g) k)
+    → Goes common raw (IsState raw s n) before old new result (offset_found (names_list a.pair.name) s a)
+offset_goes {Y} common raw s n offset a before old new result is k h = by (names_list a.pair.name) result (subst (λ (o : ℕ). AddsOffset raw s n a.pair.name a.at o before old new result) is h) where
+  by : (b : Bool) (r : Result Y ReadErr) → AddsIf b raw s n a.at (offset_of a) before old new r → Goes common raw (IsState raw s n) before old new r (offset_found b s a)
+  by true r g = adds_goes common raw s n None (offset_of a) a before old new r g
+  by false (Ok y) g = added_none common raw (IsState raw s n) before old new (ap (λ (x : State). x.refs.items) g) (subst (λ (x : State). IsState raw s n before x) (sym g) k)
   by false (Err e) g = absurd g
 
-pub indexed_goes : {Y : Type 0} (raw : List RawUnit) (s : MeaningContext ℕ) (n index : ℕ) (base : Option ℕ) (a : RawAttr) (before : List NamedList) (old new : State) (result : Result Y ReadErr)
+pub indexed_goes : {Y : Type 0} (common : Option (Common ℕ)) (raw : List RawUnit) (s : MeaningContext ℕ) (n index : ℕ) (base : Option ℕ) (a : RawAttr) (before : List NamedList) (old new : State) (result : Result Y ReadErr)
     → index ≡ offset_of a → base ≡ loclists_base s → AddsIndexed raw s n base a.at index before old new result
-    → Goes raw (IsState raw s n) before old new result (map_ok (found_in (by_base s (offset_of a) (loclists_base s))) (list_from s a (loclists_base s)))
-indexed_goes {Y} raw s n index base a before old new result is based h =
+    → Goes common raw (IsState raw s n) before old new result (map_ok (found_in (by_base s (offset_of a) (loclists_base s))) (list_from s a (loclists_base s)))
+indexed_goes {Y} common raw s n index base a before old new result is based h =
     by (loclists_base s) result (subst (λ (b : Option ℕ). AddsIndexed raw s n b a.at (offset_of a) before old new result) based
     (subst (λ (o : ℕ). AddsIndexed raw s n base a.at o before old new result) is h)) where
       in_slot : (b : ℕ) (o : Option ℕ) (r : Result Y ReadErr) → BySlot raw s n b a.at (offset_of a) o before old new r
-          → Goes raw (IsState raw s n) before old new r (map_ok (found_in (by_offset s b (offset_of a) o)) (list_by s a b o))
+          → Goes common raw (IsState raw s n) before old new r (map_ok (found_in (by_offset s b (offset_of a) o)) (list_by s a b o))
       in_slot b None (Ok y) g = absurd g
       in_slot b None (Err NoMemory) g = tt
       in_slot b None (Err (Refused f)) g = let same : info_fault a.at BadList ≡ f = cc in ap (λ (x : Fault). Err x) same
-      in_slot b (Some offset) r g = adds_goes raw s n (Some (slot_place b (offset_of a))) (b + offset) a before old new r g
+      in_slot b (Some offset) r g = adds_goes common raw s n (Some (slot_place b (offset_of a))) (b + offset) a before old new r g
 
       by : (o : Option ℕ) (r : Result Y ReadErr) → AddsIndexed raw s n o a.at (offset_of a) before old new r
-          → Goes raw (IsState raw s n) before old new r (map_ok (found_in (by_base s (offset_of a) o)) (list_from s a o))
+          → Goes common raw (IsState raw s n) before old new r (map_ok (found_in (by_base s (offset_of a) o)) (list_from s a o))
       by None (Ok y) g = absurd g
       by None (Err NoMemory) g = tt
       by None (Err (Refused f)) g = let same : info_fault a.at BadList ≡ f = cc in ap (λ (x : Fault). Err x) same

@@ -12,7 +12,7 @@ use Rattle.dwz_model.specs.declared.fault.ReadErr.TheVariants.{NoMemory, Refused
 use Rattle.dwz_def_reading.specs.Units.{RawUnit, entries_in}
 use Rattle.dwz_def_reading.specs.declared.exprs.Operand.{Operand}
 use Rattle.dwz_def_reading.specs.Exprs.{Expression, any_operands, bad_operand, expr_at, first_unnamed}
-use Rattle.dwz_def_reading.specs.Meanings.{MeaningContext, entries_for, expr_context, target_of, targets}
+use Rattle.dwz_def_reading.specs.Meanings.{Common, MeaningContext, entries_for, expr_context, target_of, targets}
 use Rattle.dwz_def_reading.specs.Meant.{expr_said}
 use Rattle.dwz_graph.specs.Operands.{AreNumbers, IsUnnamed, LooksUp, NamesAll, expr_named, is_named, lacks_memory}
 use Rattle.dwz_graph.specs.Resolved.{Goes, place_at, places}
@@ -28,6 +28,7 @@ use Rattle.dwz_def_reading.specs.Shared.{NamedList}
 use Rattle.dwz_graph.proofs.NamedSteps.{each_append}
 use Rattle.dwz_graph.proofs.PlaceLemmas.{among_none, among_there}
 use Rattle.dwz_graph.proofs.RowLemmas.{take_here}
+use Rattle.dwz_graph.proofs.SurroundingLemmas.{own_all, own_places}
 
 pub looks_up : (raw : List RawUnit) (s : MeaningContext ℕ) (o : Operand) (first end place : ℕ) (r : Option ℕ) → slice_range (places raw) first end ≡ entries_for s o.base → end ≤ entries_in raw
     → place ≡ target_of s o
@@ -109,17 +110,17 @@ said_found s (Err f) = refl
 asked_all : (s : MeaningContext ℕ) (section : ℕ) (operands : List Operand) (r : Result Expression Fault) → first_unnamed (is_named s) operands ≡ None → asked (expr_context s section) operands r ≡ r
 asked_all s section operands r e = ap (unless_one (expr_context s section) r) e
 
-module _ (raw : List RawUnit) (K : List NamedList → State → Type 0) (before : List NamedList) (s : MeaningContext ℕ) (home : s.around.place ≡ (λ n. n)) (i : Input) (operands : List Operand) where
+module _ (common : Option (Common ℕ)) (raw : List RawUnit) (K : List NamedList → State → Type 0) (before : List NamedList) (s : MeaningContext ℕ) (home : s.around.place ≡ (λ n. n)) (i : Input) (operands : List Operand) where
   -- all are named, and it is an expression
   good : (old new : State) (address : Bool) → ReadsInto 1 i operands (Ok address) → AreNumbers raw s operands old.refs.items new.refs.items → K before new
-      → Goes {Y = Unit {0}} raw K before old new (Ok tt) (expr_named s i)
+      → Goes {Y = Unit {0}} common raw K before old new (Ok tt) (expr_named s i)
   good old new address reads h k = record {
     more = h.more;
     lists = [];
     refs = h.refs;
     is = said_found s (expr_at (expr_context s 1) i) ∙ ap (map_ok (expr_found s)) (reads.1 (expr_context s 1) refl ∙ asked_all s 1 operands (expr_at (any_operands 1) i) h.named ∙ reads.0)
-        ∙ ap (λ (p : ℕ → ℕ). Ok (found (map (λ o. p (target_of s o)) operands) [])) home ∙ ap (λ (w : List ℕ). Ok (found w [])) (sym h.places);
-    within = h.within;
+        ∙ ap (λ (p : ℕ → ℕ). Ok (found (map (λ o. p (target_of s o)) operands) [])) home ∙ ap (λ (w : List ℕ). Ok (found w [])) (sym (own_places common raw h.more h.within ∙ h.places));
+    within = own_all common raw h.more h.within;
     keeps = subst (λ (w : List NamedList). K w new) (sym (append-nil before)) k;
   }
 
@@ -145,7 +146,7 @@ module _ (raw : List RawUnit) (K : List NamedList → State → Type 0) (before 
   operands_fail (Refused f) r old new some reads h = unnamed f r (asks_of r some reads) h
 
   pub expression_read : (old new : State) (r : Result Bool ReadErr) (address : Bool) → r ≡ Ok address → ReadsInto 1 i operands r → AreNumbers raw s operands old.refs.items new.refs.items
-      → K before new → Goes {Y = Unit {0}} raw K before old new (Ok tt) (expr_named s i)
+      → K before new → Goes {Y = Unit {0}} common raw K before old new (Ok tt) (expr_named s i)
   expression_read old new r address is reads h k = good old new address (subst (λ (x : Result Bool ReadErr). ReadsInto 1 i operands x) is reads) h k
 
   bad_by : (e : ReadErr) → ReadsInto 1 i operands (Err e) → first_unnamed (is_named s) operands ≡ None → Fails e (expr_named s i)

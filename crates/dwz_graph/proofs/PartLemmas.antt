@@ -12,22 +12,14 @@ use Rattle.dwz_def_reading.specs.Documents.{Node}
 use Rattle.dwz_def_reading.specs.Meanings.{Around, scope_of}
 use Rattle.dwz_graph.proofs.NamedSteps.{each_append}
 use Rattle.dwz_graph.proofs.RowLemmas.{rows-length}
+use Rattle.dwz_graph.proofs.SurroundingLemmas.{entries_drop, entries_take, own_places}
 use Rattle.dwz_graph.specs.Parts.{AreParted}
-use Rattle.dwz_graph.specs.Resolved.{AreEntries, place_at}
+use Rattle.dwz_graph.specs.Resolved.{AreEntries}
+use Rattle.dwz_graph.specs.Surroundings.{place_among}
 use Rattle.dwz_def_reading.specs.Lists.{Each}
 use Rattle.dwz_unit.specs.Rows.{EntryRow, rows_below, rows_of}
 
 -- ---- one part, and what is behind it
-
-entries_drop : (raw : List RawUnit) (k : ℕ) (numbers : List ℕ) → AreEntries raw numbers → AreEntries raw (drop k numbers)
-entries_drop raw zero numbers h = h
-entries_drop raw (suc k) [] h = h
-entries_drop raw (suc k) (i ∷ numbers) h = entries_drop raw k numbers h.1
-
-entries_take : (raw : List RawUnit) (k : ℕ) (numbers : List ℕ) → AreEntries raw numbers → AreEntries raw (take k numbers)
-entries_take raw zero numbers h = tt
-entries_take raw (suc k) [] h = tt
-entries_take raw (suc k) (i ∷ numbers) h = (h.0, entries_take raw k numbers h.1)
 
 -- a list is its front and what is behind that
 targets_append : (raw : List RawUnit) (numbers xs ys : List ℕ) → AreTargets raw numbers xs → AreTargets raw (drop (length xs) numbers) ys → AreTargets raw numbers (xs ++ ys)
@@ -61,14 +53,15 @@ module _ (around : Around ℕ) (raw : List RawUnit) (refs starts : List ℕ) (pa
       let many : length (node_refs d) ≡ b - a = (let e = ap length part in omega (
         arith,
         e,
-        length-map (take (b - a) (drop a refs)) (place_at raw),
+        length-map (take (b - a) (drop a refs)) (place_among around.common raw),
         length-take (b - a) (drop a refs),
         length-drop a refs,
         ordered,
         upto,
       )) in
+      let own_refs = entries_take raw (b - a) (drop a refs) (entries_drop raw a refs low) in
       let first = targets_more raw (b - a) (drop a refs) (node_refs d)
-      (places_target raw (take (b - a) (drop a refs)) (node_refs d) [] (entries_take raw (b - a) (drop a refs) (entries_drop raw a refs low)) (part ∙ sym (append-nil (node_refs d)))) in
+      (places_target raw (take (b - a) (drop a refs)) (node_refs d) [] own_refs (sym (own_places around.common raw (take (b - a) (drop a refs)) own_refs) ∙ part ∙ sym (append-nil (node_refs d)))) in
       let behind_it : drop (length (node_refs d)) (drop a refs) ≡ drop b refs = ap (λ (k : ℕ). drop k (drop a refs)) many ∙ drop-drop (b - a) a refs
       ∙ ap (λ (k : ℕ). drop k refs) (let z : a + (b - a) ≡ b = omega (arith, ordered) in z) in
       targets_append raw (drop a refs) (node_refs d) (nodes_refs ds) first

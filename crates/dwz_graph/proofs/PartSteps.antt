@@ -16,11 +16,11 @@ use Rattle.dwz_def_reading.specs.Meant.{node_meaning}
 use Rattle.dwz_def_reading.specs.Shared.{NamedList}
 use Rattle.dwz_graph.specs.Named.{Found, attrs_refs, entry_named, found, map_ok}
 use Rattle.dwz_graph.specs.Parts.{AreParted, IsParted, KnowLines}
-use Rattle.dwz_graph.specs.Resolved.{around as surrounds, place_at}
+use Rattle.dwz_graph.specs.Surroundings.{around_in, place_among}
 use Rattle.dwz_def_reading.specs.Lists.{Each}
 use Rattle.dwz_graph.specs.declared.parts.Parts.{Parts}
-use Rattle.dwz_graph.specs.declared.sections.InputSections.{InputSections}
 use Rattle.dwz_graph.specs.declared.state.State.{State}
+use Rattle.dwz_graph.specs.declared.surroundings.Surroundings.{Surroundings}
 use Rattle.dwz_graph.proofs.LineSteps.{no_lines}
 use Rattle.dwz_graph.proofs.NamedLemmas.{node_found, node_lists, node_same}
 use Rattle.dwz_graph.proofs.NamedSteps.{each_append}
@@ -41,8 +41,8 @@ refs_in (Ok f) = f.refs
 refs_in (Err e) = []
 
 module _ (around : Around ℕ) (raw : List RawUnit) where
-  part_named : (row : EntryRow) (u : RawUnit) (d : Node ℕ) (more : List ℕ) (lists : List NamedList) → entry_named (scope_of around u) row.entry ≡ Ok (found (map (place_at raw) more) lists)
-      → node_meaning (scope_of around u) row.entry ≡ Ok d → map (place_at raw) more ≡ attrs_refs d.attrs
+  part_named : (row : EntryRow) (u : RawUnit) (d : Node ℕ) (more : List ℕ) (lists : List NamedList) → entry_named (scope_of around u) row.entry ≡ Ok (found (map (place_among around.common raw) more) lists)
+      → node_meaning (scope_of around u) row.entry ≡ Ok d → map (place_among around.common raw) more ≡ attrs_refs d.attrs
   part_named row u d more lists named means =
       let s = scope_of around u in
       ap refs_in (sym named ∙ node_same s row.entry ∙ ap (map_ok (node_found (node_lists s row.entry))) means)
@@ -53,7 +53,7 @@ module _ (around : Around ℕ) (raw : List RawUnit) where
   -- what the k-th entry names
   abbrev pub NamesMore : ℕ → List ℕ → Type 0
   NamesMore k more = (row : EntryRow) (u : RawUnit) → slice_get (rows_of raw) k ≡ Some row → slice_get raw row.unit ≡ Some u
-      → (lists : List NamedList) × (entry_named (scope_of around u) row.entry ≡ Ok (found (map (place_at raw) more) lists))
+      → (lists : List NamedList) × (entry_named (scope_of around u) row.entry ≡ Ok (found (map (place_among around.common raw) more) lists))
 
   module _ (k : ℕ) (refs new starts more : List ℕ) (longer : new ≡ refs ++ more) (old : AreParted around raw k refs starts) where
     starts' : List ℕ
@@ -85,20 +85,20 @@ module _ (around : Around ℕ) (raw : List RawUnit) where
 
     part' : NamesMore k more → (i : ℕ) (row : EntryRow) (u : RawUnit) (d : Node ℕ) → i < k + 1 → slice_get (rows_of raw) i ≡ Some row → slice_get raw row.unit ≡ Some u
         → node_meaning (scope_of around u) row.entry ≡ Ok d
-        → map (place_at raw) (slice_range new (get_or starts' i 0) (get_or starts' (i + 1) 0)) ≡ attrs_refs d.attrs
+        → map (place_among around.common raw) (slice_range new (get_or starts' i 0) (get_or starts' (i + 1) 0)) ≡ attrs_refs d.attrs
     part' names i row u d lt there unit means = elim (cases_lt i k) [
       | inl less ↦ (
           let r = old.rise i less in
-          (λ j. map (place_at raw) (slice_range (longer j) (start_before i (omega arith) j) (start_before (i + 1) (omega arith) j)))
-          ∙ ap (map (place_at raw)) (range_grown refs more (get_or starts i 0) (get_or starts (i + 1) 0) r.0 r.1)
+          (λ j. map (place_among around.common raw) (slice_range (longer j) (start_before i (omega arith) j) (start_before (i + 1) (omega arith) j)))
+          ∙ ap (map (place_among around.common raw)) (range_grown refs more (get_or starts i 0) (get_or starts (i + 1) 0) r.0 r.1)
           ∙ old.part i row u d less there unit means)
       | inr ge ↦ (
           let same : i ≡ k = omega arith in
           let from = ap (λ (j : ℕ). get_or starts' j 0) same ∙ start_before k (omega arith) ∙ old.last in
           let to = ap (λ (j : ℕ). get_or starts' (j + 1) 0) same ∙ start_last ∙ wide in
           let n = names row u (ap (slice_get (rows_of raw)) (sym same) ∙ there) unit in
-          (λ j. map (place_at raw) (slice_range (longer j) (from j) (to j)))
-          ∙ ap (map (place_at raw)) (range_last refs more (length refs + length more) refl)
+          (λ j. map (place_among around.common raw) (slice_range (longer j) (from j) (to j)))
+          ∙ ap (map (place_among around.common raw)) (range_last refs more (length refs + length more) refl)
           ∙ part_named row u d more n.0 n.1 means)
     ]
 
@@ -178,7 +178,7 @@ entry_of row = row.entry
 -- what an entry of the n-th unit names, whichever way it is found
 pub entry_more : (around : Around ℕ) (raw : List RawUnit) (n : ℕ) (u : RawUnit) (i : ℕ) (row : EntryRow) (more : List ℕ) (lists : List NamedList) → slice_get raw n ≡ Some u
     → entries_in (take n raw) ≤ i → i < entries_in (take n raw) + entry_count u → slice_get (rows_of raw) i ≡ Some row
-    → entry_named (scope_of around u) row.entry ≡ Ok (found (map (place_at raw) more) lists) → NamesMore around raw i more
+    → entry_named (scope_of around u) row.entry ≡ Ok (found (map (place_among around.common raw) more) lists) → NamesMore around raw i more
 entry_more around raw n u i row more lists is low high there named = λ row' u' there' unit. (
     let rows : Some row ≡ Some row' = sym there ∙ there' in
     let one : row ≡ row' = cc in
@@ -188,10 +188,10 @@ entry_more around raw n u i row more lists is low high there named = λ row' u' 
     (lists, (λ k. entry_named (scope_of around (sym same k)) (entry_of (sym one k))) ∙ named))
 
 -- no entry and no unit
-pub none_parted : (sections : InputSections) (raw : List RawUnit) (st : State) (parts : Parts) → st.refs.items ≡ [] → parts.starts.items ≡ 0 ∷ [] → parts.lines.items ≡ [] → IsParted sections raw 0 st parts
+pub none_parted : (s : Surroundings) (raw : List RawUnit) (st : State) (parts : Parts) → st.refs.items ≡ [] → parts.starts.items ≡ 0 ∷ [] → parts.lines.items ≡ [] → IsParted s raw 0 st parts
 unfolding entries_in
-none_parted sections raw st parts refs starts lines = record {
-  starts = λ small. subst (λ (w : List ℕ). AreParted (surrounds sections raw) raw 0 w parts.starts.items) (sym refs)
-      (subst (λ (w : List ℕ). AreParted (surrounds sections raw) raw 0 [] w) (sym starts) (parted_none (surrounds sections raw) raw));
-  lines = subst (λ (w : List (Option ℕ)). KnowLines (surrounds sections raw) raw 0 st.files w) (sym lines) (no_lines (surrounds sections raw) raw st.files);
+none_parted s raw st parts refs starts lines = record {
+  starts = λ small. subst (λ (w : List ℕ). AreParted (around_in s raw) raw 0 w parts.starts.items) (sym refs)
+      (subst (λ (w : List ℕ). AreParted (around_in s raw) raw 0 [] w) (sym starts) (parted_none (around_in s raw) raw));
+  lines = subst (λ (w : List (Option ℕ)). KnowLines (around_in s raw) raw 0 st.files w) (sym lines) (no_lines (around_in s raw) raw st.files);
 }

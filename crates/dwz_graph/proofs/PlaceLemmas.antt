@@ -51,6 +51,10 @@ ascend_at (p ∷ ps) a b zero (suc j) h l m = let r = ascend_from ps (p + 1) b j
 ascend_at (p ∷ ps) a b (suc i) zero h l m = absurd (omega arith)
 ascend_at (p ∷ ps) a b (suc i) (suc j) h l m = ascend_at ps (p + 1) b i j h.1 (omega arith) (omega arith)
 
+pub ascend_long : (ps : List ℕ) (a b : ℕ) → Ascend a ps b → a + length ps ≤ b
+ascend_long [] a b h = omega (arith, h)
+ascend_long (p ∷ ps) a b h = omega (arith, h.0, ascend_long ps (p + 1) b h.1)
+
 -- ---- what is spelled rises
 
 abbrev parent : RawEntry → Bool
@@ -192,6 +196,14 @@ entry_place raw i e is =
 
 pub places_many : (raw : List RawUnit) → length (places raw) ≡ entries_in raw
 places_many raw = length-map (rows_of raw) (λ (row : EntryRow). row.entry.at) ∙ rows-length raw
+
+-- a file has no more entries than bytes of `.debug_info`
+pub entries_within : (s : Source) → entries_in (units_of s) ≤ length s.info
+unfolding units_of
+entries_within s =
+    let raw = units_of s in
+    let long = ascend_long (all_places raw) 0 (length s.info) (read_ascend s.abbrevs (mode_of s.kind s.room) s.info (units_at s.abbrevs (mode_of s.kind s.room) 0 (input s.info 0)) refl) in
+    omega (arith, long, ap (λ (w : List ℕ). length w) (places_are raw), places_many raw)
 
 -- ---- among some of the places
 

@@ -104,6 +104,7 @@ reads_fit l m bytes units doc enough r = record {
   size = enough.size;
   elf = r.elf;
   same_machine = enough.machine;
+  sup = r.sup;
   spelled = units_fit m.entries _ (given l.entries) 0 units 0 _ (let few = enough.entries in omega arith) r.spelled;
   means = r.means;
   machine = r.machine;

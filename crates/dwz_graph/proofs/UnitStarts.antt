@@ -1,20 +1,21 @@
--- Units begin at rising places, and none of a file by itself is partial.
-use Rattle.std.proofs.Common.{◌≡◌, ℕ, ◌+◌, ◌≤◌, Bool, true, false, List, [], ◌∷◌, ◌++◌, length, map, get_or, Some, Result, Ok, Err, slice_get, refl, sym, ap, subst, ◌∙◌, inl, inr, arith}
-use Rattle.std.specs.Prelude.{◌==◌}
+-- Units begin at rising places, one begins where a search finds it, and none of a file by itself is partial.
+use Rattle.std.proofs.Common.{◌≡◌, ℕ, zero, suc, ◌+◌, ◌<◌, ◌≤◌, Bool, true, false, List, [], ◌∷◌, ◌++◌, length, map, get_or, Some, Result, Ok, Err, slice_get, refl, sym, ap, subst, ◌∙◌, inl, inr, arith}
+use Rattle.std.specs.Prelude.{◌==◌, not, if◌then◌else◌}
 use Rattle.std.specs.Option.{option_map}
-use Rattle.std.proofs.lemmas.Bool.{cases_lt, eqb-true, false≢true}
+use Rattle.std.proofs.lemmas.Bool.{cases_lt, cond-false, cond-true, eq-eqb, eqb-true, false≢true, ne_eqb}
 use Rattle.std.proofs.lemmas.List.{length-append, length-map}
 use Rattle.std.proofs.lemmas.Option.{get_or_from_slice_get, slice_get-map}
 use Rattle.dwz_model.specs.declared.fault.Fault.{Fault}
 use Rattle.dwz_def_reading.specs.Input.{input}
 use Rattle.dwz_def_reading.specs.Entries.{Mode, given}
-use Rattle.dwz_def_reading.specs.Units.{RawKind, RawUnit, SpellsHeader, SpellsUnits, is_read, kind_by, unit_type, units_at}
+use Rattle.dwz_def_reading.specs.Units.{CompileUnit, PartialUnit, RawKind, RawUnit, SpellsHeader, TypeUnit, SpellsUnits, is_read, kind_by, unit_type, units_at}
 use Rattle.dwz_def_reading.proofs.UnitListLemmas.{units_found}
 use Rattle.dwz_def_reading.proofs.HeaderLemmas.{header_some}
 use Rattle.dwz_def_reading.specs.Files.{place_if_whole, unit_places}
+use Rattle.dwz_def_reading.specs.Rows.{has}
 use Rattle.dwz_unit.specs.declared.rows.RawUnit.{RawUnit as UnitOfCode}
 use Rattle.dwz_unit.specs.Modes.{mode_of}
-use Rattle.dwz_unit.specs.Rows.{Source, or_none, shown_units, units_of}
+use Rattle.dwz_unit.specs.Rows.{Source, kind_number, or_none, shown_units, units_of}
 use Rattle.dwz_unit.specs.declared.mode.FileKind.{FileKind}
 use Rattle.dwz_graph.specs.Given.{AreGiven}
 use Rattle.dwz_graph.specs.ListRows.{AreDistinct}
@@ -105,3 +106,64 @@ starts_distinct s m n lm ln e =
         | inr le ↦ (let same : m ≡ n = omega arith in same)
       ]
     ]
+
+-- ---- whether a unit that isn't partial begins at a place
+
+abbrev is_whole : RawKind → Bool
+is_whole kind = not (kind_number kind == 3)
+
+first_or : (kind : RawKind) (at p : ℕ) (rest : List ℕ) → has p (place_if_whole kind at ++ rest) ≡ (if at == p then (if is_whole kind then true else has p rest) else has p rest)
+unfolding has
+first_or CompileUnit at p rest = refl
+first_or (TypeUnit signature type_offset) at p rest = refl
+first_or PartialUnit at p rest = by (at == p) where
+  by : (b : Bool) → has p rest ≡ (if b then has p rest else has p rest)
+  by true = refl
+  by false = refl
+
+-- another unit begins there, or none
+behind_first : (u : RawUnit) (raw : List RawUnit) (p : ℕ) → (u.at ≡ p → ⊥) → has p (unit_places (u ∷ raw)) ≡ has p (unit_places raw)
+unfolding unit_places
+behind_first u raw p other = first_or u.kind u.at p (unit_places raw)
+    ∙ cond-false (u.at == p) (if is_whole u.kind then true else has p (unit_places raw)) (has p (unit_places raw)) (ne_eqb u.at p other)
+
+pub no_whole : (raw : List RawUnit) (p : ℕ) → ((k : ℕ) → k < length raw → get_or (starts raw) k 0 ≡ p → ⊥) → has p (unit_places raw) ≡ false
+unfolding unit_places has
+no_whole [] p none = refl
+no_whole (u ∷ raw) p none = behind_first u raw p (none 0 (omega arith)) ∙ no_whole raw p (λ k lt e. none (suc k) (omega arith) e)
+
+none_before : (raw : List RawUnit) (p from to : ℕ) → p < from → Ascend from (starts raw) to → has p (unit_places raw) ≡ false
+unfolding unit_places has
+none_before [] p from to lt up = refl
+none_before (u ∷ raw) p from to lt up = let low = up.0 in behind_first u raw p (λ e. omega arith) ∙ none_before raw p (u.at + 1) to (omega arith) up.1
+
+start_low : (raw : List RawUnit) (from to k : ℕ) (u : RawUnit) → Ascend from (starts raw) to → slice_get raw k ≡ Some u → from ≤ u.at
+start_low [] from to k u up is = absurd cc
+start_low (v ∷ raw) from to zero u up is = let same : v ≡ u = cc in subst (λ (w : RawUnit). from ≤ w.at) same up.0
+start_low (v ∷ raw) from to (suc k) u up is = let low = up.0 in let rest = start_low raw (v.at + 1) to k u up.1 is in omega arith
+
+whole_at : (raw : List RawUnit) (p from to k : ℕ) (u : RawUnit) → Ascend from (starts raw) to → slice_get raw k ≡ Some u → u.at ≡ p → has p (unit_places raw) ≡ is_whole u.kind
+unfolding unit_places
+whole_at [] p from to k u up is at = absurd cc
+whole_at (v ∷ raw) p from to zero u up is at =
+    let same : v ≡ u = cc in
+    subst (λ (w : RawUnit). has p (unit_places (v ∷ raw)) ≡ is_whole w.kind) same
+    (let here : v.at ≡ p = ap (λ (w : RawUnit). w.at) same ∙ at in
+    first_or v.kind v.at p (unit_places raw)
+    ∙ cond-true (v.at == p) (if is_whole v.kind then true else has p (unit_places raw)) (has p (unit_places raw)) (eq-eqb v.at p here)
+    ∙ ap (λ (b : Bool). if is_whole v.kind then true else b) (none_before raw p (v.at + 1) to (omega arith) up.1)
+    ∙ by (is_whole v.kind)) where
+      by : (b : Bool) → (if b then true else false) ≡ b
+      by true = refl
+      by false = refl
+whole_at (v ∷ raw) p from to (suc k) u up is at =
+    let low = start_low raw (v.at + 1) to k u up.1 is in
+    behind_first v raw p (λ e. omega arith) ∙ whole_at raw p (v.at + 1) to k u up.1 is at
+
+pub whole_there : (s : Source) (k p : ℕ) (x : UnitOfCode) → slice_get (shown_units (units_of s)) k ≡ Some x → x.at ≡ p → has p (unit_places (units_of s)) ≡ not (x.kind == 3)
+unfolding units_of
+whole_there s k p x e at =
+    let raw = units_of s in
+    let t = unit_there raw 0 k x e in
+    let up = read_ascend s.abbrevs (mode_of s.kind s.room) s.info (units_at s.abbrevs (mode_of s.kind s.room) 0 (input s.info 0)) refl in
+    whole_at raw p 0 (0 + length s.info) k t.0 up t.1 (ap (λ (w : UnitOfCode). w.at) t.3 ∙ at) ∙ ap (λ (w : UnitOfCode). not (w.kind == 3)) t.3

@@ -1,5 +1,5 @@
 -- Files that are read, one after the other.
-use Rattle.std.specs.Prelude.{◌≡◌, ℕ, zero, suc, List, [], ◌∷◌, length, map, Result, Ok, Err}
+use Rattle.std.specs.Prelude.{◌≡◌, ℕ, zero, suc, ◌+◌, true, false, List, [], ◌∷◌, length, map, Option, Some, None, Result, Ok, Err, unwrap_or}
 use Rattle.dwz_model.specs.declared.fault.GraphErr.{GraphErr}
 use Rattle.dwz_model.specs.declared.fault.GraphErr.TheVariants.{NoMemory as NoMemoryFor, Refused as RefusedOf}
 use Rattle.dwz_model.specs.declared.fault.ReadErr.{ReadErr}
@@ -9,17 +9,23 @@ use Rattle.dwz_def_reading.specs.Documents.{Doc}
 use Rattle.dwz_def_reading.specs.ElfReading.{elf_of}
 use Rattle.dwz_def_reading.specs.Faults.{Fails}
 use Rattle.dwz_def_reading.specs.Files.{Limits, around_of, debug_aranges, debug_info, file_meaning, files_meaning, limits_after}
-use Rattle.dwz_def_reading.specs.Files.{no_files_before, sources_of}
+use Rattle.dwz_def_reading.specs.Files.{file_meaning_by, no_files_before, sources_of}
+use Rattle.dwz_def_reading.specs.Finished.{BesideDocs, FinishedDocs, beside_meaning, common_read, finished_meaning, rule_of_back}
+use Rattle.dwz_def_reading.specs.Finished.{rule_of_common}
+use Rattle.dwz_def_reading.specs.Rules.{ReadingRule}
 use Rattle.dwz_def_reading.specs.Units.{RawUnit, entries_in}
 use Rattle.dwz_def_reading.specs.NamedLists.{lists_of_units}
 use Rattle.dwz_def_reading.specs.Shared.{AreRows}
 use Rattle.dwz_graph.specs.ListRows.{AreOfFile, operand_view}
 use Rattle.dwz_graph.specs.declared.file.File.{File}
 use Rattle.dwz_graph.specs.declared.file.Budget.{Budget}
+use Rattle.dwz_graph.specs.ByRule.{AreReadAs, AreReadBy, IsReadBy, numbered_rule}
 use Rattle.dwz_graph.specs.Given.{AreGiven}
 use Rattle.dwz_graph.specs.Named.{units_refs}
 use Rattle.dwz_graph.specs.Parts.{AreParted, HaveLines}
 use Rattle.dwz_graph.specs.Resolved.{AreEntries, place_at, sources_view}
+use Rattle.dwz_unit.specs.declared.mode.FileKind.{FileKind}
+use Rattle.dwz_unit.specs.declared.mode.FileKind.TheVariants.{Common, Back}
 use Rattle.dwz_unit.specs.Rows.{units_of}
 
 abbrev pub limits_view : Budget → Limits
@@ -51,15 +57,22 @@ ReadsFile l number bytes (Err e) = Fails e (file_meaning l bytes)
 
 -- each file, where the first has those limits and that number, and what is behind the last is left
 abbrev pub AreRead : Limits → ℕ → List (List ℕ) → List File → Limits → Type 0
-AreRead l number [] [] end = l ≡ end
-AreRead l number (bytes ∷ contents) (f ∷ files) end = IsRead l number bytes f × AreRead (limits_after l bytes (units_of f.units))
-    (suc number) contents files end
-AreRead l number _ _ end = ⊥
+AreRead = AreReadAs IsRead
 
 -- the files of a run
 pub record AreKept (contents : List (List ℕ)) (files : List File) : Type 0 where
   pub end : Limits
   pub are : AreRead no_files_before 0 contents files end
+
+-- the same behind other files
+pub record AreReadFrom (l : Limits) (contents : List (List ℕ)) (files : List File) : Type 0 where
+  pub end : Limits
+  pub are : AreRead l 0 contents files end
+
+-- and of files that are read by another rule
+pub record AreReadFromBy (rule : ReadingRule ℕ) (kind : FileKind) (l : Limits) (contents : List (List ℕ)) (files : List File) : Type 0 where
+  pub end : Limits
+  pub are : AreReadBy rule kind l 0 contents files end
 
 -- the file with that number, what those before it leave, and what it says
 abbrev pub HasFile : Limits → List (List ℕ) → ℕ → Limits → List ℕ → List RawUnit → Doc ℕ → Type 0
@@ -81,6 +94,13 @@ refused_file file NoMemory = NoMemoryFor
 
 -- ---- what a graph stands for
 
+-- the contents of the files of a graph, by the rule by which they were read: a finished common file, files that were given, and files that
+-- may be output
+pub record FilesRead : Type 0 where
+  pub common : Option (List ℕ)
+  pub given : List (List ℕ)
+  pub back : List (List ℕ)
+
 abbrev pub or_none : Result (List (Doc ℕ)) Refusal → List (Doc ℕ)
 or_none (Ok docs) = docs
 or_none (Err r) = []
@@ -88,6 +108,22 @@ or_none (Err r) = []
 -- the documents of files, or none where one is refused
 unfoldable pub docs_of : List (List ℕ) → List (Doc ℕ)
 docs_of contents = or_none (files_meaning no_files_before 0 contents)
+
+-- what files say beside a finished common file
+abbrev pub beside_or_none : Result BesideDocs Refusal → BesideDocs
+beside_or_none (Ok said) = said
+beside_or_none (Err r) = record { common = record { machine = 0; units = [] }; docs = [] }
+
+unfoldable pub said_beside : FilesRead → BesideDocs
+said_beside r = beside_or_none (beside_meaning (unwrap_or r.common []) r.given)
+
+-- and what files say that may have been written
+abbrev pub finished_or_none : Result FinishedDocs Refusal → FinishedDocs
+finished_or_none (Ok said) = said
+finished_or_none (Err r) = record { common = None; docs = [] }
+
+unfoldable pub said_finished : FilesRead → FinishedDocs
+said_finished r = finished_or_none (finished_meaning r.common r.back)
 
 -- documents are answered, or the first refusal, unless memory ran out
 abbrev pub FilesFail : {Y : Type 0} → GraphErr → Result Y Refusal → Type 0
@@ -97,3 +133,32 @@ FilesFail (RefusedOf r) read = read ≡ Err r
 abbrev pub FilesAnswer : {X Y : Type 0} → (X → Y) → Result X GraphErr → Result Y Refusal → Type 0
 FilesAnswer view (Ok x) read = read ≡ Ok (view x)
 FilesAnswer view (Err e) read = FilesFail e read
+
+-- something holds of what is answered, or there is the first refusal
+abbrev pub HoldsOrFails : {X Y : Type 0} → (X → Type 0) → Result X GraphErr → Result Y Refusal → Type 0
+HoldsOrFails Holds (Ok x) read = Holds x
+HoldsOrFails Holds (Err e) read = FilesFail e read
+
+-- ---- the files of a graph
+
+-- the common file, as it was read: it comes first, and has the number behind those of the others
+abbrev pub HasCommon : ℕ → Option (List ℕ) → Option File → Type 0
+HasCommon number None None = Unit {0}
+HasCommon number (Some bytes) (Some f) = IsReadBy (numbered_rule (rule_of_common number)) Common no_files_before number bytes f
+HasCommon number _ _ = ⊥
+
+-- The files that may be output, as they were read: without a common file, or beside that one. What stands for places are numbers, so their
+-- rule is the same for all.
+abbrev pub AreBack : Option (List ℕ) → List (List ℕ) → List File → Type 0
+AreBack None contents files = AreReadFromBy (numbered_rule (rule_of_back None 0)) (Back false) no_files_before contents files
+AreBack (Some bytes) contents files =
+    (units : List RawUnit) × (doc : Doc ℕ)
+    × (file_meaning_by (numbered_rule (rule_of_common (length contents))) no_files_before bytes ≡ Ok (units, doc))
+    × AreReadFromBy (numbered_rule (rule_of_back (Some (common_read contents bytes units)) 0)) (Back true) (limits_after no_files_before bytes units)
+    contents files
+
+-- all files of a graph
+pub record AreFilesOf (r : FilesRead) (common : Option File) (given back : List File) : Type 0 where
+  pub common_is : HasCommon (length r.given + length r.back) r.common common
+  pub given_are : AreKept r.given given
+  pub back_are : AreBack r.common r.back back

@@ -4,6 +4,7 @@ pub mod Apart
 pub mod ListRows
 pub mod ListParts
 pub mod State
+pub mod Surroundings
 pub mod Resolved
 pub mod Said
 pub mod Operands
@@ -14,6 +15,7 @@ pub mod TablePlaces
 pub mod Places
 pub mod Ahead
 pub mod Given
+pub mod ByRule
 pub mod Files
 pub mod Rows
 pub mod FlatTops

@@ -4,6 +4,7 @@ use Rattle.std.specs.List.{flat_map}
 use Rattle.dwz_model.specs.declared.fault.Fault.{Fault}
 use Rattle.dwz_def_reading.specs.Documents.{Attr, DwUnit, Entries, Loc, Plain, Value}
 use Rattle.dwz_def_reading.specs.Entries.{RawAttr, RawEntry}
+pub use Rattle.dwz_def_reading.specs.Faults.{map_ok}
 use Rattle.dwz_def_reading.specs.Meanings.{Around, MeaningContext, scope_of}
 use Rattle.dwz_def_reading.specs.Meant.{kind_meaning, meaning}
 use Rattle.dwz_def_reading.specs.NamedLists.{list_of_attr}
@@ -48,10 +49,6 @@ found refs lists = record { refs = refs; lists = lists }
 
 abbrev pub nothing_found : Found
 nothing_found = found [] []
-
-abbrev pub map_ok : {X Y : Type 0} → (X → Y) → Result X Fault → Result Y Fault
-map_ok f (Ok x) = Ok (f x)
-map_ok f (Err e) = Err e
 
 -- what one thing names, and then another
 abbrev pub and_then : Found → Found → Found

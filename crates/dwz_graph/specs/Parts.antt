@@ -12,11 +12,11 @@ use Rattle.dwz_def_reading.specs.Classes.{Class, class_of, names_file}
 use Rattle.dwz_def_reading.specs.Meant.{node_meaning}
 use Rattle.dwz_graph.specs.FileRows.{HasTable, number_at}
 use Rattle.dwz_graph.specs.Named.{attrs_refs, entries_of}
-use Rattle.dwz_graph.specs.Resolved.{around, place_at}
+use Rattle.dwz_graph.specs.Surroundings.{around_in, place_among}
 use Rattle.dwz_graph.specs.declared.files.Files.{Files}
 use Rattle.dwz_graph.specs.declared.parts.Parts.{Parts}
-use Rattle.dwz_graph.specs.declared.sections.InputSections.{InputSections}
 use Rattle.dwz_graph.specs.declared.state.State.{State}
+use Rattle.dwz_graph.specs.declared.surroundings.Surroundings.{Surroundings}
 use Rattle.dwz_unit.specs.Rows.{EntryRow, rows_of}
 
 -- ---- references
@@ -29,7 +29,7 @@ pub record AreParted (around : Around ℕ) (raw : List RawUnit) (count : ℕ) (r
   pub rise : (i : ℕ) → i < count → (slice_index starts i ≤ slice_index starts (i + 1)) × (slice_index starts (i + 1) ≤ length refs)
   pub part : (i : ℕ) (row : EntryRow) (u : RawUnit) (d : Node ℕ) → i < count → slice_get (rows_of raw) i ≡ Some row
       → slice_get raw row.unit ≡ Some u → node_meaning (scope_of around u) row.entry ≡ Ok d
-      → map (place_at raw) (slice_range refs (slice_index starts i) (slice_index starts (i + 1))) ≡ attrs_refs d.attrs
+      → map (place_among around.common raw) (slice_range refs (slice_index starts i) (slice_index starts (i + 1))) ≡ attrs_refs d.attrs
 
 -- ---- line tables
 
@@ -74,7 +74,7 @@ pub record KnowLines (around : Around ℕ) (raw : List RawUnit) (count : ℕ) (f
       → KnowsLine around files u number
 
 -- Behind the units before the n-th: of the entries and units before, as long as there are fewer than 2^32 references.
-pub record IsParted (sections : InputSections) (raw : List RawUnit) (n : ℕ) (st : State) (parts : Parts) : Type 0 where
-  pub starts : length st.refs.items < 2 ^ 32 → AreParted (around sections raw) raw (entries_in (take n raw)) st.refs.items
+pub record IsParted (s : Surroundings) (raw : List RawUnit) (n : ℕ) (st : State) (parts : Parts) : Type 0 where
+  pub starts : length st.refs.items < 2 ^ 32 → AreParted (around_in s raw) raw (entries_in (take n raw)) st.refs.items
       parts.starts.items
-  pub lines : KnowLines (around sections raw) raw n st.files parts.lines.items
+  pub lines : KnowLines (around_in s raw) raw n st.files parts.lines.items

@@ -7,7 +7,7 @@ use Rattle.dwz_model.specs.declared.fault.ReadErr.{ReadErr}
 use Rattle.dwz_def_reading.specs.Lists.{Each}
 use Rattle.dwz_def_reading.specs.Entries.{RawAttr}
 use Rattle.dwz_def_reading.specs.Faults.{Fails}
-use Rattle.dwz_def_reading.specs.Meanings.{Around, MeaningContext, Sources, alone, base_in, first_raw, places_of, scope_of}
+use Rattle.dwz_def_reading.specs.Meanings.{Around, Common, MeaningContext, Sources, alone, base_in, first_raw, places_of, scope_of}
 use Rattle.dwz_def_reading.specs.Texts.{slot, text_at}
 use Rattle.dwz_def_reading.specs.Units.{RawUnit, entries_in, entry_count}
 use Rattle.dwz_def_reading.specs.Documents.{Value, ref}
@@ -15,8 +15,11 @@ use Rattle.dwz_def_reading.specs.Shared.{NamedList}
 use Rattle.dwz_graph.specs.declared.sections.InputSections.{InputSections}
 use Rattle.dwz_graph.specs.declared.state.State.{State}
 use Rattle.dwz_graph.specs.declared.here.Here.{Here}
+use Rattle.dwz_graph.specs.declared.surroundings.Surroundings.{Surroundings}
 use Rattle.dwz_graph.specs.Named.{Found, found, nothing_found}
 pub use Rattle.dwz_graph.specs.Places.{place_at, places}
+pub use Rattle.dwz_graph.specs.Surroundings.{sources_view}
+use Rattle.dwz_graph.specs.Surroundings.{AreAmong, around_in, entries_among, place_among, scope_within}
 use Rattle.dwz_graph.specs.State.{IsBehind, IsState}
 use Rattle.dwz_forms.specs.declared.raw.Raw.{Raw as RawOfCode}
 use Rattle.dwz_forms.specs.RawValues.{raw_view}
@@ -24,17 +27,7 @@ use Rattle.dwz_model.specs.declared.place.Pair.{Pair}
 use Rattle.dwz_unit.specs.declared.rows.RawUnit.{RawUnit as UnitOfCode}
 use Rattle.dwz_unit.specs.Rows.{unit_shown}
 
-abbrev pub sources_view : InputSections → Sources
-sources_view s = record {
-  strs = s.strs.bytes.now;
-  line_strs = s.line_strs.bytes.now;
-  offsets = s.offsets.now;
-  line = s.line.now;
-  lists =
-      s.lists.now;
-}
-
--- what surrounds the units, and what one of them stands in
+-- what surrounds the units of a file by itself, and what one of them stands in
 abbrev pub around : InputSections → List RawUnit → Around ℕ
 around s raw = alone (sources_view s) raw
 
@@ -50,20 +43,21 @@ abbrev pub AreEntries : List RawUnit → List ℕ → Type 0
 AreEntries raw numbers = Each (λ i. i < entries_in raw) numbers
 
 -- Numbers of entries were added, whose places are named, and so were lists.
-pub record Adds (raw : List RawUnit) (old new : List ℕ) (before : List NamedList) (Keeps : List NamedList → Type 0)
-    (named : Result Found Fault) : Type 0 where
+pub record Adds (common : Option (Common ℕ)) (raw : List RawUnit) (old new : List ℕ) (before : List NamedList)
+    (Keeps : List NamedList → Type 0) (named : Result Found Fault) : Type 0 where
   pub more : List ℕ
   pub lists : List NamedList
   pub refs : new ≡ old ++ more
-  pub is : named ≡ Ok (found (map (place_at raw) more) lists)
-  pub within : AreEntries raw more
+  pub is : named ≡ Ok (found (map (place_among common raw) more) lists)
+  pub within : AreAmong common raw more
   pub keeps : Keeps (before ++ lists)
 
 -- what a call added is what is named; or there is a fault, and it is the same
-abbrev pub Goes : {Y : Type 0} → List RawUnit → (List NamedList → State → Type 0) → List NamedList → State → State → Result Y ReadErr
+abbrev pub Goes : {Y : Type 0} → Option (Common ℕ) → List RawUnit → (List NamedList → State → Type 0) → List NamedList → State → State
+    → Result Y ReadErr
     → Result Found Fault → Type 0
-Goes raw K before old new (Ok y) named = Adds raw old.refs.items new.refs.items before (λ lists. K lists new) named
-Goes raw K before old new (Err e) named = Fails e named
+Goes common raw K before old new (Ok y) named = Adds common raw old.refs.items new.refs.items before (λ lists. K lists new) named
+Goes common raw K before old new (Err e) named = Fails e named
 
 -- what is kept of a unit as long as its entries are looked at
 pub record IsHere (raw : List RawUnit) (u : RawUnit) (h : Here) : Type 0 where
@@ -75,12 +69,12 @@ pub record IsHere (raw : List RawUnit) (u : RawUnit) (h : Here) : Type 0 where
   pub line : h.line ≡ base_in (first_raw 0x10 u.root.attrs)
 
 -- what is known of the state, where the entries of that unit are looked at
-abbrev pub StateIn : InputSections → List RawUnit → RawUnit → Here → List NamedList → State → Type 0
-StateIn sections raw u h named st = IsState raw (scope_in sections raw u) h.number named st
+abbrev pub StateIn : Surroundings → List RawUnit → RawUnit → Here → List NamedList → State → Type 0
+StateIn s raw u h named st = IsState raw (scope_within s raw u) h.number named st
 
 -- what is known of it behind the units before that one
-abbrev pub StateAt : InputSections → List RawUnit → ℕ → List NamedList → State → Type 0
-StateAt sections raw n named st = IsBehind raw (around sections raw) n named st
+abbrev pub StateAt : Surroundings → List RawUnit → ℕ → List NamedList → State → Type 0
+StateAt s raw n named st = IsBehind raw (around_in s raw) n named st
 
 -- a test holds, or the call failed with that fault
 abbrev pub Checks : {Y : Type 0} → Result Y ReadErr → Bool → Fault → Type 0
@@ -113,9 +107,11 @@ has_slot_text s None index = false
 has_slot_text s (Some base) index = text_at_slot s (slot s.offsets base index)
 
 -- the number of the entry was added that a reference names, or the fault is the same
-abbrev pub NamesEntry : {Y : Type 0} → List RawUnit → List ℕ → List ℕ → Result Y ReadErr → Result (Value ℕ) Fault → Type 0
-NamesEntry raw old new (Ok y) named = (i : ℕ) × (new ≡ old ++ i ∷ []) × (i < entries_in raw) × (named ≡ Ok (ref (place_at raw i)))
-NamesEntry raw old new (Err e) named = Fails e named
+abbrev pub NamesEntry : {Y : Type 0} → Option (Common ℕ) → List RawUnit → List ℕ → List ℕ → Result Y ReadErr → Result (Value ℕ) Fault
+    → Type 0
+NamesEntry common raw old new (Ok y) named = (i : ℕ) × (new ≡ old ++ i ∷ []) × (i < entries_among common raw)
+    × (named ≡ Ok (ref (place_among common raw i)))
+NamesEntry common raw old new (Err e) named = Fails e named
 
 -- what was asked for holds of what is read, or the fault is the same
 abbrev pub Tells : {X Y : Type 0} → Result Y ReadErr → Result X Fault → Type 0

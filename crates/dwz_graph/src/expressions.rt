@@ -9,12 +9,14 @@ ghost use Rattle.dwz_model.specs.declared.fault.ReadErr.TheVariants.{Refused};
 ghost use Rattle.dwz_model.specs.declared.fault.Reason.TheVariants.{BadOperand};
 ghost use Rattle.dwz_graph.specs.Operands.{LooksUp, NamesAll, expr_named, lacks_memory};
 ghost use Rattle.dwz_graph.specs.Resolved.{Goes, IsHere, StateIn, scope_in};
+ghost use Rattle.dwz_graph.specs.Surroundings.{common_view, scope_within};
 ghost use Rattle.dwz_unit.specs.Rows.{units_of};
 
 use crate::find::find;
 use crate::here::Here;
 use crate::sections::InputSections;
 use crate::state::State;
+use crate::surroundings::Surroundings;
 use dwz_expr::{Operand, read_into};
 use dwz_forms::Raw;
 use dwz_model::{Base, DEBUG_INFO, Fault, ReadErr, Reason};
@@ -73,7 +75,7 @@ pub(crate) fn is_no_memory<T>(read: &Result<T, ReadErr>) -> bool
 /// Adds the entries that operands of a section's expressions name. Refused at the first that names none.
 pub(crate) fn add_operands(
     units: &Units,
-    sections: &InputSections,
+    around: &Surroundings,
     here: &Here,
     section: u8,
     operands: &[Operand],
@@ -81,11 +83,11 @@ pub(crate) fn add_operands(
 ) -> Result<(), ReadErr>
     requires { here.now.end ≤ entries_in (units_of units.now) }
     ensures { (u : RawUnit) → IsHere (units_of units.now) u here.now
-        → NamesAll (units_of units.now) (scope_in sections.now (units_of units.now) u) section operands.now refs.old.items refs.new.items
+        → NamesAll (units_of units.now) (scope_within around.now (units_of units.now) u) section operands.now refs.old.items refs.new.items
         result }
 {
     for operand in operands {
-        match entry_of(units, sections, here, operand) {
+        match entry_of(units, &around.sections, here, operand) {
             Some(number) => refs.push(number)?,
             None => return Err(bad_operand(section, operand.at)),
         }
@@ -107,7 +109,7 @@ fn bytes_of<'a>(raw: &Raw<'a>) -> &'a [u8]
 /// Adds what the expression names that a value is. Refused at the first operator that isn't read, or whose operand names no entry.
 pub(crate) fn add_expression(
     units: &Units,
-    sections: &InputSections,
+    around: &Surroundings,
     here: &Here,
     end: u64,
     raw: &Raw,
@@ -117,9 +119,9 @@ pub(crate) fn add_expression(
     ensures file { state.new.file ≡ state.old.file }
     ensures files { state.new.files ≡ state.old.files }
     ensures goes { (u : RawUnit) (before : List NamedList) → IsHere (units_of units.now) u here.now
-        → StateIn sections.now (units_of units.now) u here.now before state.old
-        → Goes (units_of units.now) (StateIn sections.now (units_of units.now) u here.now) before state.old state.new result
-        (expr_named (scope_in sections.now (units_of units.now) u)
+        → StateIn around.now (units_of units.now) u here.now before state.old
+        → Goes (common_view around.now.common) (units_of units.now) (StateIn around.now (units_of units.now) u here.now) before state.old state.new result
+        (expr_named (scope_within around.now (units_of units.now) u)
         (record { at = end - length (Meanings.bytes_of (raw_view raw.now)); rest = Meanings.bytes_of (raw_view raw.now) })) }
 {
     let bytes = bytes_of(raw);
@@ -131,7 +133,7 @@ pub(crate) fn add_expression(
     }
     add_operands(
         units,
-        sections,
+        around,
         here,
         DEBUG_INFO,
         &state.operands,

@@ -5,10 +5,14 @@ ghost use Rattle.dwz_def_reading.specs.ElfFaults.{file_fault};
 ghost use Rattle.dwz_def_reading.specs.Files;
 ghost use Rattle.dwz_def_reading.specs.ElfReading.{elf_of};
 ghost use Rattle.dwz_graph.specs.Resolved.{sources_view};
+ghost use Rattle.dwz_graph.specs.ByRule.{IsGoodRule, ReadsFileBy};
 ghost use Rattle.dwz_graph.specs.Files.{ReadsFile, limits_view};
 ghost use Rattle.dwz_model.specs.declared.fault.ReadErr.TheVariants.{Refused};
 
-use crate::{InputSections, Resolved, TextSection, resolve};
+use crate::resolving::resolve;
+use crate::rule::Rule;
+use crate::surroundings::Surroundings;
+use crate::{InputSections, Resolved, TextSection};
 use dwz_elf::Elf;
 use dwz_model::{
     DEBUG_ABBREV, DEBUG_ARANGES, DEBUG_INFO, DEBUG_LINE, DEBUG_LINE_STR, DEBUG_LOCLISTS, DEBUG_STR,
@@ -49,6 +53,18 @@ pub(crate) const MOST_ENTRIES: u32 = 1 << 24;
 
 // Where e_machine stands.
 const MACHINE_AT: u64 = 18;
+
+/// What is left before all files.
+#[tactic(auto, unfolding(dwz_def_reading::specs::Files::longest_files, dwz_def_reading::specs::Files::most_entries))]
+pub(crate) fn all_left() -> Budget
+    ensures { limits_view result ≡ Files.no_files_before }
+{
+    Budget {
+        bytes: LONGEST_FILES,
+        entries: MOST_ENTRIES,
+        machine: None,
+    }
+}
 
 fn fault(at: u64, reason: Reason) -> ReadErr
     ensures { result ≡ Refused (file_fault reason at) }
@@ -94,7 +110,45 @@ fn sections_of<'a>(elf: &Elf, bytes: &'a [u8]) -> InputSections<'a>
     }
 }
 
-/// Reads the file with a number, behind others. Refused with its first fault.
+/// Reads the file with a number by a rule, behind others. Refused with its first fault.
+pub(crate) fn read_by<'a>(
+    alloc: Global,
+    number: u32,
+    bytes: &'a [u8],
+    left: &Budget,
+    rule: &Rule<'_>,
+) -> Result<File<'a>, ReadErr>
+    requires { IsGoodRule rule.now }
+    ensures { ReadsFileBy rule.now (limits_view left.now) number bytes.now result }
+{
+    if is_too_long(left, bytes) {
+        return Err(fault(0, Reason::FileSize));
+    }
+    let elf = rule.elf(alloc, bytes)?;
+    if is_other_machine(left.machine, elf.machine()) {
+        return Err(fault(MACHINE_AT, Reason::Machine));
+    }
+    if let Some(fault) = rule.sup_fault(&elf, bytes) {
+        return Err(ReadErr::Refused(fault));
+    }
+    let info = elf.content(bytes, DEBUG_INFO);
+    let abbrevs = elf.content(bytes, DEBUG_ABBREV);
+    let units = rule.units(alloc, info, abbrevs, left.entries)?;
+    let around = Surroundings {
+        sections: sections_of(&elf, bytes),
+        common: rule.common(),
+    };
+    let resolved = resolve(alloc, number, &units, &around)?;
+    let sections = around.sections;
+    Ok(File {
+        elf,
+        sections,
+        units,
+        resolved,
+    })
+}
+
+/// Reads the file with a number by itself, behind others. Refused with its first fault.
 pub(crate) fn read_file<'a>(
     alloc: Global,
     number: u32,
@@ -103,22 +157,5 @@ pub(crate) fn read_file<'a>(
 ) -> Result<File<'a>, ReadErr>
     ensures { ReadsFile (limits_view left.now) number bytes.now result }
 {
-    if is_too_long(left, bytes) {
-        return Err(fault(0, Reason::FileSize));
-    }
-    let elf = Elf::read(alloc, bytes)?;
-    if is_other_machine(left.machine, elf.machine()) {
-        return Err(fault(MACHINE_AT, Reason::Machine));
-    }
-    let info = elf.content(bytes, DEBUG_INFO);
-    let abbrevs = elf.content(bytes, DEBUG_ABBREV);
-    let units = Units::read(alloc, info, abbrevs, left.entries)?;
-    let sections = sections_of(&elf, bytes);
-    let resolved = resolve(alloc, number, &units, &sections)?;
-    Ok(File {
-        elf,
-        sections,
-        units,
-        resolved,
-    })
+    read_by(alloc, number, bytes, left, &Rule::Given)
 }

@@ -1,68 +1,87 @@
 //! All files of a run.
 
-ghost use Rattle.std.specs.Prelude.{◌≡◌, ℕ, ◌<◌, ◌≤◌, ◌^◌, List, Some, length, map, slice_get, IfOk};
+ghost use Rattle.std.specs.Prelude.{◌≡◌, ℕ, ◌+◌, ◌<◌, ◌≤◌, ◌^◌, List, [], None, Some, length, map, slice_get, IfOk};
+ghost use Rattle.std.specs.Option.{option_map};
 ghost use Rattle.dwz_def_reading.specs.Units.{RawUnit};
 ghost use Rattle.dwz_def_reading.specs.Documents.{Doc};
+ghost use Rattle.dwz_def_reading.specs.Finished.{beside_meaning, finished_meaning};
 ghost use Rattle.dwz_def_reading.specs.NamedLists.{lists_of_units};
 ghost use Rattle.dwz_def_reading.specs.Shared.{AreRows};
 ghost use Rattle.dwz_graph.specs.ListRows.{AreOfFile, operand_view};
-ghost use Rattle.dwz_def_reading.specs.ElfReading.{elf_of};
-ghost use Rattle.dwz_def_reading.specs.Files.{Limits, around_of, files_meaning, limits_after, no_files_before};
-ghost use Rattle.dwz_graph.specs.Files.{AreKept, FilesAnswer, HasFile, HasRead, docs_of, limits_view, refused_file};
-ghost use Rattle.dwz_unit.specs.Rows.{units_of};
+ghost use Rattle.dwz_def_reading.specs.Files.{Limits, around_of, files_meaning, no_files_before};
+ghost use Rattle.dwz_graph.specs.Files.{AreBack, AreKept, FilesAnswer, HasCommon, HasFile, HasRead, docs_of, said_beside, said_finished};
 
 use crate::ListOperand;
-use crate::ahead::{file_behind, read_ahead};
-use crate::file::{Budget, File, LONGEST_FILES, MOST_ENTRIES};
-use dwz_model::{GraphErr, ReadErr, Refusal};
+use crate::common_file::CommonFile;
+use crate::file::{File, all_left};
+use crate::readings::{behind, files_by, given_files};
+use crate::rule::Rule;
+use dwz_model::GraphErr;
 use std::alloc::Global;
 use std::marker::Model;
 use std::thread::Threads;
 
-/// The files of a run, each with its units, and with its references resolved. Clauses see the contents of the files; what these say
-/// is `docs_of`.
+/// The files of a run, each with its units, and with its references resolved. Clauses see the contents of the files, by the rule by which
+/// they were read; what those say that were given is `docs_of`.
 #[derive(Drop)]
 pub struct Graph<'a> {
+    common: Option<CommonFile<'a>>,
     contents: &'a [Vec<u8>],
     files: Vec<File<'a>>,
+    back_contents: &'a [Vec<u8>],
+    back: Vec<File<'a>>,
 }
 
 impl<'a> Model for Graph<'a> {
-    ghost use Rattle.std.specs.Prelude.{ℕ, List, map};
-    ghost use Rattle.dwz_graph.specs.Files.{AreKept};
+    ghost use Rattle.std.specs.Prelude.{map};
+    ghost use Rattle.std.specs.Option.{option_map};
+    ghost use Rattle.dwz_graph.specs.Files.{AreFilesOf, FilesRead};
 
-    ghost Value = { List (List ℕ) };
+    ghost Value = { FilesRead };
 
-    ghost view = { λ g. map (λ v. v.items) g.contents.now };
+    ghost view = { λ g. record { common = option_map (λ c. c.bytes.now) g.common; given = map (λ v. v.items) g.contents.now; back = map (λ v. v.items) g.back_contents.now } };
 
-    ghost invariant = { λ g. AreKept (map (λ v. v.items) g.contents.now) g.files.items };
+    ghost invariant = { λ g. AreFilesOf (record { common = option_map (λ c. c.bytes.now) g.common; given = map (λ v. v.items) g.contents.now; back = map (λ v. v.items) g.back_contents.now })
+        (option_map (λ c. c.file) g.common) g.files.items g.back.items };
 }
 
-fn in_file(file: u32, error: ReadErr) -> GraphErr
-    ensures { result ≡ refused_file file error }
+// Files that may have been written, without a common file.
+fn back_alone<'a>(alloc: Global, files: &'a [Vec<u8>]) -> Result<Graph<'a>, GraphErr>
+    requires few { length files.now < 2 ^ 32 }
+    ensures answers { FilesAnswer said_finished result (finished_meaning None (map (λ v. v.items) files.now)) }
+    ensures contents { IfOk result (λ graph. graph ≡ record { common = None; given = []; back = map (λ v. v.items) files.now }) }
 {
-    match error {
-        ReadErr::Refused(fault) => GraphErr::Refused(Refusal {
-            file,
-            section: fault.section,
-            at: fault.at,
-            reason: fault.reason,
-        }),
-        ReadErr::NoMemory => GraphErr::NoMemory,
-    }
+    let back = files_by(alloc, files, &all_left(), &Rule::Back(None))?;
+    Ok(Graph {
+        common: None,
+        contents: &files[..0],
+        files: Vec::new(alloc),
+        back_contents: files,
+        back,
+    })
 }
 
-// What is left behind a file.
-#[inline(always)]
-fn behind(left: &Budget, bytes: &[u8], file: &File<'_>) -> Budget
-    ensures { file.now.elf ≡ elf_of bytes.now → limits_view result ≡ limits_after (limits_view left.now) bytes.now
-        (units_of file.now.units) }
+// The same beside a common file.
+fn back_beside<'a>(
+    alloc: Global,
+    files: &'a [Vec<u8>],
+    bytes: &'a [u8],
+) -> Result<Graph<'a>, GraphErr>
+    requires few { length files.now < 2 ^ 32 }
+    ensures answers { FilesAnswer said_finished result (finished_meaning (Some bytes.now) (map (λ v. v.items) files.now)) }
+    ensures contents { IfOk result (λ graph. graph ≡ record { common = Some bytes.now; given = []; back = map (λ v. v.items) files.now }) }
 {
-    Budget {
-        bytes: left.bytes.saturating_sub(bytes.len()),
-        entries: left.entries.saturating_sub(file.units.entries()),
-        machine: Some(file.elf.machine()),
-    }
+    let common = CommonFile::read(alloc, files.len() as u32, bytes)?;
+    let left = behind(&all_left(), bytes, &common.file);
+    let rule = Rule::Back(Some(common.beside()));
+    let back = files_by(alloc, files, &left, &rule)?;
+    Ok(Graph {
+        common: Some(common),
+        contents: &files[..0],
+        files: Vec::new(alloc),
+        back_contents: files,
+        back,
+    })
 }
 
 impl<'a> Graph<'a> {
@@ -77,55 +96,103 @@ impl<'a> Graph<'a> {
     ) -> Result<Graph<'a>, GraphErr>
         requires few { length files.now < 2 ^ 32 }
         requires workers { (0 < workers) × (workers ≤ 64) }
-        ensures answers { FilesAnswer docs_of result (files_meaning no_files_before 0 (map (λ v. v.items) files.now)) }
-        ensures contents { IfOk result (λ graph. graph ≡ map (λ v. v.items) files.now) }
+        ensures answers { FilesAnswer (λ graph. docs_of graph.given) result (files_meaning no_files_before 0 (map (λ v. v.items) files.now)) }
+        ensures contents { IfOk result (λ graph. graph ≡ record { common = None; given = map (λ v. v.items) files.now; back = [] }) }
     {
-        let mut ahead = read_ahead(rt, alloc, files, workers)?;
-        let mut left = Budget {
-            bytes: LONGEST_FILES,
-            entries: MOST_ENTRIES,
-            machine: None,
-        };
-        let mut kept = Vec::new(alloc);
-        for (number, content) in files.iter().enumerate() {
-            let done = ahead[number].take();
-            match file_behind(alloc, number as u32, content.as_slice(), &left, done) {
-                Ok(file) => {
-                    left = behind(&left, content.as_slice(), &file);
-                    kept.push(file)?;
-                }
-                Err(error) => return Err(in_file(number as u32, error)),
-            }
-        }
+        let kept = given_files(rt, alloc, files, workers, &all_left())?;
         Ok(Graph {
+            common: None,
             contents: files,
             files: kept,
+            back_contents: &files[..0],
+            back: Vec::new(alloc),
         })
     }
 
-    /// The files in order, as they were read.
+    /// Reads files as `read`, and before them a finished common file, of which all units are partial. It has the number behind those of the
+    /// others, and what the limits leave behind it is left to them. In it `BadSup` and `Checksum` come behind `Machine`.
+    pub fn read_sup<R: Threads + Sync>(
+        rt: &R,
+        alloc: Global,
+        files: &'a [Vec<u8>],
+        common: &'a [u8],
+        workers: u32,
+    ) -> Result<Graph<'a>, GraphErr>
+        requires few { length files.now < 2 ^ 32 }
+        requires workers { (0 < workers) × (workers ≤ 64) }
+        ensures answers { FilesAnswer said_beside result (beside_meaning common.now (map (λ v. v.items) files.now)) }
+        ensures contents { IfOk result (λ graph. graph ≡ record { common = Some common.now; given = map (λ v. v.items) files.now; back = [] }) }
+    {
+        let shared = CommonFile::read(alloc, files.len() as u32, common)?;
+        let left = behind(&all_left(), common, &shared.file);
+        let kept = given_files(rt, alloc, files, workers, &left)?;
+        Ok(Graph {
+            common: Some(shared),
+            contents: files,
+            files: kept,
+            back_contents: &files[..0],
+            back: Vec::new(alloc),
+        })
+    }
+
+    /// Reads files that may have been written by this tool, and before them the finished common file beside which they are read, if it is
+    /// given. It has the number behind those of the others. Refused with the first fault: in a file `SupMissing`, `BadSup` and `Checksum`
+    /// come behind `Machine`. One thread reads all.
+    pub fn read_back(
+        alloc: Global,
+        files: &'a [Vec<u8>],
+        common: Option<&'a [u8]>,
+    ) -> Result<Graph<'a>, GraphErr>
+        requires few { length files.now < 2 ^ 32 }
+        ensures answers { FilesAnswer said_finished result (finished_meaning (option_map (λ c. c.now) common.entry) (map (λ v. v.items) files.now)) }
+        ensures contents { IfOk result (λ graph. graph ≡ record { common = option_map (λ c. c.now) common.entry; given = []; back = map (λ v. v.items) files.now }) }
+    {
+        match common {
+            None => back_alone(alloc, files),
+            Some(bytes) => back_beside(alloc, files, bytes),
+        }
+    }
+
+    /// The finished common file, as it was read.
+    pub fn common(&self) -> Option<&File<'a>>
+        ensures { HasCommon (length self.now.given + length self.now.back) self.now.common (option_map (λ f. f.now) result) }
+    {
+        match &self.common {
+            None => None,
+            Some(common) => Some(&common.file),
+        }
+    }
+
+    /// The files that may have been written, in order, as they were read.
+    pub fn back(&self) -> &[File<'a>]
+        ensures { AreBack self.now.common self.now.back result.now }
+    {
+        self.back.as_slice()
+    }
+
+    /// The files that were given, in order, as they were read.
     pub fn files(&self) -> &[File<'a>]
-        ensures { AreKept self.now result.now }
+        ensures { AreKept self.now.given result.now }
     {
         self.files.as_slice()
     }
 
-    /// The file with a number, as it was read.
+    /// The file with a number of those that were given, as it was read.
     pub fn file(&self, number: u32) -> &File<'a>
-        requires { number < length self.now }
-        ensures { (bytes : List ℕ) → slice_get self.now number ≡ Some bytes → HasRead self.now number bytes result.now }
+        requires { number < length self.now.given }
+        ensures { (bytes : List ℕ) → slice_get self.now.given number ≡ Some bytes → HasRead self.now.given number bytes result.now }
     {
         &self.files[number as usize]
     }
 
-    /// The operands of the location lists that attributes of the file with a number name, each once, in order of place.
+    /// The operands of the location lists that attributes of that file name, each once, in order of place.
     pub fn list_operands(&self, number: u32) -> &[ListOperand]
-        requires { number < length self.now }
+        requires { number < length self.now.given }
         ensures rows { (l : Limits) (bytes : List ℕ) (raw : List RawUnit) (doc : Doc ℕ)
-            → HasFile no_files_before self.now number l bytes raw doc
+            → HasFile no_files_before self.now.given number l bytes raw doc
             → AreRows (lists_of_units (around_of bytes raw) raw) (map (operand_view raw) result.now) }
         ensures of_file { (l : Limits) (bytes : List ℕ) (raw : List RawUnit) (doc : Doc ℕ)
-            → HasFile no_files_before self.now number l bytes raw doc → AreOfFile raw number result.now }
+            → HasFile no_files_before self.now.given number l bytes raw doc → AreOfFile raw number result.now }
     {
         &self.file(number).resolved.operands
     }

@@ -8,9 +8,9 @@ use crate::{Graph, Index, Starts};
 use dwz_model::NoMemory;
 use std::alloc::Global;
 
-/// What the entries of each file are, file by file. Units, tops and spaces are numbered from 0 over all files.
+/// What the entries of each file that was given are, file by file. Units, tops and spaces are numbered from 0 over all files.
 pub fn indexes(alloc: Global, graph: &Graph) -> Result<Vec<Index>, NoMemory>
-    ensures { IfOk result (λ v. AreIndexes (docs_of graph.now) v.items) }
+    ensures { IfOk result (λ v. AreIndexes (docs_of graph.now.given) v.items) }
 {
     let mut starts = Starts {
         unit: 0,

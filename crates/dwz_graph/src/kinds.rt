@@ -6,12 +6,13 @@ ghost use Rattle.dwz_def_reading.specs.Units.{RawUnit, entries_in};
 ghost use Rattle.dwz_def_reading.specs.Meanings;
 ghost use Rattle.dwz_model.specs.declared.fault.Reason.TheVariants.{BadReference};
 ghost use Rattle.dwz_graph.specs.Named.{kind_named};
-ghost use Rattle.dwz_graph.specs.Resolved.{Checks, IsDone, IsHere, places, scope_in};
+ghost use Rattle.dwz_graph.specs.Resolved.{Checks, IsDone, IsHere, places};
+ghost use Rattle.dwz_graph.specs.Surroundings.{scope_within};
 ghost use Rattle.dwz_unit.specs.Rows.{unit_shown, units_of};
 
 use crate::find::find;
 use crate::here::Here;
-use crate::sections::InputSections;
+use crate::surroundings::Surroundings;
 use dwz_codes::DW_UT_TYPE;
 use dwz_model::{DEBUG_INFO, Fault, ReadErr, Reason};
 use dwz_unit::{RawUnit as RawUnitOfCode, Units};
@@ -35,15 +36,15 @@ fn check_type(units: &Units, first: u32, end: u32, at: u32, type_offset: u32) ->
 /// The type of a type unit is one of its entries.
 pub(crate) fn check_kind(
     units: &Units,
-    sections: &InputSections,
+    around: &Surroundings,
     here: &Here,
     unit: &RawUnitOfCode,
 ) -> Result<(), ReadErr>
     requires { here.now.end ≤ entries_in (units_of units.now) }
     ensures { (u : RawUnit) → IsHere (units_of units.now) u here.now → unit_shown unit.now.first u ≡ unit.now
-        → IsDone result (kind_named (scope_in sections.now (units_of units.now) u) u.kind) }
+        → IsDone result (kind_named (scope_within around.now (units_of units.now) u) u.kind) }
 {
-    let _sections = sections;
+    let _around = around;
     if unit.kind != DW_UT_TYPE {
         return Ok(());
     }

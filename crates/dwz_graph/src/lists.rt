@@ -11,15 +11,17 @@ ghost use Rattle.dwz_model.specs.declared.fault.ReadErr.TheVariants.{Refused};
 ghost use Rattle.dwz_model.specs.declared.fault.Reason.TheVariants.{BadList};
 ghost use Rattle.dwz_graph.specs.ListParts.{Marks, WasMarked};
 ghost use Rattle.dwz_graph.specs.ListSteps.{AddsIndexed, AddsList, AddsOffset, IsSlotAt, NamesRows, Walks};
-ghost use Rattle.dwz_graph.specs.Resolved.{IsHere, StateIn, place_at, scope_in};
+ghost use Rattle.dwz_graph.specs.Resolved.{IsHere, StateIn, place_at};
+ghost use Rattle.dwz_graph.specs.Surroundings.{scope_within};
 ghost use Rattle.dwz_unit.specs.Rows.{units_of};
 
 use crate::expressions::{bad_operand, entry_of, is_no_memory};
 use crate::here::Here;
 use crate::list_parts::{Stop, fit, mark, read_up, row_at};
 use crate::operands::ListOperand;
-use crate::sections::{InputSections, slot};
+use crate::sections::slot;
 use crate::state::State;
+use crate::surroundings::Surroundings;
 use dwz_codes::names_list;
 use dwz_expr::Operand;
 use dwz_model::{DEBUG_INFO, DEBUG_LOCLISTS, Fault, Place, ReadErr, Reason};
@@ -87,7 +89,7 @@ fn list_operand(units: &Units, file: u32, unit: u32, operand: &Operand, entry: u
 // Adds the operands of a list, with the entries that they name. Refused at the first that names none.
 fn name_operands(
     units: &Units,
-    sections: &InputSections,
+    around: &Surroundings,
     here: &Here,
     file: u32,
     operands: &[Operand],
@@ -95,11 +97,11 @@ fn name_operands(
 ) -> Result<(), ReadErr>
     requires { here.now.end ≤ entries_in (units_of units.now) }
     ensures { (u : RawUnit) → IsHere (units_of units.now) u here.now
-        → NamesRows (units_of units.now) file (scope_in sections.now (units_of units.now) u) operands.now out.old.items out.new.items
+        → NamesRows (units_of units.now) file (scope_within around.now (units_of units.now) u) operands.now out.old.items out.new.items
         result }
 {
     for operand in operands {
-        match entry_of(units, sections, here, operand) {
+        match entry_of(units, &around.sections, here, operand) {
             Some(entry) => out.push(list_operand(units, file, here.number, operand, entry))?,
             None => return Err(bad_operand(DEBUG_LOCLISTS, operand.at)),
         }
@@ -133,28 +135,28 @@ fn is_plain(stop: Stop, operands: &[Operand]) -> bool
 // Reads the list at a place, up to where its entries were read before, with the entries that its operands name.
 fn walk(
     units: &Units,
-    sections: &InputSections,
+    around: &Surroundings,
     here: &Here,
     place: u64,
     state: &mut State,
 ) -> Result<(), ReadErr>
     requires here { here.now.end ≤ entries_in (units_of units.now) }
-    requires place { place < length sections.now.lists.now }
+    requires place { place < length around.now.sections.lists.now }
     ensures file { state.new.file ≡ state.old.file }
     ensures files { state.new.files ≡ state.old.files }
     ensures goes { (u : RawUnit) (before : List NamedList) → IsHere (units_of units.now) u here.now
-        → StateIn sections.now (units_of units.now) u here.now before state.old
-        → Walks (units_of units.now) (scope_in sections.now (units_of units.now) u) here.now.number place before state.old state.new
+        → StateIn around.now (units_of units.now) u here.now before state.old
+        → Walks (units_of units.now) (scope_within around.now (units_of units.now) u) here.now.number place before state.old state.new
         result }
 {
     state.operands.clear();
     state.lists.places.clear();
-    fit(&mut state.lists.marks, sections.lists)?;
+    fit(&mut state.lists.marks, around.sections.lists)?;
     let first = state.lists.operands.as_slice().len();
     let read = read_up(
         &mut state.operands,
         &mut state.lists.places,
-        sections.lists,
+        around.sections.lists,
         &state.lists.rows,
         &state.lists.marks,
         here.number,
@@ -165,7 +167,7 @@ fn walk(
     }
     name_operands(
         units,
-        sections,
+        around,
         here,
         state.file,
         &state.operands,
@@ -198,24 +200,24 @@ fn was_read(lists: &Lists, place: u64, unit: u32) -> bool
 // The same, where no entry there was read for the unit before.
 fn walk_once(
     units: &Units,
-    sections: &InputSections,
+    around: &Surroundings,
     here: &Here,
     place: u64,
     state: &mut State,
 ) -> Result<(), ReadErr>
     requires here { here.now.end ≤ entries_in (units_of units.now) }
-    requires place { place < length sections.now.lists.now }
+    requires place { place < length around.now.sections.lists.now }
     ensures file { state.new.file ≡ state.old.file }
     ensures files { state.new.files ≡ state.old.files }
     ensures goes { (u : RawUnit) (before : List NamedList) → IsHere (units_of units.now) u here.now
-        → StateIn sections.now (units_of units.now) u here.now before state.old
-        → Walks (units_of units.now) (scope_in sections.now (units_of units.now) u) here.now.number place before state.old state.new
+        → StateIn around.now (units_of units.now) u here.now before state.old
+        → Walks (units_of units.now) (scope_within around.now (units_of units.now) u) here.now.number place before state.old state.new
         result }
 {
     if was_read(&state.lists, place, here.number) {
         return Ok(());
     }
-    walk(units, sections, here, place, state)
+    walk(units, around, here, place, state)
 }
 
 fn bad_list(at: u64) -> ReadErr
@@ -231,7 +233,7 @@ fn bad_list(at: u64) -> ReadErr
 // Adds the list at a place that a value names.
 fn add_list(
     units: &Units,
-    sections: &InputSections,
+    around: &Surroundings,
     here: &Here,
     at: u64,
     place: u128,
@@ -241,20 +243,20 @@ fn add_list(
     ensures file { state.new.file ≡ state.old.file }
     ensures files { state.new.files ≡ state.old.files }
     ensures goes { (u : RawUnit) (before : List NamedList) → IsHere (units_of units.now) u here.now
-        → StateIn sections.now (units_of units.now) u here.now before state.old
-        → AddsList (units_of units.now) (scope_in sections.now (units_of units.now) u) here.now.number at place before state.old state.new
+        → StateIn around.now (units_of units.now) u here.now before state.old
+        → AddsList (units_of units.now) (scope_within around.now (units_of units.now) u) here.now.number at place before state.old state.new
         result }
 {
-    if place >= sections.lists.len() as u128 {
+    if place >= around.sections.lists.len() as u128 {
         return Err(bad_list(at));
     }
-    walk_once(units, sections, here, place as u64, state)
+    walk_once(units, around, here, place as u64, state)
 }
 
 /// Adds the list that an offset names, if it is one's.
 pub(crate) fn add_offset(
     units: &Units,
-    sections: &InputSections,
+    around: &Surroundings,
     here: &Here,
     at: u64,
     name: u16,
@@ -265,12 +267,12 @@ pub(crate) fn add_offset(
     ensures file { state.new.file ≡ state.old.file }
     ensures files { state.new.files ≡ state.old.files }
     ensures goes { (u : RawUnit) (before : List NamedList) → IsHere (units_of units.now) u here.now
-        → StateIn sections.now (units_of units.now) u here.now before state.old
-        → AddsOffset (units_of units.now) (scope_in sections.now (units_of units.now) u) here.now.number name at offset before state.old
+        → StateIn around.now (units_of units.now) u here.now before state.old
+        → AddsOffset (units_of units.now) (scope_within around.now (units_of units.now) u) here.now.number name at offset before state.old
         state.new result }
 {
     if names_list(name) {
-        add_list(units, sections, here, at, offset, state)
+        add_list(units, around, here, at, offset, state)
     } else {
         Ok(())
     }
@@ -300,7 +302,7 @@ fn slot_at(section: &[u8], base: u128, index: u128) -> Option<ListSlot>
 /// Adds the list that an index names.
 pub(crate) fn add_indexed(
     units: &Units,
-    sections: &InputSections,
+    around: &Surroundings,
     here: &Here,
     at: u64,
     index: u128,
@@ -310,17 +312,17 @@ pub(crate) fn add_indexed(
     ensures file { state.new.file ≡ state.old.file }
     ensures files { state.new.files ≡ state.old.files }
     ensures goes { (u : RawUnit) (before : List NamedList) → IsHere (units_of units.now) u here.now
-        → StateIn sections.now (units_of units.now) u here.now before state.old
-        → AddsIndexed (units_of units.now) (scope_in sections.now (units_of units.now) u) here.now.number here.now.lists at index before
+        → StateIn around.now (units_of units.now) u here.now before state.old
+        → AddsIndexed (units_of units.now) (scope_within around.now (units_of units.now) u) here.now.number here.now.lists at index before
         state.old state.new result }
 {
     let Some(base) = here.lists else {
         return Err(bad_list(at));
     };
-    let Some(slot) = slot_at(sections.lists, base as u128, index) else {
+    let Some(slot) = slot_at(around.sections.lists, base as u128, index) else {
         return Err(bad_list(at));
     };
-    add_list(units, sections, here, at, slot.place, state)?;
+    add_list(units, around, here, at, slot.place, state)?;
     state.lists.slots.push(slot.at)?;
     Ok(())
 }

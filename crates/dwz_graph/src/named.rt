@@ -1,6 +1,6 @@
 //! What the values of entries name, or the first fault.
 
-ghost use Rattle.std.specs.Prelude.{◌≡◌, ℕ, ◌+◌, ◌<◌, ◌≤◌, List, [], IfOk, Some, length, slice_get};
+ghost use Rattle.std.specs.Prelude.{◌≡◌, ℕ, ◌+◌, ◌^◌, ◌<◌, ◌≤◌, List, [], IfOk, Some, length, slice_get};
 ghost use Rattle.std.specs.List.{list_any};
 ghost use Rattle.dwz_def_reading.specs.Faults.{info_fault};
 ghost use Rattle.dwz_def_reading.specs.Units.{RawUnit, entries_in};
@@ -13,7 +13,8 @@ ghost use Rattle.dwz_def_reading.specs.Shared.{NamedList};
 ghost use Rattle.dwz_graph.specs.FileRows.{IfLearns};
 ghost use Rattle.dwz_graph.specs.Parts.{IsParted, numbers_as, numbers_file};
 ghost use Rattle.dwz_graph.specs.Named.{attr_named, entry_named, found_in, map_ok, unit_named, units_named};
-ghost use Rattle.dwz_graph.specs.Resolved.{Goes, IsHere, StateAt, StateIn, around, scope_in, stored};
+ghost use Rattle.dwz_graph.specs.Resolved.{Goes, IsHere, StateAt, StateIn, stored};
+ghost use Rattle.dwz_graph.specs.Surroundings.{around_in, common_view, entries_among, scope_within};
 ghost use Rattle.dwz_unit.specs.Rows.{EntryRow, rows_of, units_of};
 
 use crate::expressions::add_expression;
@@ -22,10 +23,11 @@ use crate::here::{Here, here_of};
 use crate::kinds::check_kind;
 use crate::lists::{add_indexed, add_offset};
 use crate::parts::Parts;
-use crate::references::{add_entry, bad_reference};
-use crate::sections::{InputSections, offset_of};
+use crate::references::{add_common, add_entry};
+use crate::sections::offset_of;
 use crate::state::State;
-use crate::strings::{bad_string, check_text, has_slot_text};
+use crate::strings::{check_text, has_common_text, has_slot_text};
+use crate::surroundings::Surroundings;
 use dwz_codes::{Class, DW_AT_SIBLING, class_of};
 use dwz_forms::Raw;
 use dwz_model::{DEBUG_INFO, Fault, Pair, ReadErr, Reason};
@@ -47,7 +49,7 @@ fn unread_form(at: u64, form: u64) -> ReadErr
 fn add_as<'a>(
     class: Class,
     units: &Units,
-    sections: &InputSections<'a>,
+    around: &Surroundings<'a, '_>,
     here: &Here,
     at: u64,
     end: u64,
@@ -55,25 +57,33 @@ fn add_as<'a>(
     raw: &Raw,
     state: &mut State<'a>,
 ) -> Result<(), ReadErr>
-    requires { here.now.end ≤ entries_in (units_of units.now) }
+    requires here { here.now.end ≤ entries_in (units_of units.now) }
+    requires room { entries_among (common_view around.now.common) (units_of units.now) < 2 ^ 32 }
     ensures file { state.new.file ≡ state.old.file }
     ensures learns { IfLearns (numbers_as class pair.now.name) here.now.line state.old.files state.new.files result }
     ensures goes { (u : RawUnit) (before : List NamedList) → IsHere (units_of units.now) u here.now
-        → StateIn sections.now (units_of units.now) u here.now before state.old
-        → Goes (units_of units.now) (StateIn sections.now (units_of units.now) u here.now) before state.old state.new result
-        (map_ok (found_in (lists_as class (scope_in sections.now (units_of units.now) u) (stored at end pair.now raw.now)))
-        (as_class class (scope_in sections.now (units_of units.now) u) (stored at end pair.now raw.now))) }
+        → StateIn around.now (units_of units.now) u here.now before state.old
+        → Goes (common_view around.now.common) (units_of units.now) (StateIn around.now (units_of units.now) u here.now) before state.old state.new result
+        (map_ok (found_in (lists_as class (scope_within around.now (units_of units.now) u) (stored at end pair.now raw.now)))
+        (as_class class (scope_within around.now (units_of units.now) u) (stored at end pair.now raw.now))) }
 {
     let offset = offset_of(raw);
     match class {
         Class::Address => Ok(()),
         Class::Block => Ok(()),
-        Class::Constant => check_constant(sections, here, at, pair.name, raw, &mut state.files),
+        Class::Constant => check_constant(
+            &around.sections,
+            here,
+            at,
+            pair.name,
+            raw,
+            &mut state.files,
+        ),
         Class::Flag => Ok(()),
         Class::Text => Ok(()),
-        Class::TextInStr => check_text(sections.strs.has(offset), at),
-        Class::TextInLineStr => check_text(sections.line_strs.has(offset), at),
-        Class::TextBySlot => check_text(has_slot_text(sections, here.offsets, offset), at),
+        Class::TextInStr => check_text(around.sections.strs.has(offset), at),
+        Class::TextInLineStr => check_text(around.sections.line_strs.has(offset), at),
+        Class::TextBySlot => check_text(has_slot_text(&around.sections, here.offsets, offset), at),
         Class::UnitEntry => add_entry(
             units,
             here.first,
@@ -93,12 +103,19 @@ fn add_as<'a>(
             &mut state.hints,
         ),
         Class::Signature => Ok(()),
-        Class::Offset => add_offset(units, sections, here, at, pair.name, offset, state),
-        Class::Expression => add_expression(units, sections, here, end, raw, state),
-        Class::ListIndex => add_indexed(units, sections, here, at, offset, state),
+        Class::Offset => add_offset(units, around, here, at, pair.name, offset, state),
+        Class::Expression => add_expression(units, around, here, end, raw, state),
+        Class::ListIndex => add_indexed(units, around, here, at, offset, state),
         Class::Index => Ok(()),
-        Class::CommonEntry => Err(bad_reference(at)),
-        Class::CommonText => Err(bad_string(at)),
+        Class::CommonEntry => add_common(
+            units,
+            around.common,
+            at,
+            offset,
+            &mut state.refs,
+            &mut state.hints,
+        ),
+        Class::CommonText => check_text(has_common_text(around.common, offset), at),
         Class::Unread => Err(unread_form(at, pair.form)),
     }
 }
@@ -107,7 +124,7 @@ fn add_as<'a>(
 #[inline(always)]
 fn add_attr<'a>(
     units: &Units,
-    sections: &InputSections<'a>,
+    around: &Surroundings<'a, '_>,
     here: &Here,
     at: u64,
     end: u64,
@@ -115,13 +132,14 @@ fn add_attr<'a>(
     raw: &Raw,
     state: &mut State<'a>,
 ) -> Result<(), ReadErr>
-    requires { here.now.end ≤ entries_in (units_of units.now) }
+    requires here { here.now.end ≤ entries_in (units_of units.now) }
+    requires room { entries_among (common_view around.now.common) (units_of units.now) < 2 ^ 32 }
     ensures file { state.new.file ≡ state.old.file }
     ensures learns { IfLearns (numbers_file (stored at end pair.now raw.now)) here.now.line state.old.files state.new.files result }
     ensures goes { (u : RawUnit) (before : List NamedList) → IsHere (units_of units.now) u here.now
-        → StateIn sections.now (units_of units.now) u here.now before state.old
-        → Goes (units_of units.now) (StateIn sections.now (units_of units.now) u here.now) before state.old state.new result
-        (attr_named (scope_in sections.now (units_of units.now) u) (stored at end pair.now raw.now)) }
+        → StateIn around.now (units_of units.now) u here.now before state.old
+        → Goes (common_view around.now.common) (units_of units.now) (StateIn around.now (units_of units.now) u here.now) before state.old state.new result
+        (attr_named (scope_within around.now (units_of units.now) u) (stored at end pair.now raw.now)) }
 {
     if pair.name == DW_AT_SIBLING {
         return Ok(());
@@ -129,7 +147,7 @@ fn add_attr<'a>(
     add_as(
         class_of(pair.form),
         units,
-        sections,
+        around,
         here,
         at,
         end,
@@ -142,27 +160,28 @@ fn add_attr<'a>(
 // Adds what an entry names.
 fn add_values<'a>(
     units: &Units,
-    sections: &InputSections<'a>,
+    around: &Surroundings<'a, '_>,
     here: &Here,
     i: u32,
     state: &mut State<'a>,
 ) -> Result<(), ReadErr>
     requires row { i < entries_in (units_of units.now) }
     requires here { here.now.end ≤ entries_in (units_of units.now) }
+    requires room { entries_among (common_view around.now.common) (units_of units.now) < 2 ^ 32 }
     ensures file { state.new.file ≡ state.old.file }
     ensures learns { (row : EntryRow) → slice_get (rows_of (units_of units.now)) i ≡ Some row
         → IfLearns (list_any numbers_file row.entry.attrs) here.now.line state.old.files state.new.files result }
     ensures goes { (u : RawUnit) (row : EntryRow) (before : List NamedList) → IsHere (units_of units.now) u here.now
-        → slice_get (rows_of (units_of units.now)) i ≡ Some row → StateIn sections.now (units_of units.now) u here.now before state.old
-        → Goes (units_of units.now) (StateIn sections.now (units_of units.now) u here.now) before state.old state.new result
-        (entry_named (scope_in sections.now (units_of units.now) u) row.entry) }
+        → slice_get (rows_of (units_of units.now)) i ≡ Some row → StateIn around.now (units_of units.now) u here.now before state.old
+        → Goes (common_view around.now.common) (units_of units.now) (StateIn around.now (units_of units.now) u here.now) before state.old state.new result
+        (entry_named (scope_within around.now (units_of units.now) u) row.entry) }
 {
     let Values { pairs, mut cursor } = units.values(i);
     for pair in pairs {
         let at = cursor.at() as u64;
         let raw = known_value(&mut cursor, pair);
         let end = cursor.at() as u64;
-        add_attr(units, sections, here, at, end, pair, &raw, state)?;
+        add_attr(units, around, here, at, end, pair, &raw, state)?;
     }
     Ok(())
 }
@@ -170,26 +189,27 @@ fn add_values<'a>(
 // Adds what the entries of a unit name.
 fn add_unit<'a>(
     units: &Units,
-    sections: &InputSections<'a>,
+    around: &Surroundings<'a, '_>,
     n: u32,
     state: &mut State<'a>,
     parts: &mut Parts,
 ) -> Result<(), ReadErr>
-    requires { n < length (units_of units.now) }
+    requires unit { n < length (units_of units.now) }
+    requires room { entries_among (common_view around.now.common) (units_of units.now) < 2 ^ 32 }
     ensures file { state.new.file ≡ state.old.file }
-    ensures parts { (before : List NamedList) → StateAt sections.now (units_of units.now) n before state.old
-        → IsParted sections.now (units_of units.now) n state.old parts.old
-        → IfOk result (λ y. IsParted sections.now (units_of units.now) (n + 1) state.new parts.new) }
+    ensures parts { (before : List NamedList) → StateAt around.now (units_of units.now) n before state.old
+        → IsParted around.now (units_of units.now) n state.old parts.old
+        → IfOk result (λ y. IsParted around.now (units_of units.now) (n + 1) state.new parts.new) }
     ensures goes { (u : RawUnit) (before : List NamedList) → slice_get (units_of units.now) n ≡ Some u
-        → StateAt sections.now (units_of units.now) n before state.old
-        → Goes (units_of units.now) (StateAt sections.now (units_of units.now) (n + 1)) before state.old state.new result
-        (unit_named (around sections.now (units_of units.now)) u) }
+        → StateAt around.now (units_of units.now) n before state.old
+        → Goes (common_view around.now.common) (units_of units.now) (StateAt around.now (units_of units.now) (n + 1)) before state.old state.new result
+        (unit_named (around_in around.now (units_of units.now)) u) }
 {
     let unit = units.unit(n);
     let here = here_of(units, n, &unit);
-    check_kind(units, sections, &here, &unit)?;
+    check_kind(units, around, &here, &unit)?;
     for i in here.first..here.end {
-        add_values(units, sections, &here, i, state)?;
+        add_values(units, around, &here, i, state)?;
         parts.end_entry(state.refs.as_slice().len())?;
     }
     parts.end_unit(&state.files, here.line)?;
@@ -199,20 +219,21 @@ fn add_unit<'a>(
 /// Adds what the entries of all units name; or fails with the first fault of what values mean.
 pub(crate) fn add_units<'a>(
     units: &Units,
-    sections: &InputSections<'a>,
+    around: &Surroundings<'a, '_>,
     state: &mut State<'a>,
     parts: &mut Parts,
 ) -> Result<(), ReadErr>
+    requires room { entries_among (common_view around.now.common) (units_of units.now) < 2 ^ 32 }
     ensures file { state.new.file ≡ state.old.file }
-    ensures parts { StateAt sections.now (units_of units.now) 0 [] state.old
-        → IsParted sections.now (units_of units.now) 0 state.old parts.old
-        → IfOk result (λ y. IsParted sections.now (units_of units.now) (length (units_of units.now)) state.new parts.new) }
-    ensures goes { StateAt sections.now (units_of units.now) 0 [] state.old
-        → Goes (units_of units.now) (StateAt sections.now (units_of units.now) (length (units_of units.now))) [] state.old state.new result
-        (units_named (around sections.now (units_of units.now)) (units_of units.now)) }
+    ensures parts { StateAt around.now (units_of units.now) 0 [] state.old
+        → IsParted around.now (units_of units.now) 0 state.old parts.old
+        → IfOk result (λ y. IsParted around.now (units_of units.now) (length (units_of units.now)) state.new parts.new) }
+    ensures goes { StateAt around.now (units_of units.now) 0 [] state.old
+        → Goes (common_view around.now.common) (units_of units.now) (StateAt around.now (units_of units.now) (length (units_of units.now))) [] state.old state.new result
+        (units_named (around_in around.now (units_of units.now)) (units_of units.now)) }
 {
     for n in 0..units.len() {
-        add_unit(units, sections, n, state, parts)?;
+        add_unit(units, around, n, state, parts)?;
     }
     Ok(())
 }

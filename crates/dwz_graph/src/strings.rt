@@ -5,8 +5,10 @@ ghost use Rattle.dwz_def_reading.specs.Faults.{info_fault};
 ghost use Rattle.dwz_model.specs.declared.fault.Reason.TheVariants.{BadString};
 ghost use Rattle.dwz_model.specs.declared.fault.ReadErr.TheVariants.{Refused};
 ghost use Rattle.dwz_graph.specs.Resolved.{Checks, has_slot_text, sources_view};
+ghost use Rattle.dwz_graph.specs.Surroundings.{common_view, has_common_text};
 
 use crate::sections::{InputSections, slot};
+use crate::surroundings::CommonPart;
 use dwz_model::{DEBUG_INFO, Fault, ReadErr, Reason};
 
 /// No text stands where a value says.
@@ -44,4 +46,14 @@ pub(crate) fn has_slot_text(sections: &InputSections, base: Option<u32>, index: 
         return false;
     };
     sections.strs.has(offset as u128)
+}
+
+/// Whether a text of the common file stands at an offset, if there is one.
+pub(crate) fn has_common_text(common: Option<CommonPart>, offset: u128) -> bool
+    ensures { result ≡ has_common_text (common_view common.entry) offset }
+{
+    match common {
+        None => false,
+        Some(common) => common.strs.has(offset),
+    }
 }

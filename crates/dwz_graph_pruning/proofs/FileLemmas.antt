@@ -9,17 +9,14 @@ use Rattle.std.proofs.lemmas.Bool.{false≢true}
 use Rattle.std.proofs.lemmas.List.{append-nil, drop-map, drop_all}
 use Rattle.std.proofs.lemmas.Slice.Eq.{bytes_eq-Decides}
 use Rattle.dwz_def_readback.specs.Prunable.{HasSection, IsPrunable}
-use Rattle.dwz_def_reading.specs.Input.{input}
 use Rattle.dwz_def_reading.specs.Reading.{◌>>=◌}
 use Rattle.dwz_def_reading.specs.declared.elf.Header.{Header}
-use Rattle.dwz_def_reading.specs.ElfFaults.{file_fault}
 use Rattle.dwz_def_reading.specs.ElfHeaders.{headers_in, is_there}
 use Rattle.dwz_def_reading.specs.ElfNames.{name_at, name_table}
 use Rattle.dwz_def_reading.specs.ElfReading.{elf_fault}
-use Rattle.dwz_def_reading.specs.Entries.{given, unless_so}
 use Rattle.dwz_def_reading.specs.Lists.{Each, In}
 use Rattle.dwz_def_reading.specs.OffsetTables.{slots_in}
-use Rattle.dwz_def_reading.specs.Units.{RawUnit, units_at}
+use Rattle.dwz_def_reading.specs.Units.{RawUnit}
 use Rattle.dwz_def_reading.proofs.OffsetLemmas.{slots_again, slots_found}
 use Rattle.dwz_def_reading.proofs.PartLemmas.{bind_ok}
 use Rattle.dwz_def_reading.proofs.RangeBytes.{bytes_short}
@@ -31,8 +28,8 @@ use Rattle.dwz_graph.proofs.GraphLemmas.{files_read, step}
 use Rattle.dwz_graph.proofs.FileLemmas.{files_few}
 use Rattle.dwz_def_reading.specs.LineSection.{AreTablesFrom, UsesStrp, any_strp}
 use Rattle.dwz_def_reading.specs.Documents.{Doc}
-use Rattle.dwz_def_reading.specs.Files.{Limits, debug_abbrev, debug_info, ends_at, file_meaning, files_meaning, is_other_machine, is_too_long, limits_after, longest_file, machine_at, machine_of}
-use Rattle.dwz_def_reading.specs.Files.{no_files_before, section_of, sources_of, units_said, with_doc}
+use Rattle.dwz_def_reading.specs.Files.{Limits, files_meaning, limits_after, longest_file}
+use Rattle.dwz_def_reading.specs.Files.{no_files_before, section_of, sources_of, with_doc}
 use Rattle.dwz_def_reading.specs.LineTables.{FileTable, IsFileTable, TextSections, is_header, line_length}
 use Rattle.dwz_def_reading.specs.Meanings.{Sources, text_sections_of}
 use Rattle.dwz_def_reading.specs.Meant.{units_meaning}
@@ -42,9 +39,8 @@ use Rattle.dwz_def_reading.proofs.FileLemmas.{file_agrees}
 use Rattle.dwz_def_reading.proofs.LineTableLemmas.{file_table_agrees}
 use Rattle.dwz_def_reading.proofs.MeaningUnits.{units_agree}
 use Rattle.dwz_def_reading.proofs.UnitMeans.{no_files}
-use Rattle.dwz_model.specs.declared.fault.Reason.TheVariants.{FileSize, Machine}
 use Rattle.dwz_def_output.specs.Written.{ArePrunable}
-use Rattle.dwz_def_output.proofs.GivenSections.{no_fault_at}
+use Rattle.dwz_def_output.proofs.GivenSections.{reads_sound}
 use Rattle.dwz_graph_pruning.proofs.RowLemmas.{both_pass}
 use Rattle.dwz_unit.specs.Rows.{units_of}
 use Rattle.dwz_def_encoding.specs.Pruned.{UnitStays}
@@ -146,14 +142,7 @@ module _ (l : Limits) (number : ℕ) (bytes : List ℕ) (f : File) (is : IsRead 
   sources = sources_of bytes
 
   pub no_fault : elf_fault bytes ≡ None
-  unfolding file_meaning
-  no_fault =
-      let a = bind_ok (unless_so (is_too_long l bytes) (file_fault FileSize 0))
-      (λ size. ends_at (elf_fault bytes) >>= λ elf. unless_so (is_other_machine l.machine (machine_of bytes)) (file_fault Machine machine_at) >>= λ machine. units_at (debug_abbrev bytes)
-      (given l.entries) 0 (input (debug_info bytes) 0) >>= units_said bytes) (raw, doc) is.means in
-      let b = bind_ok (ends_at (elf_fault bytes)) (λ elf. unless_so (is_other_machine l.machine (machine_of bytes)) (file_fault Machine machine_at) >>= λ machine. units_at (debug_abbrev bytes)
-      (given l.entries) 0 (input (debug_info bytes) 0) >>= units_said bytes) (raw, doc) a.2 in
-      no_fault_at (elf_fault bytes) b.0 b.1
+  no_fault = reads_sound l bytes raw doc (((file_agrees l bytes).ok (raw, doc)).0 is.means)
 
   pub offsets_are : f.sections.offsets.now ≡ sources.offsets
   offsets_are = ap (λ (s : Sources). s.offsets) is.sections

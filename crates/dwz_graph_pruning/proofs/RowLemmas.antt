@@ -42,7 +42,7 @@ passes slots k a = stays slots k a.pair (offset_of a)
 
 -- ---- values have the names and forms that they are read with
 
-none_asked : (places : List ℕ) (k : Known) (attrs : List RawAttr) → list_any (asks k.strp) (map (λ (a : RawAttr). a.pair) attrs) ≡ false → list_all (λ a. stays places k a.pair (offset_of a)) attrs
+pub none_asked : (places : List ℕ) (k : Known) (attrs : List RawAttr) → list_any (asks k.strp) (map (λ (a : RawAttr). a.pair) attrs) ≡ false → list_all (λ a. stays places k a.pair (offset_of a)) attrs
     ≡ true
 none_asked places k [] none = refl
 none_asked places k (a ∷ attrs) none = go (none_asked places k attrs) (asks k.strp a.pair) refl none where

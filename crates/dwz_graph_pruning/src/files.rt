@@ -39,11 +39,12 @@ pub fn is_prunable(alloc: Global, bytes: &[u8], file: &File) -> Result<bool, NoM
     }
     let resolved = &file.resolved;
     Ok(units_stay(
+        alloc,
         &file.units,
         &resolved.tables,
         &resolved.lines,
         slots.as_slice(),
-    ))
+    )?)
 }
 
 /// For each file whether it is prunable. These are the contents that the files were read from.
@@ -52,8 +53,8 @@ pub fn prunable_files(
     contents: &[Vec<u8>],
     graph: &Graph,
 ) -> Result<Vec<bool>, NoMemory>
-    requires { graph.now ≡ map (λ v. v.items) contents.now }
-    ensures { IfOk result (λ flags. ArePrunable graph.now (docs_of graph.now) flags.items) }
+    requires { graph.now.given ≡ map (λ v. v.items) contents.now }
+    ensures { IfOk result (λ flags. ArePrunable graph.now.given (docs_of graph.now.given) flags.items) }
 {
     let mut flags = Vec::with_capacity(alloc, contents.len())?;
     for (number, file) in graph.files().iter().enumerate() {

@@ -7,6 +7,7 @@
 //! Read first: `IsPrunable` (`Prunable.antt` of `dwz_def_readback`), `ArePrunable` (`Out.antt` of `dwz_def_output`).
 #![tactic(auto)]
 
+mod asked;
 mod files;
 mod units;
 mod values;

@@ -10,9 +10,10 @@ use Rattle.dwz_model.specs.declared.place.Pair.{Pair}
 use Rattle.dwz_model.specs.declared.place.Place.{Place}
 use Rattle.dwz_def_reading.specs.Classes.{Class, ClassRow, Unread, class_in, class_rows}
 use Rattle.dwz_def_reading.specs.Documents.{Attr}
+use Rattle.dwz_def_reading.specs.Files.{around_of}
 use Rattle.dwz_def_reading.specs.Entries.{RawAttr}
 use Rattle.dwz_def_reading.specs.Input.{Input}
-use Rattle.dwz_def_reading.specs.Meanings.{MeanAttrs, MeaningContext, MeansAs, MeansAttr, number_of, without_siblings}
+use Rattle.dwz_def_reading.specs.Meanings.{MeanAttrs, MeaningContext, MeansAs, MeansAttr, number_of, scope_of, without_siblings}
 use Rattle.dwz_def_reading.specs.Units.{RawUnit}
 use Rattle.dwz_def_reading.proofs.AttrPairs.{read_pairs}
 use Rattle.dwz_def_reading.proofs.ListFacts.{drop_here, got_there}
@@ -154,21 +155,24 @@ module _ (contents : List (List ℕ)) (files : List File) (p : Place) (i : ℕ) 
   abbrev raw : List RawUnit
   raw = units_of f.units
 
-  is : IsRowOf raw (units_before (docs_of contents) p.file) i n.spot
+  pub is : IsRowOf raw (around_of n.bytes raw) (units_before (docs_of contents) p.file) i n.spot
   is = (n.means files f kept got).1
 
-  there : attr_at (docs_of contents) p index ≡ slice_get n.spot.node.attrs index
+  abbrev pub scope : MeaningContext ℕ
+  scope = scope_of (around_of n.bytes raw) is.u
+
+  pub there : attr_at (docs_of contents) p index ≡ slice_get n.spot.node.attrs index
   there = ap (option_and_then (λ (e : EntrySpot). slice_get e.node.attrs index)) n.there
 
   -- the value that is its attribute with that number
-  meant : (k : ℕ) (a : RawAttr) → ((row : EntryRow) → slice_get (rows_of raw) i ≡ Some row → slice_get (without_siblings row.entry.attrs) index ≡ slice_get row.entry.attrs k) → attr_of raw i k ≡ Some a
-      → (b : Attr ℕ) × (slice_get n.spot.node.attrs index ≡ Some b) × MeansAttr is.scope a b
+  pub meant : (k : ℕ) (a : RawAttr) → ((row : EntryRow) → slice_get (rows_of raw) i ≡ Some row → slice_get (without_siblings row.entry.attrs) index ≡ slice_get row.entry.attrs k) → attr_of raw i k ≡ Some a
+      → (b : Attr ℕ) × (slice_get n.spot.node.attrs index ≡ Some b) × MeansAttr scope a b
   meant k a same e =
-      attr_means is.scope (without_siblings is.row.entry.attrs) n.spot.node.attrs index a is.attrs_mean (same is.row is.found ∙ attr_there raw i k is.row a is.found e)
+      attr_means scope (without_siblings is.row.entry.attrs) n.spot.node.attrs index a is.attrs_mean (same is.row is.found ∙ attr_there raw i k is.row a is.found e)
 
   pub form_fits : (k : ℕ) (a : RawAttr) → ((row : EntryRow) → slice_get (rows_of raw) i ≡ Some row → slice_get (without_siblings row.entry.attrs) index ≡ slice_get row.entry.attrs k) → attr_of raw i k ≡ Some a
       → a.pair.form < 2 ^ 16
-  form_fits k a same e = let m = meant k a same e in let small_form = form_small is.scope a m.0 m.2 in omega arith
+  form_fits k a same e = let m = meant k a same e in let small_form = form_small scope a m.0 m.2 in omega arith
 
   pub attr_shown : (k : ℕ) (a : RawAttr) (number : ℤ) → ((row : EntryRow) → slice_get (rows_of raw) i ≡ Some row → slice_get (without_siblings row.entry.attrs) index ≡ slice_get row.entry.attrs k)
       → attr_of raw i k ≡ Some a → number ≡ number_of a.raw
@@ -181,7 +185,7 @@ module _ (contents : List (List ℕ)) (files : List File) (p : Place) (i : ℕ) 
 
   pub attr_missing : ((row : EntryRow) → slice_get (rows_of raw) i ≡ Some row → slice_get (without_siblings row.entry.attrs) index ≡ None) → None ≡ option_map form_view (attr_at (docs_of contents) p index)
   attr_missing none =
-      ap (option_map form_view) (sym (there ∙ attr_none is.scope (without_siblings is.row.entry.attrs) n.spot.node.attrs index is.attrs_mean (none is.row is.found)))
+      ap (option_map form_view) (sym (there ∙ attr_none scope (without_siblings is.row.entry.attrs) n.spot.node.attrs index is.attrs_mean (none is.row is.found)))
 
 pub entry_missing : (contents : List (List ℕ)) (p : Place) (index : ℕ) → entry_at (docs_of contents) p ≡ None → None ≡ option_map form_view (attr_at (docs_of contents) p index)
 entry_missing contents p index none = ap (λ (w : Option EntrySpot). option_map form_view (option_and_then (λ (e : EntrySpot). slice_get e.node.attrs index) w)) (sym none)

@@ -12,7 +12,7 @@ use Rattle.dwz_model.specs.declared.place.Place.{Place}
 use Rattle.dwz_def_reading.specs.Documents.{Doc}
 use Rattle.dwz_def_reading.specs.Entries.{RawAttr}
 use Rattle.dwz_def_reading.specs.Files.{around_of}
-use Rattle.dwz_def_reading.specs.Meanings.{MeanUnits, without_siblings}
+use Rattle.dwz_def_reading.specs.Meanings.{Around, MeanUnits, scope_of, without_siblings}
 use Rattle.dwz_def_reading.specs.Units.{RawUnit, entries_in}
 use Rattle.dwz_def_reading.proofs.AttrPairs.{read_pairs}
 use Rattle.dwz_def_reading.proofs.FileLemmas.{file_agrees}
@@ -59,26 +59,26 @@ none_beyond (x ∷ xs) (suc k) le = none_beyond xs k (omega arith)
 abbrev begins : ℕ → EntrySpot → Bool
 begins offset e = e.node.at == offset
 
-row_place : (raw : List RawUnit) (first i : ℕ) (e : EntrySpot) → IsRowOf raw first i e → place_at raw i ≡ e.node.at
-row_place raw first i e h = entry_place raw i (entry_shown h.row) (got_map entry_shown (rows_of raw) i h.row h.found) ∙ sym h.at
+row_place : (raw : List RawUnit) (around : Around ℕ) (first i : ℕ) (e : EntrySpot) → IsRowOf raw around first i e → place_at raw i ≡ e.node.at
+row_place raw around first i e h = entry_place raw i (entry_shown h.row) (got_map entry_shown (rows_of raw) i h.row h.found) ∙ sym h.at
 
-module _ (raw : List RawUnit) (first offset : ℕ) (spots : List EntrySpot) (step : InStep raw first 0 spots) (long : length spots ≡ entries_in raw) (rise : Rise (places raw)) where
-  at_number : (j : ℕ) (e : EntrySpot) → slice_get spots j ≡ Some e → IsRowOf raw first j e
-  at_number j e got = let same : 0 + j ≡ j = omega arith in subst (λ (n : ℕ). IsRowOf raw first n e) same (step_at raw first spots 0 j e step got)
+module _ (raw : List RawUnit) (around : Around ℕ) (first offset : ℕ) (spots : List EntrySpot) (step : InStep raw around first 0 spots) (long : length spots ≡ entries_in raw) (rise : Rise (places raw)) where
+  at_number : (j : ℕ) (e : EntrySpot) → slice_get spots j ≡ Some e → IsRowOf raw around first j e
+  at_number j e got = let same : 0 + j ≡ j = omega arith in subst (λ (n : ℕ). IsRowOf raw around first n e) same (step_at raw around first spots 0 j e step got)
 
   spot_found : (i : ℕ) (e : EntrySpot) → slice_get spots i ≡ Some e → place_at raw i ≡ offset → begins_at offset spots ≡ Some e
   spot_found i e got is =
       let high = got_below spots i e got in
       let many = places_many raw in
-      find_first (begins offset) spots i e got (eq-eqb e.node.at offset (sym (row_place raw first i e (at_number i e got)) ∙ is))
+      find_first (begins offset) spots i e got (eq-eqb e.node.at offset (sym (row_place raw around first i e (at_number i e got)) ∙ is))
       (λ j y lt there. ne_eqb y.node.at offset (λ same. (
       let up = rise j i lt (omega arith) in
-      let here = row_place raw first j y (at_number j y there) in
+      let here = row_place raw around first j y (at_number j y there) in
       omega (arith, up, here, same, is))))
 
   spot_none : ((i : ℕ) → i < entries_in raw → place_at raw i ≡ offset → ⊥) → begins_at offset spots ≡ None
   spot_none none = find_none (begins offset) spots (λ j y there. ne_eqb y.node.at offset (λ same.
-      none j (let high = got_below spots j y there in omega arith) (row_place raw first j y (at_number j y there) ∙ same)))
+      none j (let high = got_below spots j y there in omega arith) (row_place raw around first j y (at_number j y there) ∙ same)))
 
 -- ---- of a file that is kept
 
@@ -104,8 +104,8 @@ module _ (contents : List (List ℕ)) (files : List File) (p : Place) (kept : Ar
     means : MeanUnits (around_of o.bytes raw) raw o.read.doc.units
     means = (((file_agrees o.limits o.bytes).ok (raw, o.read.doc)).0 o.read.means).means
 
-    step : InStep raw first 0 spots
-    step = all_in_step raw first (around_of o.bytes raw) o.read.doc.units (λ n. refl) means
+    step : InStep raw (around_of o.bytes raw) first 0 spots
+    step = all_in_step raw (around_of o.bytes raw) first o.read.doc.units (λ n. refl) means
 
     long : length spots ≡ entries_in raw
     long = all_long (around_of o.bytes raw) raw o.read.doc.units first means
@@ -114,21 +114,23 @@ module _ (contents : List (List ℕ)) (files : List File) (p : Place) (kept : Ar
     there = ap (option_and_then (λ (doc : Doc ℕ). begins_at p.offset (spots_from first doc.units))) o.doc_is
 
     pub no_entry : ((i : ℕ) → i < entries_in raw → place_at raw i ≡ p.offset → ⊥) → entry_at (docs_of contents) p ≡ None
-    no_entry none = there ∙ spot_none raw first p.offset spots step long (places_rise f.units) none
+    no_entry none = there ∙ spot_none raw (around_of o.bytes raw) first p.offset spots step long (places_rise f.units) none
 
     pub a_number : (i : ℕ) → i < entries_in raw → place_at raw i ≡ p.offset → IsNumberAt contents p i
     a_number i lt place =
         let e = got_there spots i (omega (arith, long, lt)) in
-        let is = at_number raw first p.offset spots step long (places_rise f.units) i e.0 e.1 in
+        let is = at_number raw (around_of o.bytes raw) first p.offset spots step long (places_rise f.units) i e.0 e.1 in
         let many = files_few contents files kept in
         let low = got_below files p.file f got in
         record {
           within = omega arith;
+          bytes = o.bytes;
+          content = o.content;
           spot = e.0;
-          there = there ∙ spot_found raw first p.offset spots step long (places_rise f.units) i e.0 e.1 place;
+          there = there ∙ spot_found raw (around_of o.bytes raw) first p.offset spots step long (places_rise f.units) i e.0 e.1 place;
           means = λ others g also found. (
               let same = same_file contents p.file f g o (file_of contents others p.file g also found) in
-              (subst (λ (w : List RawUnit). i < entries_in w) same lt, subst (λ (w : List RawUnit). IsRowOf w first i e.0) same is));
+              (subst (λ (w : List RawUnit). i < entries_in w) same lt, subst (λ (w : List RawUnit). IsRowOf w (around_of o.bytes w) first i e.0) same is));
         }
 
     pub a_number_if : (o : Option ℕ) → IfSome o (λ i. (i < entries_in raw) × (place_at raw i ≡ p.offset)) → IfSome o (λ i. IsNumberAt contents p i)
@@ -157,18 +159,19 @@ file_within contents files p i kept n =
 pub an_entry : (contents : List (List ℕ)) (files : List File) (p : Place) (i : ℕ) (f : File) (n : IsNumberAt contents p i) → AreKept contents files → slice_get files p.file ≡ Some f
     → (x : EntryOfCode) (attrs child next unit : ℕ) → slice_get (shown_entries (units_of f.units)) i ≡ Some x → unit ≡ units_before (docs_of contents) p.file
     → ((row : EntryRow) → slice_get (rows_of (units_of f.units)) i ≡ Some row → attrs ≡ length (without_siblings row.entry.attrs))
-    → ((n : ℕ) (e : EntrySpot) → IsRowOf (units_of f.units) n i e → child ≡ first_offset e.below)
-    → ((n : ℕ) (e : EntrySpot) → IsRowOf (units_of f.units) n i e → next ≡ first_offset e.behind)
+    → ((around : Around ℕ) (n : ℕ) (e : EntrySpot) → IsRowOf (units_of f.units) around n i e → child ≡ first_offset e.below)
+    → ((around : Around ℕ) (n : ℕ) (e : EntrySpot) → IsRowOf (units_of f.units) around n i e → next ≡ first_offset e.behind)
     → Some (record { tag = x.tag; unit = unit + x.unit; attrs = attrs; child = child; next = next }) ≡ option_map entry_view (entry_at (docs_of contents) p)
 an_entry contents files p i f n kept got x attrs child next unit shown base many below behind =
     let is = (n.means files f kept got).1 in
     let first = units_before (docs_of contents) p.file in
+    let around = around_of n.bytes (units_of f.units) in
     let same = row_is (units_of f.units) i x is.row shown is.found in
     let tag : x.tag ≡ n.spot.node.tag = ap (λ (w : EntryOfCode). w.tag) (sym same) ∙ sym is.tag_is in
     let unit_is : unit + x.unit ≡ n.spot.unit = (let a = ap (λ (w : EntryOfCode). w.unit) same in let b = is.unit_is in omega arith) in
-    let attrs_are : attrs ≡ length n.spot.node.attrs = many is.row is.found ∙ sym (means_many is.scope (without_siblings is.row.entry.attrs) n.spot.node.attrs is.attrs_mean) in
-    let child_is = below first n.spot is in
-    let next_is = behind first n.spot is in
+    let attrs_are : attrs ≡ length n.spot.node.attrs = many is.row is.found ∙ sym (means_many (scope_of around is.u) (without_siblings is.row.entry.attrs) n.spot.node.attrs is.attrs_mean) in
+    let child_is = below around first n.spot is in
+    let next_is = behind around first n.spot is in
     let shown_is : record { tag = x.tag; unit = unit + x.unit; attrs = attrs; child = child; next = next } ≡ entry_view n.spot
     = (λ j. record { tag = tag j; unit = unit_is j; attrs = attrs_are j; child = child_is j; next = next_is j }) in
     ap Some shown_is ∙ ap (option_map entry_view) (sym n.there)
@@ -179,20 +182,20 @@ not_shown contents p none = ap (option_map entry_view) (sym none)
 -- ---- children and siblings
 
 pub child_some : (raw : List RawUnit) (i : ℕ) (x y : EntryOfCode) → slice_get (shown_entries raw) i ≡ Some x → i + 1 < x.end → slice_get (shown_entries raw) (i + 1) ≡ Some y
-    → (first : ℕ) (e : EntrySpot) → IsRowOf raw first i e → y.at ≡ first_offset e.below
-child_some raw i x y shown lt there first e is =
+    → (around : Around ℕ) (first : ℕ) (e : EntrySpot) → IsRowOf raw around first i e → y.at ≡ first_offset e.below
+child_some raw i x y shown lt there around first e is =
     let row = row_is raw i x is.row shown is.found in
     let next = entry_row raw (i + 1) y there in
     let end = ap (λ (w : EntryOfCode). w.end) row in
     ap (λ (w : EntryOfCode). w.at) (sym next.2) ∙ sym (is.children.some (omega arith) next.0 next.1)
 
-pub child_none : (raw : List RawUnit) (i : ℕ) (x : EntryOfCode) → slice_get (shown_entries raw) i ≡ Some x → x.end ≤ i + 1 → (first : ℕ) (e : EntrySpot) → IsRowOf raw first i e → 0 ≡ first_offset e.below
-child_none raw i x shown le first e is =
+pub child_none : (raw : List RawUnit) (i : ℕ) (x : EntryOfCode) → slice_get (shown_entries raw) i ≡ Some x → x.end ≤ i + 1 → (around : Around ℕ) (first : ℕ) (e : EntrySpot) → IsRowOf raw around first i e → 0 ≡ first_offset e.below
+child_none raw i x shown le around first e is =
     let row = row_is raw i x is.row shown is.found in
     let end = ap (λ (w : EntryOfCode). w.end) row in
     sym (is.children.none (omega arith))
 
-module _ (raw : List RawUnit) (i : ℕ) (x : EntryOfCode) (shown : slice_get (shown_entries raw) i ≡ Some x) (first : ℕ) (e : EntrySpot) (is : IsRowOf raw first i e) where
+module _ (raw : List RawUnit) (i : ℕ) (x : EntryOfCode) (shown : slice_get (shown_entries raw) i ≡ Some x) (around : Around ℕ) (first : ℕ) (e : EntrySpot) (is : IsRowOf raw around first i e) where
   same : entry_shown is.row ≡ x
   same = row_is raw i x is.row shown is.found
 

@@ -1,12 +1,10 @@
 -- The documents of files that are kept, by their numbers; and that these are few.
-use Rattle.std.proofs.Common.{◌≡◌, ℕ, zero, suc, ◌<◌, ◌≤◌, ◌^◌, List, [], ◌∷◌, length, Some, slice_get, Result, Ok, Err, refl, sym, ap, ◌∙◌, inl, inr, arith}
+use Rattle.std.proofs.Common.{◌≡◌, ℕ, zero, suc, ◌<◌, ◌≤◌, ◌^◌, List, [], ◌∷◌, length, Some, slice_get, Ok, refl, sym, ap, ◌∙◌, inl, inr, arith}
 use Rattle.std.specs.List.{slice_index_or}
 use Rattle.dwz_model.specs.declared.fault.Reason.TheVariants.{NotElf}
-use Rattle.dwz_model.specs.declared.fault.Refusal.{Refusal}
 use Rattle.dwz_def_reading.specs.Documents.{Doc}
 use Rattle.dwz_def_reading.specs.ElfFaults.{file_fault}
-use Rattle.dwz_def_reading.specs.Files.{Limits, file_meaning, files_meaning, limits_after, longest_files, no_files_before, with_doc}
-use Rattle.dwz_def_reading.specs.Reading.{◌>>=◌}
+use Rattle.dwz_def_reading.specs.Files.{Limits, file_meaning, files_meaning, limits_after, longest_files, no_files_before}
 use Rattle.dwz_def_reading.specs.Units.{RawUnit}
 use Rattle.dwz_def_reading.proofs.FileLemmas.{file_agrees}
 use Rattle.dwz_def_reading.proofs.ListFacts.{got_below, got_there, item_got}

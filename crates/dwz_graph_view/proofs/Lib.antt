@@ -7,3 +7,10 @@ mod RowSpots
 mod EntrySteps
 mod AttrSteps
 mod TopSteps
+mod SpaceSteps
+mod TopSpaces
+mod NumberSteps
+mod PieceSteps
+mod ValueSteps
+mod SettingSteps
+mod AttrValues

@@ -60,14 +60,14 @@ beyond_units unit before (u ∷ raw) = λ same. absurd (let e : unit + 1 ≡ uni
 
 -- ---- in step
 
-module _ (raw : List RawUnit) (first : ℕ) where
+module _ (raw : List RawUnit) (around : Around ℕ) (first : ℕ) where
   abbrev rows : List EntryRow
   rows = rows_of raw
 
   -- the rows from that number on mean these entries
   abbrev pub InStep : ℕ → List EntrySpot → Type 0
   InStep i [] = Unit {0}
-  InStep i (e ∷ spots) = IsRowOf raw first i e × InStep (i + 1) spots
+  InStep i (e ∷ spots) = IsRowOf raw around first i e × InStep (i + 1) spots
 
   step_append : (xs ys : List EntrySpot) (i j : ℕ) → j ≡ i + length xs → InStep i xs → InStep j ys → InStep i (xs ++ ys)
   step_append [] ys i j e h k = (let same : j ≡ i = omega arith in subst (λ (n : ℕ). InStep n ys) same k)
@@ -121,14 +121,15 @@ module _ (raw : List RawUnit) (first : ℕ) where
     last = λ le. absurd (let lt = got_below rows row.end _ (drop_first rows row.end _ _ e).0 in omega arith);
   }
 
-  below_in_step : (s : MeaningContext ℕ) → ((n : ℕ) → s.around.place n ≡ n) → (f : Forest RawEntry) (g : Entries ℕ) (unit : ℕ) (p : Position) (after : List EntryRow) → MeanEntries s f g
+  below_in_step : ((n : ℕ) → around.place n ≡ n) → (u : RawUnit) (f : Forest RawEntry) (g : Entries ℕ) (unit : ℕ) (p : Position) (after : List EntryRow) → slice_get raw unit ≡ Some u → MeanEntries (scope_of around u) f g
       → drop p.before rows ≡ rows_below f unit p ++ after → Beyond unit p.depth after
       → InStep p.before (spots_below (first + unit) g)
   unfolding rows_below spots_below
-  below_in_step s same End End unit p after h e far = tt
-  below_in_step s same End (Entry d g o) unit p after h e far = absurd h
-  below_in_step s same (Entry x c l) End unit p after h e far = absurd h
-  below_in_step s same (Entry x c l) (Entry d g o) unit p after h e far =
+  below_in_step same u End End unit p after is h e far = tt
+  below_in_step same u End (Entry d g o) unit p after is h e far = absurd h
+  below_in_step same u (Entry x c l) End unit p after is h e far = absurd h
+  below_in_step same u (Entry x c l) (Entry d g o) unit p after is h e far =
+      let s : MeaningContext ℕ = scope_of around u in
       let i = p.before in
       let row : EntryRow = record { entry = x; unit = unit; depth = p.depth; end = i + 1 + size c } in
       let below = rows_below c unit (first_below p) in
@@ -145,23 +146,25 @@ module _ (raw : List RawUnit) (first : ℕ) where
           unit_is = refl;
           at = h.0.place ∙ same x.at;
           tag_is = h.0.tag;
-          scope = s;
+          u = u;
+          is_unit = is;
           attrs_mean = h.0.attrs;
           children = children_are s same i unit (first_below p) row c g (others ++ after) h.1 refl rest;
           siblings = siblings_are s same unit (behind p c) row l o after h.2 refl refl far back;
         },
         step_append (spots_below (first + unit) g) (spots_below (first + unit) o) (i + 1) (i + 1 + size c) (omega arith)
-            (below_in_step s same c g unit (first_below p) (others ++ after) h.1 rest (beyond_list unit (behind p c) l after far))
-            (below_in_step s same l o unit (behind p c) after h.2 back far),
+            (below_in_step same u c g unit (first_below p) (others ++ after) is h.1 rest (beyond_list unit (behind p c) l after far))
+            (below_in_step same u l o unit (behind p c) after is h.2 back far),
       )
 
-  units_in_step : (around : Around ℕ) → ((n : ℕ) → around.place n ≡ n) → (us : List RawUnit) (vs : List (DwUnit ℕ)) (unit before : ℕ) → MeanUnits around us vs → drop before rows ≡ rows_from us unit before
+  units_in_step : ((n : ℕ) → around.place n ≡ n) → (us : List RawUnit) (vs : List (DwUnit ℕ)) (unit before : ℕ) → drop unit raw ≡ us → MeanUnits around us vs → drop before rows ≡ rows_from us unit before
       → InStep before (spots_from (first + unit) vs)
   unfolding rows_from spots_from
-  units_in_step around same [] [] unit before h e = tt
-  units_in_step around same [] (v ∷ vs) unit before h e = absurd h
-  units_in_step around same (u ∷ us) [] unit before h e = absurd h
-  units_in_step around same (u ∷ us) (v ∷ vs) unit before h e =
+  units_in_step same [] [] unit before own_units h e = tt
+  units_in_step same [] (v ∷ vs) unit before own_units h e = absurd h
+  units_in_step same (u ∷ us) [] unit before own_units h e = absurd h
+  units_in_step same (u ∷ us) (v ∷ vs) unit before own_units h e =
+      let here = drop_first raw unit u us own_units in
       let own = rows_in u unit before in
       let others = rows_from us (unit + 1) (before + entry_count u) in
       let s : MeaningContext ℕ = scope_of around u in
@@ -170,27 +173,27 @@ module _ (raw : List RawUnit) (first : ℕ) where
       let one : first + (unit + 1) ≡ suc (first + unit) = omega arith in
       let back : drop (before + entry_count u) rows ≡ others = drop_more rows before (entry_count u) ∙ ap (drop (entry_count u)) e ∙ drop_at own others (entry_count u) (rows_in-length u unit before) in
       step_append (spots_below (first + unit) (Entry v.root v.below End)) (spots_from (suc (first + unit)) vs) before (before + entry_count u) (omega arith)
-      (below_in_step s same (Entry u.root u.below End) (Entry v.root v.below End) unit (root_position before) others (h.0.root, h.0.below, tt) e (beyond_units unit (before + entry_count u) us))
-      (subst (λ (n : ℕ). InStep (before + entry_count u) (spots_from n vs)) one (units_in_step around same us vs (unit + 1) (before + entry_count u) h.1 back))
+      (below_in_step same u (Entry u.root u.below End) (Entry v.root v.below End) unit (root_position before) others here.0 (h.0.root, h.0.below, tt) e (beyond_units unit (before + entry_count u) us))
+      (subst (λ (n : ℕ). InStep (before + entry_count u) (spots_from n vs)) one (units_in_step same us vs (unit + 1) (before + entry_count u) here.1 h.1 back))
 
   -- ---- one by its number
 
-  pub step_at : (spots : List EntrySpot) (i j : ℕ) (e : EntrySpot) → InStep i spots → slice_get spots j ≡ Some e → IsRowOf raw first (i + j) e
+  pub step_at : (spots : List EntrySpot) (i j : ℕ) (e : EntrySpot) → InStep i spots → slice_get spots j ≡ Some e → IsRowOf raw around first (i + j) e
   step_at [] i j e h got = absurd cc
   step_at (x ∷ spots) i zero e h got =
       let one : x ≡ e = cc in
       let same : i ≡ i + 0 = omega arith in
-      subst (λ (w : EntrySpot). IsRowOf raw first (i + 0) w) one (subst (λ (n : ℕ). IsRowOf raw first n x) same h.0)
+      subst (λ (w : EntrySpot). IsRowOf raw around first (i + 0) w) one (subst (λ (n : ℕ). IsRowOf raw around first n x) same h.0)
   step_at (x ∷ spots) i (suc j) e h got =
       let same : i + 1 + j ≡ i + suc j = omega arith in
-      subst (λ (n : ℕ). IsRowOf raw first n e) same (step_at spots (i + 1) j e h.1 got)
+      subst (λ (n : ℕ). IsRowOf raw around first n e) same (step_at spots (i + 1) j e h.1 got)
 
 -- ---- of a file
 
-pub all_in_step : (raw : List RawUnit) (first : ℕ) (around : Around ℕ) (vs : List (DwUnit ℕ)) → ((n : ℕ) → around.place n ≡ n) → MeanUnits around raw vs → InStep raw first 0 (spots_from first vs)
-all_in_step raw first around vs same h =
+pub all_in_step : (raw : List RawUnit) (around : Around ℕ) (first : ℕ) (vs : List (DwUnit ℕ)) → ((n : ℕ) → around.place n ≡ n) → MeanUnits around raw vs → InStep raw around first 0 (spots_from first vs)
+all_in_step raw around first vs same h =
     let none : first + 0 ≡ first = omega arith in
-    subst (λ (n : ℕ). InStep raw first 0 (spots_from n vs)) none (units_in_step raw first around same raw vs 0 0 h refl)
+    subst (λ (n : ℕ). InStep raw around first 0 (spots_from n vs)) none (units_in_step raw around first same raw vs 0 0 refl h refl)
 
 pub all_long : (around : Around ℕ) (raw : List RawUnit) (vs : List (DwUnit ℕ)) (unit : ℕ) → MeanUnits around raw vs → length (spots_from unit vs) ≡ entries_in raw
 unfolding spots_from entries_in

@@ -5,3 +5,7 @@ pub mod EntryViews
 pub mod EntryRows
 pub mod AttrViews
 pub mod TopPaths
+pub mod ValueViews
+pub mod PieceRows
+pub mod Settings
+pub mod SpaceRows

@@ -2,17 +2,15 @@
 
 ghost use Rattle.std.specs.Prelude.{◌≡◌, ◌<◌, ℕ, None, Some, IfSome, slice_get};
 ghost use Rattle.std.specs.Option.{option_map};
-ghost use Rattle.dwz_def_reading.specs.Meanings;
 ghost use Rattle.dwz_def_reading.specs.Meanings.{without_siblings};
 ghost use Rattle.dwz_def_reading.specs.Units.{entries_in};
-ghost use Rattle.dwz_forms.specs.RawValues.{raw_view};
 ghost use Rattle.dwz_graph.specs.Files.{docs_of};
 ghost use Rattle.dwz_graph_view.specs.AttrViews.{attr_at, form_view};
 ghost use Rattle.dwz_unit.specs.Rows.{EntryRow, attr_count, rows_of, units_of};
 
 use crate::entry_views::number_at;
+use crate::numbers::number_of;
 use dwz_codes::DW_AT_SIBLING;
-use dwz_forms::Raw;
 use dwz_graph::Graph;
 use dwz_model::Place;
 use dwz_unit::{Units, Values};
@@ -28,8 +26,8 @@ pub struct AttrForm {
     pub raw: i128,
 }
 
-// Which value of an entry is its attribute with a number: `DW_AT_sibling` isn't counted.
-fn find_attr(units: &Units, entry: u32, index: u32) -> Option<u32>
+/// Which value of an entry is its attribute with a number: `DW_AT_sibling` isn't counted.
+pub(crate) fn find_attr(units: &Units, entry: u32, index: u32) -> Option<u32>
     requires { entry < entries_in (units_of units.now) }
     ensures found { IfSome result (λ k. (k < attr_count (units_of units.now) entry)
         × ((row : EntryRow) → slice_get (rows_of (units_of units.now)) entry ≡ Some row
@@ -54,20 +52,10 @@ fn find_attr(units: &Units, entry: u32, index: u32) -> Option<u32>
     None
 }
 
-/// The number that a value stores; 0 where it stores bytes.
-pub(crate) fn number_of(raw: &Raw) -> i128
-    ensures { result ≡ Meanings.number_of (raw_view raw.now) }
-{
-    match raw {
-        Raw::Number(number) => *number,
-        Raw::Bytes(_) => 0,
-    }
-}
-
 /// The attribute with a number, from 0, of the entry that begins at a place, but for its value. None exactly where there is none.
 /// `DW_AT_sibling` is no attribute of a document (7.5.4).
 pub fn attr_form(graph: &Graph, place: Place, index: u32) -> Option<AttrForm>
-    ensures { result ≡ option_map form_view (attr_at (docs_of graph.now) place index) }
+    ensures { result ≡ option_map form_view (attr_at (docs_of graph.now.given) place index) }
 {
     let number = number_at(graph, place)?;
     let units = &graph.files()[place.file as usize].units;

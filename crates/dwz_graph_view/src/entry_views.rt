@@ -2,7 +2,7 @@
 
 ghost use Rattle.std.specs.Prelude.{◌≡◌, ◌+◌, ◌<◌, ◌≤◌, ◌==◌, ℕ, None, Some, IfSome, count_by, length, not, slice_get};
 ghost use Rattle.std.specs.Option.{option_map};
-ghost use Rattle.dwz_def_reading.specs.Meanings.{without_siblings};
+ghost use Rattle.dwz_def_reading.specs.Meanings.{Around, without_siblings};
 ghost use Rattle.dwz_def_reading.specs.Units.{entries_in};
 ghost use Rattle.dwz_graph.specs.Files.{docs_of};
 ghost use Rattle.dwz_graph.specs.Places.{place_at};
@@ -80,7 +80,7 @@ fn attrs_of(units: &Units, entry: u32) -> u32
 // Where the first child of the entry with a number begins, or 0.
 fn child_of(units: &Units, entry: u32) -> u32
     requires { entry < entries_in (units_of units.now) }
-    ensures { (first : ℕ) (e : EntrySpot) → IsRowOf (units_of units.now) first entry e → result ≡ first_offset e.below }
+    ensures { (around : Around ℕ) (first : ℕ) (e : EntrySpot) → IsRowOf (units_of units.now) around first entry e → result ≡ first_offset e.below }
 {
     let end = units.entry(entry).end;
     if entry + 1 < end {
@@ -93,7 +93,7 @@ fn child_of(units: &Units, entry: u32) -> u32
 // Where the next sibling of the entry with a number begins, or 0.
 fn next_of(units: &Units, entry: u32) -> u32
     requires { entry < entries_in (units_of units.now) }
-    ensures { (first : ℕ) (e : EntrySpot) → IsRowOf (units_of units.now) first entry e → result ≡ first_offset e.behind }
+    ensures { (around : Around ℕ) (first : ℕ) (e : EntrySpot) → IsRowOf (units_of units.now) around first entry e → result ≡ first_offset e.behind }
 {
     let row = units.entry(entry);
     if row.end >= units.entries() {
@@ -109,8 +109,8 @@ fn next_of(units: &Units, entry: u32) -> u32
 
 /// The number of the entry that begins at a place, among those of its file.
 pub(crate) fn number_at(graph: &Graph, place: Place) -> Option<u32>
-    ensures found { IfSome result (λ i. IsNumberAt graph.now place i) }
-    ensures none { result ≡ None → entry_at (docs_of graph.now) place ≡ None }
+    ensures found { IfSome result (λ i. IsNumberAt graph.now.given place i) }
+    ensures none { result ≡ None → entry_at (docs_of graph.now.given) place ≡ None }
 {
     let files = graph.files();
     if place.file as usize >= files.len() {
@@ -121,7 +121,7 @@ pub(crate) fn number_at(graph: &Graph, place: Place) -> Option<u32>
 
 /// The entry that begins at a place. None exactly where no entry begins there.
 pub fn entry(graph: &Graph, place: Place) -> Option<EntryView>
-    ensures { result ≡ option_map entry_view (entry_at (docs_of graph.now) place) }
+    ensures { result ≡ option_map entry_view (entry_at (docs_of graph.now.given) place) }
 {
     let number = number_at(graph, place)?;
     let units = &graph.files()[place.file as usize].units;

@@ -16,10 +16,10 @@ use std::alloc::Global;
 
 // The index of the file of a place, and the number there of the entry that begins at the place.
 fn indexed_at<'a>(graph: &Graph, indexes: &'a [Index], place: Place) -> Option<(&'a Index, u32)>
-    requires { AreIndexes (docs_of graph.now) indexes.now }
+    requires { AreIndexes (docs_of graph.now.given) indexes.now }
     ensures found { IfSome result (λ found. IsNamedBy found.0.now found.1
-        (name_of_place (docs_of graph.now) (at_file place.file place.offset))) }
-    ensures none { result ≡ None → top_in (name_of_place (docs_of graph.now) (at_file place.file place.offset)) ≡ None }
+        (name_of_place (docs_of graph.now.given) (at_file place.file place.offset))) }
+    ensures none { result ≡ None → top_in (name_of_place (docs_of graph.now.given) (at_file place.file place.offset)) ≡ None }
 {
     let files = graph.files();
     if place.file as usize >= files.len() {
@@ -32,8 +32,8 @@ fn indexed_at<'a>(graph: &Graph, indexes: &'a [Index], place: Place) -> Option<(
 /// The number of the top, among those of all files, in which the entry stands that begins at a place. None exactly where no entry begins
 /// there, or where it is a root, a space, or an entry of a type unit.
 pub fn top_of(graph: &Graph, indexes: &[Index], place: Place) -> Option<u32>
-    requires { AreIndexes (docs_of graph.now) indexes.now }
-    ensures { result ≡ top_in (name_of_place (docs_of graph.now) (at_file place.file place.offset)) }
+    requires { AreIndexes (docs_of graph.now.given) indexes.now }
+    ensures { result ≡ top_in (name_of_place (docs_of graph.now.given) (at_file place.file place.offset)) }
 {
     let (index, entry) = indexed_at(graph, indexes, place)?;
     index.top_of(entry)
@@ -59,8 +59,8 @@ pub fn path_of(
     indexes: &[Index],
     place: Place,
 ) -> Result<Option<Numbers>, NoMemory>
-    requires { AreIndexes (docs_of graph.now) indexes.now }
-    ensures { IfOk result (λ path. path ≡ path_from_top (name_of_place (docs_of graph.now) (at_file place.file place.offset))) }
+    requires { AreIndexes (docs_of graph.now.given) indexes.now }
+    ensures { IfOk result (λ path. path ≡ path_from_top (name_of_place (docs_of graph.now.given) (at_file place.file place.offset))) }
 {
     let Some((index, entry)) = indexed_at(graph, indexes, place) else {
         return Ok(None);

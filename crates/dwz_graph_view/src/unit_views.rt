@@ -32,8 +32,8 @@ struct UnitSpot {
 
 /// How many units the files before the one with a number have.
 pub(crate) fn units_before(graph: &Graph, file: u32) -> u32
-    requires { file ≤ length graph.now }
-    ensures { result ≡ EntryViews.units_before (docs_of graph.now) file }
+    requires { file ≤ length graph.now.given }
+    ensures { result ≡ EntryViews.units_before (docs_of graph.now.given) file }
 {
     let files = graph.files();
     let mut count = 0;
@@ -45,15 +45,15 @@ pub(crate) fn units_before(graph: &Graph, file: u32) -> u32
 
 /// How many units all files have.
 pub fn units(graph: &Graph) -> u32
-    ensures { result ≡ length (all_units (docs_of graph.now)) }
+    ensures { result ≡ length (all_units (docs_of graph.now.given)) }
 {
     units_before(graph, graph.files().len() as u32)
 }
 
 // Where the unit with a number is.
 fn find_unit(graph: &Graph, n: u32) -> UnitSpot
-    requires { n < length (all_units (docs_of graph.now)) }
-    ensures { HasUnit graph.now n result.file result.unit }
+    requires { n < length (all_units (docs_of graph.now.given)) }
+    ensures { HasUnit graph.now.given n result.file result.unit }
 {
     let mut left = n;
     for (number, file) in graph.files().iter().enumerate() {
@@ -89,8 +89,8 @@ fn kind_of(file: u32, unit: &RawUnit) -> UnitKind
 
 /// The unit with a number, from 0: units are counted over all files, in order of file and place.
 pub fn unit(graph: &Graph, n: u32) -> UnitView
-    requires { n < length (all_units (docs_of graph.now)) }
-    ensures { IsUnit (docs_of graph.now) n result }
+    requires { n < length (all_units (docs_of graph.now.given)) }
+    ensures { IsUnit (docs_of graph.now.given) n result }
 {
     let UnitSpot { file, unit } = find_unit(graph, n);
     let units = &graph.files()[file as usize].units;

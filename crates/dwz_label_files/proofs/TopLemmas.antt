@@ -203,7 +203,7 @@ module _ (contents : List (List ℕ)) (file : ℕ) (bytes : List ℕ) (f : File)
 
 pub record Known (r : Run) (file : ℕ) (f : File) (x : Index) (e : TopEntry) (row : UnitRow) : Type 0 where
   pub bytes : List ℕ
-  pub is : IsFileAmong r.graph.now file bytes f x
+  pub is : IsFileAmong r.graph.now.given file bytes f x
   pub k : ℕ
   pub entry : slice_get x.tops k ≡ Some e
   pub unit : IsUnitRow (raw_units f.units) (e.unit - x.starts.unit) row
@@ -213,7 +213,7 @@ pub known : (r : Run) (file : ℕ) (f : File) (x : Index) (e : TopEntry) (row : 
 known r file f x e row run got index h =
     let fe : h.f ≡ f = same_got r.files.now file h.f f h.got got in
     let xe : h.x ≡ x = same_got r.indexes.now file h.x x h.index index in
-    let there = is_among r.graph.now r.files.now r.indexes.now file f x run.kept run.indexed got index in
+    let there = is_among r.graph.now.given r.files.now r.indexes.now file f x run.kept run.indexed got index in
     record {
       bytes = there.bytes;
       is = there.is;
@@ -237,9 +237,9 @@ pub record Found (r : Run) (file n : ℕ) (e : TopEntry) : Type 0 where
 pub found : (r : Run) (file n : ℕ) (e : TopEntry) → IsRun r → IsInFile r.files.now r.indexes.now file n
     → ((x : Index) → slice_get r.indexes.now file ≡ Some x → slice_get x.tops (n - x.starts.top) ≡ Some e) → Found r file n e
 found r file n e run h entry =
-    let there = is_among r.graph.now r.files.now r.indexes.now file h.f h.x run.kept run.indexed h.got h.index in
+    let there = is_among r.graph.now.given r.files.now r.indexes.now file h.f h.x run.kept run.indexed h.got h.index in
     let own = entry h.x h.index in
-    let u = unit_there r.graph.now file there.bytes h.f h.x there.is (n - h.x.starts.top) e own in
+    let u = unit_there r.graph.now.given file there.bytes h.f h.x there.is (n - h.x.starts.top) e own in
     record { f = h.f; x = h.x; got = h.got; index = h.index; from = h.from; entry = own; m = u.0; one = u.1; unit = u.2 }
 
 -- with what is kept of its unit

@@ -35,8 +35,8 @@ pub record Asked : Type 0 where
 
 -- the files are kept, and each has its index
 pub record IsRun (r : Run) : Type 0 where
-  pub kept : AreKept r.graph.now r.files.now
-  pub indexed : AreIndexes (docs_of r.graph.now) r.indexes.now
+  pub kept : AreKept r.graph.now.given r.files.now
+  pub indexed : AreIndexes (docs_of r.graph.now.given) r.indexes.now
 
 -- the top with a number among those of all files is of the file with that number
 pub record IsInFile (files : List File) (indexes : List Index) (file n : ℕ) : Type 0 where

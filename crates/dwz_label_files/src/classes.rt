@@ -29,13 +29,13 @@ pub fn least<R: Threads + Sync, G: Gate>(
     workers: u32,
     gate: &G,
 ) -> Result<Numbers, NoMemory>
-    requires indexes { AreIndexes (docs_of graph.now) indexes.now }
-    requires movable { length movable.now ≡ length (tops_of (units_of (docs_of graph.now))) }
-    requires targets { length tops.now.targets ≡ length (tops_of (units_of (docs_of graph.now))) }
+    requires indexes { AreIndexes (docs_of graph.now.given) indexes.now }
+    requires movable { length movable.now ≡ length (tops_of (units_of (docs_of graph.now.given))) }
+    requires targets { length tops.now.targets ≡ length (tops_of (units_of (docs_of graph.now.given))) }
     requires inside { All (λ ts. All (λ t. t < length tops.now.targets) ts) tops.now.targets }
     requires workers { (0 < workers) × (workers ≤ 64) }
-    ensures { ShowTargets (units_of (docs_of graph.now)) movable.now tops.now.targets
-        → IfOk result (λ least. AreLeast (units_of (docs_of graph.now)) least) }
+    ensures { ShowTargets (units_of (docs_of graph.now.given)) movable.now tops.now.targets
+        → IfOk result (λ least. AreLeast (units_of (docs_of graph.now.given)) least) }
 {
     let labels = labels(rt, alloc, graph, indexes, movable, workers)?;
     least_alike(rt, alloc, &labels, movable, &tops.targets, workers, gate)

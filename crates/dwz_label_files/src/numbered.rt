@@ -21,8 +21,8 @@ pub(crate) fn put_numbered(
     out: &mut Vec<u8>,
 ) -> Result<(), NoMemory>
     requires ready { AreReady run.now rows.now }
-    requires there { n < length (tops_of (units_of (docs_of run.now.graph.now))) }
-    ensures { OnOk result (out.new.items ≡ out.old.items ++ nth_label (labels_of run.now.graph.now) n) }
+    requires there { n < length (tops_of (units_of (docs_of run.now.graph.now.given))) }
+    ensures { OnOk result (out.new.items ≡ out.old.items ++ nth_label (labels_of run.now.graph.now.given) n) }
 {
     let file = file_of(run, n);
     let entry = entry_of(run, file, n);

@@ -24,9 +24,9 @@ pub(crate) fn run_of<'g, 'a>(
     graph: &'g Graph<'a>,
     indexes: &'g [Index],
 ) -> Run<'g, 'a>
-    requires { AreIndexes (docs_of graph.now) indexes.now }
+    requires { AreIndexes (docs_of graph.now.given) indexes.now }
     ensures run { IsRun result }
-    ensures graph { result.graph.now ≡ graph.now }
+    ensures graph { result.graph.now.given ≡ graph.now.given }
 {
     let files = graph.files();
     Run {

@@ -12,7 +12,7 @@ use dwz_graph::TopEntry;
 /// The number of the file that a top is of, by the top's number among those of all files.
 pub(crate) fn file_of(run: &Run, n: usize) -> usize
     requires run { IsRun run.now }
-    requires there { n < length (tops_of (units_of (docs_of run.now.graph.now))) }
+    requires there { n < length (tops_of (units_of (docs_of run.now.graph.now.given))) }
     ensures { IsInFile run.now.files.now run.now.indexes.now result n }
 {
     let mut low = 0;
@@ -42,7 +42,7 @@ pub(crate) fn entry_of(run: &Run, file: usize, n: usize) -> TopEntry
 /// How many tops all files have.
 pub(crate) fn top_count(run: &Run) -> usize
     requires { IsRun run.now }
-    ensures count { result ≡ length (tops_of (units_of (docs_of run.now.graph.now))) }
+    ensures count { result ≡ length (tops_of (units_of (docs_of run.now.graph.now.given))) }
     ensures few { result ≤ 2 ^ 29 }
 {
     let count = run.indexes.len();

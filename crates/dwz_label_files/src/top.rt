@@ -43,7 +43,7 @@ pub(crate) fn put_top_of(
     requires run { IsRun run.now }
     requires there { IsTopIn run.now.files.now run.now.indexes.now file entry.now row.now }
     ensures { (x : Index) (k : ℕ) → slice_get run.now.indexes.now file ≡ Some x → slice_get x.tops k ≡ Some entry.now
-        → OnOk result (out.new.items ≡ out.old.items ++ nth_label (labels_of run.now.graph.now) (x.starts.top + k)) }
+        → OnOk result (out.new.items ≡ out.old.items ++ nth_label (labels_of run.now.graph.now.given) (x.starts.top + k)) }
 {
     let read = file_at(run, file);
     let index = index_at(run, file);

@@ -20,8 +20,8 @@ use std::thread::Threads;
 
 /// How many tops all files have.
 pub fn count_tops(alloc: Global, graph: &Graph, indexes: &[Index]) -> usize
-    requires { AreIndexes (docs_of graph.now) indexes.now }
-    ensures { result ≡ length (tops_of (units_of (docs_of graph.now))) }
+    requires { AreIndexes (docs_of graph.now.given) indexes.now }
+    ensures { result ≡ length (tops_of (units_of (docs_of graph.now.given))) }
 {
     top_count(&run_of(alloc, graph, indexes))
 }
@@ -29,9 +29,9 @@ pub fn count_tops(alloc: Global, graph: &Graph, indexes: &[Index]) -> usize
 /// The label of the top with a number among those of all files: bytes that are equal for two tops exactly if the languages of their units,
 /// the names of the spaces that they stand in, and their bare trees are.
 pub fn label(alloc: Global, graph: &Graph, indexes: &[Index], top: u32) -> Result<Blob, NoMemory>
-    requires indexes { AreIndexes (docs_of graph.now) indexes.now }
-    requires there { top < length (tops_of (units_of (docs_of graph.now))) }
-    ensures { IfOk result (λ bytes. bytes ≡ nth_label (labels_of graph.now) top) }
+    requires indexes { AreIndexes (docs_of graph.now.given) indexes.now }
+    requires there { top < length (tops_of (units_of (docs_of graph.now.given))) }
+    ensures { IfOk result (λ bytes. bytes ≡ nth_label (labels_of graph.now.given) top) }
 {
     let run = run_of(alloc, graph, indexes);
     let file = file_of(&run, top as usize);
@@ -54,11 +54,11 @@ pub fn labels<R: Threads + Sync>(
     movable: &[bool],
     workers: u32,
 ) -> Result<Labels, NoMemory>
-    requires indexes { AreIndexes (docs_of graph.now) indexes.now }
-    requires movable { length movable.now ≡ length (tops_of (units_of (docs_of graph.now))) }
+    requires indexes { AreIndexes (docs_of graph.now.given) indexes.now }
+    requires movable { length movable.now ≡ length (tops_of (units_of (docs_of graph.now.given))) }
     requires workers { (0 < workers) × (workers ≤ 64) }
-    ensures labels { IfOk result (λ labels. labels ≡ movable_labels graph.now movable.now) }
-    ensures len { IfOk result (λ labels. length labels ≡ length (tops_of (units_of (docs_of graph.now)))) }
+    ensures labels { IfOk result (λ labels. labels ≡ movable_labels graph.now.given movable.now) }
+    ensures len { IfOk result (λ labels. length labels ≡ length (tops_of (units_of (docs_of graph.now.given)))) }
     ensures few { IfOk result (λ labels. length labels ≤ 2 ^ 29) }
 {
     let run = run_of(alloc, graph, indexes);

@@ -33,17 +33,17 @@ impl<'g, 'a> Model for TopLabels<'g, 'a> {
 
     ghost Value = { Asked };
 
-    ghost view = { λ w. record { contents = w.run.graph.now; movable = w.movable.now } };
+    ghost view = { λ w. record { contents = w.run.graph.now.given; movable = w.movable.now } };
 
-    ghost invariant = { λ w. AreReady w.run w.rows.items × (length w.movable.now ≡ length (tops_of (units_of (docs_of w.run.graph.now)))) };
+    ghost invariant = { λ w. AreReady w.run w.rows.items × (length w.movable.now ≡ length (tops_of (units_of (docs_of w.run.graph.now.given)))) };
 }
 
 impl<'g, 'a> TopLabels<'g, 'a> {
     /// What writes those of a run.
     pub(crate) fn new(run: &Run<'g, 'a>, movable: &'g [bool]) -> Result<TopLabels<'g, 'a>, NoMemory>
         requires run { IsRun run.now }
-        requires movable { length movable.now ≡ length (tops_of (units_of (docs_of run.now.graph.now))) }
-        ensures { IfOk result (λ w. w ≡ record { contents = run.now.graph.now; movable = movable.now }) }
+        requires movable { length movable.now ≡ length (tops_of (units_of (docs_of run.now.graph.now.given))) }
+        ensures { IfOk result (λ w. w ≡ record { contents = run.now.graph.now.given; movable = movable.now }) }
     {
         let rows = unit_rows(run)?;
         Ok(TopLabels {

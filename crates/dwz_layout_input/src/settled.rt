@@ -68,14 +68,14 @@ pub fn settle_files(
     scope: Scope,
     planned: PlannedFiles,
 ) -> Result<SettledFiles, NoMemory>
-    requires few { length graph.now < 2 ^ 32 }
-    requires indexes { AreIndexes (docs_of graph.now) indexes.now }
-    requires planned { ArePlanned scope (docs_of graph.now) planned }
+    requires few { length graph.now.given < 2 ^ 32 }
+    requires indexes { AreIndexes (docs_of graph.now.given) indexes.now }
+    requires planned { ArePlanned scope (docs_of graph.now.given) planned }
     ensures scope { IfOk result (λ r. r.scope ≡ scope) }
     ensures planned { IfOk result (λ r. r.planned ≡ planned) }
-    ensures settled { IfOk result (λ r. (f : RunFacts) (s : Lent) → AreFactsOf graph.now indexes.now scope planned f → Lends r s
+    ensures settled { IfOk result (λ r. (f : RunFacts) (s : Lent) → AreFactsOf graph.now.given indexes.now scope planned f → Lends r s
         → IsSettled f s) }
-    ensures importing { IfOk result (λ r. (f : RunFacts) → AreFactsOf graph.now indexes.now scope planned f
+    ensures importing { IfOk result (λ r. (f : RunFacts) → AreFactsOf graph.now.given indexes.now scope planned f
         → r.importing.items ≡ map (imports_common (move f) (units f)) (file_numbers 0 (docs f))) }
     ensures fits { IfOk result (λ r. (s : Lent) → Lends r s → AreSettled s) }
 {

@@ -159,12 +159,12 @@ pub fn orders_of_files(
     indexes: &[Index],
     settled: &Settled,
 ) -> Result<Vec<FileItems>, NoMemory>
-    requires few { length graph.now < 2 ^ 32 }
-    requires indexes { AreIndexes (docs_of graph.now) indexes.now }
+    requires few { length graph.now.given < 2 ^ 32 }
+    requires indexes { AreIndexes (docs_of graph.now.given) indexes.now }
     requires settled { AreSettled settled.now }
-    requires files { All (λ part. part.file ≤ length graph.now) settled.now.plan.now.partials }
-    requires imports { length (units_of (docs_of graph.now)) ≤ length settled.now.plan.now.imports }
-    ensures { IfOk result (λ orders. AreOrders graph.now indexes.now settled.now orders.items) }
+    requires files { All (λ part. part.file ≤ length graph.now.given) settled.now.plan.now.partials }
+    requires imports { length (units_of (docs_of graph.now.given)) ≤ length settled.now.plan.now.imports }
+    ensures { IfOk result (λ orders. AreOrders graph.now.given indexes.now settled.now orders.items) }
 {
     let files = graph.files();
     let parts = parts_of_files(alloc, files.len() as u32, settled.plan.partials())?;

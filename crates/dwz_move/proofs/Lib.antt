@@ -6,6 +6,8 @@ pub mod TopSteps
 pub mod WeightLemmas
 pub mod RowSteps
 pub mod WeightSteps
+pub mod DeclaredWeights
+pub mod FormWeights
 pub mod TreeWeights
 pub mod TreeBinds
 pub mod MarkLemmas

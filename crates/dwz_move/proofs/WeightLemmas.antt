@@ -1,5 +1,5 @@
 -- What a value weighs, by the class of its form; an expression is as long whatever its operands are.
-use Rattle.std.proofs.Common.{◌≡◌, ◌≢◌, ℕ, ◌+◌, ◌-◌, ◌<◌, Bool, true, false, List, [], ◌∷◌, ◌++◌, length, map, take, drop, Option, Some, None, Ok, refl, sym, ap, subst, ◌∙◌, arith, if◌then◌else◌, ltb}
+use Rattle.std.proofs.Common.{◌≡◌, ◌≢◌, ℕ, ◌+◌, ◌-◌, ◌<◌, ◌≤◌, Bool, true, false, List, [], ◌∷◌, ◌++◌, length, map, take, drop, Option, Some, None, Ok, refl, sym, ap, subst, ◌∙◌, arith, if◌then◌else◌, ltb}
 use Rattle.std.proofs.Common.{ltb-true, ◌==◌, ◌||◌, not}
 use Rattle.std.specs.List.{list_all}
 use Rattle.std.proofs.Math.Logic.{inl, inr}
@@ -36,6 +36,9 @@ use Rattle.dwz_move.specs.Weights.{capped, set_weight}
 
 pub capped_add : (a b : ℕ) → capped (capped a + b) ≡ capped (a + b)
 capped_add a b = grind arith
+
+pub capped_few : (n w : ℕ) → w ≡ capped n → w ≤ 64
+capped_few n w e = grind arith
 
 -- ---- expressions
 
@@ -98,23 +101,23 @@ weight_or None n = n
 abbrev pub Weighs : RawAttr → ℕ → Plain → Type 0
 Weighs a n plain = n ≡ value_weight a.pair.form (number_of a.raw) plain
 
-plain_is : (a : RawAttr) (n : ℕ) (v : Value ℕ) (plain : Plain) → v.plain ≡ plain → Weighs a n plain → Weighs a n v.plain
+pub plain_is : (a : RawAttr) (n : ℕ) (v : Value ℕ) (plain : Plain) → v.plain ≡ plain → Weighs a n plain → Weighs a n v.plain
 plain_is a n v plain e w = subst (λ (p : Plain). Weighs a n p) (sym e) w
 
-abbrev plain_of : Value ℕ → Plain
+abbrev pub plain_of : Value ℕ → Plain
 plain_of v = v.plain
 
 module _ (s : MeaningContext ℕ) (a : RawAttr) (v : Value ℕ) (other : a.pair.form ≢ 0x08) where
   abbrev size : ℕ
   size = length (value_bytes a.pair.form a.raw)
 
-  text : (t : List ℕ) → v ≡ only (Text t) → Weighs a 4 v.plain
+  pub text : (t : List ℕ) → v ≡ only (Text t) → Weighs a 4 v.plain
   text t e = plain_is a 4 v (Text t) (ap plain_of e) (ap (λ (b : Bool). if b then length t + 1 else 4) (sym (ne_eqb a.pair.form 0x08 other)))
 
-  entry : (p : ℕ) → v ≡ ref p → Weighs a 4 v.plain
+  pub entry : (p : ℕ) → v ≡ ref p → Weighs a 4 v.plain
   entry p e = plain_is a 4 v Ref (ap plain_of e) refl
 
-  of_file : (o : Option ℕ) → IsFileBy o s (number_of a.raw) v → Weighs a 1 v.plain
+  pub of_file : (o : Option ℕ) → IsFileBy o s (number_of a.raw) v → Weighs a 1 v.plain
   of_file None m = plain_is a 1 v (File None) (ap plain_of m.1) refl
   of_file (Some place) m = plain_is a 1 v (File (Some m.path)) (ap plain_of m.value) refl
 
@@ -188,7 +191,7 @@ module _ (s : MeaningContext ℕ) (a : RawAttr) (v : Value ℕ) (other : a.pair.
       let m = ((value_agrees s a).ok v).0 e in
       by_class (class_of a.pair.form) m (own_number h m) (own_bytes h m)
 
-text_class : class_of 0x08 ≡ OfText
+pub text_class : class_of 0x08 ≡ OfText
 unfolding class_rows class_in
 text_class = refl
 

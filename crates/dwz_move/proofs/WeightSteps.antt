@@ -28,9 +28,6 @@ pub record AreLeft (raw : List RawUnit) (s : MeaningContext ℕ) (name : ℕ →
   pub weighs : capped (weight + named_weight name attrs) ≡ capped all
   pub low : capped weight ≡ weight
 
-pub capped_few : (n w : ℕ) → w ≡ capped n → w ≤ 64
-capped_few n w e = grind arith
-
 pub own_low : (b : Bool) → let own : ℕ = if b then 2 else 1 in capped own ≡ own
 own_low true = refl
 own_low false = refl

@@ -1,4 +1,4 @@
-//! What is asked of tops and units: whether its entries bind a top, what it weighs, and which tops the operands of a unit name.
+//! What is asked of tops and units: whether its entries bind a top, and which tops the operands of a unit name.
 
 ghost use Rattle.std.specs.Prelude.{◌≡◌, ℕ, ◌<◌, ◌≤◌, List, Option, Ok, Some, true, length, slice_get, IfOk, OnOk};
 ghost use Rattle.dwz_def_tops.specs.Alike;
@@ -8,32 +8,18 @@ ghost use Rattle.dwz_def_reading.specs.Units.{RawUnit, entries_in};
 ghost use Rattle.dwz_def_reading.specs.Documents.{DwUnit, unit_map};
 ghost use Rattle.dwz_def_reading.specs.Meanings.{Around};
 ghost use Rattle.dwz_def_reading.specs.Meant.{unit_meaning};
-ghost use Rattle.dwz_def_plan.specs.Groups;
 ghost use Rattle.dwz_move.specs.Bound.{HasTops};
 ghost use Rattle.dwz_move.specs.Known.{KnowsRefs, StandsAt, in_unit};
 ghost use Rattle.dwz_move.specs.Marked.{MarksIf, expression_names, expression_pins};
-ghost use Rattle.dwz_move.specs.Weights.{capped};
 ghost use Rattle.dwz_unit.specs.Rows.{units_of};
 
 use crate::bind::TopRange;
 use crate::marks::{Named, mark_entries};
 use crate::tops::entries_bind;
-use crate::weight::weight_of_entries;
 use dwz_expr::Operand;
 use dwz_graph::here_of;
 use dwz_model::NoMemory;
 use dwz_unit::Units;
-
-/// About how many bytes the top takes whose entries are those from one number to before another. Where that is 64 or more, it is 64.
-pub fn top_weight(units: &Units, first: u32, end: u32) -> u32
-    requires { end ≤ entries_in (units_of units.now) }
-    ensures { (around : Around ℕ) (refs starts : List ℕ) (into : List (Option ℕ)) (name : ℕ
-        → EntryName) (said : List (DwUnit ℕ)) (file unit : ℕ)
-        (t : Top) → KnowsRefs around (units_of units.now) name refs starts into
-        → StandsAt around name (units_of units.now) said file unit t first end → result ≡ capped (Groups.top_weight t) }
-{
-    weight_of_entries(units, first, end) as u32
-}
 
 /// Whether the entries of a top bind it: those from one number to before another. For each reference of the file is given the top that it
 /// goes into, and for each entry where its references begin; and which tops are of the same unit.

@@ -1,10 +1,10 @@
-//! What entries weigh: about how many bytes they take.
+//! What entries weigh, about how many bytes they take, by their values.
 
-ghost use Rattle.std.specs.Prelude.{◌≡◌, ℕ, ◌+◌, ◌<◌, ◌≤◌, List, Ok, nat_lt, if◌then◌else◌};
+ghost use Rattle.std.specs.Prelude.{◌≡◌, ℕ, ◌+◌, ◌<◌, List, Ok, Some, nat_lt, slice_get, if◌then◌else◌};
 ghost use Rattle.dwz_def_tops.specs.Spots.{EntryName};
 ghost use Rattle.dwz_def_reading.specs.Units.{entries_in};
 ghost use Rattle.dwz_def_reading.specs.Values.{HasSpelling};
-ghost use Rattle.dwz_graph.specs.Rows.{AreRowsMeant, IsEntryMeant};
+ghost use Rattle.dwz_graph.specs.Rows.{IsEntryMeant};
 ghost use Rattle.dwz_forms.specs.RawValues.{raw_view};
 ghost use Rattle.dwz_def_reading.specs.Documents.{Node, Value, node_map};
 ghost use Rattle.dwz_def_reading.specs.Meanings.{MeaningContext, number_of};
@@ -12,8 +12,8 @@ ghost use Rattle.dwz_def_reading.specs.Meant.{meaning};
 ghost use Rattle.dwz_def_plan.specs.Groups.{value_weight};
 ghost use Rattle.dwz_graph.specs.Resolved.{stored};
 ghost use Rattle.dwz_move.specs.Weights;
-ghost use Rattle.dwz_move.specs.Weights.{capped, node_weight, rows_weight};
-ghost use Rattle.dwz_unit.specs.Rows.{EntryRow, units_of};
+ghost use Rattle.dwz_move.specs.Weights.{capped, node_weight};
+ghost use Rattle.dwz_unit.specs.Rows.{EntryRow, rows_of, units_of};
 
 use crate::values::bytes_of;
 use dwz_codes::{Class, DW_AT_SIBLING, DW_FORM_STRING, class_of, names_file};
@@ -22,7 +22,7 @@ use dwz_model::Pair;
 use dwz_unit::{Units, Values, known_value};
 
 // A group of tops that weigh so much together gains, whatever else they weigh.
-const HEAVY: u64 = 64;
+pub(crate) const HEAVY: u64 = 64;
 
 // One weight and another, counted up to 64.
 #[inline(always)]
@@ -35,7 +35,7 @@ pub(crate) fn add_weights(weight: u64, more: u64) -> u64
 // The weight of a value of that class, where it doesn't depend on what is stored: 4 of a text that stands elsewhere or a reference, 1 of
 // a file.
 #[inline(always)]
-fn set_weight(class: Class, file: bool) -> Option<u64>
+pub(crate) fn set_weight(class: Class, file: bool) -> Option<u64>
     ensures { result ≡ Weights.set_weight class file }
 {
     match class {
@@ -74,12 +74,22 @@ pub(crate) fn weight_of_value(pair: &Pair, raw: &Raw) -> u64
     }
 }
 
-// What an entry weighs without its values.
+// What an entry weighs without its values, with children or without.
 #[inline(always)]
 fn own_weight(parent: bool) -> u64
     ensures { result ≡ (if parent then 2 else 1) }
 {
     if parent { 2 } else { 1 }
+}
+
+/// What an entry weighs without its values.
+#[inline(always)]
+pub(crate) fn weight_alone(units: &Units, i: u32) -> u64
+    requires { i < entries_in (units_of units.now) }
+    ensures { (row : EntryRow) → slice_get (rows_of (units_of units.now)) i ≡ Some row → result ≡ (if nat_lt (i + 1) row.end then 2 else 1) }
+{
+    let end = units.entry(i).end;
+    own_weight(u64::from(end) > u64::from(i) + 1)
 }
 
 /// What an entry weighs itself, counted up to 64: 1, one more if it has children, and what its values weigh.
@@ -88,31 +98,13 @@ pub(crate) fn weight_of_entry(units: &Units, i: u32) -> u64
     ensures { (s : MeaningContext ℕ) (numbers : List ℕ) (row : EntryRow) (d : Node ℕ) (name : ℕ → EntryName)
         → IsEntryMeant (units_of units.now) s i numbers row d → result ≡ capped (node_weight (nat_lt (i + 1) row.end) (node_map name d)) }
 {
-    let entry = units.entry(i);
-    let mut weight = own_weight(u64::from(entry.end) > u64::from(i) + 1);
+    let mut weight = weight_alone(units, i);
     let Values { pairs, mut cursor } = units.values(i);
     for pair in pairs {
         let raw = known_value(&mut cursor, pair);
         if pair.name != DW_AT_SIBLING {
             weight = add_weights(weight, weight_of_value(pair, &raw));
         }
-    }
-    weight
-}
-
-/// What the entries from one number to before another weigh together, counted up to 64.
-pub(crate) fn weight_of_entries(units: &Units, first: u32, end: u32) -> u64
-    requires { end ≤ entries_in (units_of units.now) }
-    ensures few { result ≤ 64 }
-    ensures weight { (s : MeaningContext ℕ) (numbers : List ℕ) (rows after : List EntryRow) (ds : List (Node ℕ)) (name : ℕ → EntryName)
-        → AreRowsMeant (units_of units.now) s first end numbers rows after ds → result ≡ capped (rows_weight name first rows ds) }
-{
-    let mut weight = 0;
-    for i in first..end {
-        if weight == HEAVY {
-            return weight;
-        }
-        weight = add_weights(weight, weight_of_entry(units, i));
     }
     weight
 }

@@ -29,6 +29,7 @@ use Rattle.dwz_def_reading.proofs.MeaningUnits.{node_agrees}
 use Rattle.dwz_graph.specs.Named.{attrs_refs, refs_beside, value_refs}
 use Rattle.dwz_graph.specs.Resolved.{place_at}
 use Rattle.dwz_graph.proofs.RowLemmas.{rows-length}
+use Rattle.dwz_graph.proofs.SurroundingLemmas.{own_range}
 use Rattle.dwz_graph.proofs.PlainBeside.{none_beside}
 use Rattle.dwz_unit.specs.Rows.{EntryRow, rows_below, rows_of}
 use Rattle.dwz_unit.proofs.RowLemmas.{shown-length}
@@ -181,7 +182,7 @@ module _ (around : Around ℕ) (raw : List RawUnit) (name : ℕ → EntryName) (
         let within : i < entries_in raw = (let lt = got_below (rows_of raw) i row f.0 in let len = rows-length raw in omega arith) in
         let rise = knows.parted.rise i within in
         let low = rise.0 in
-        let part = knows.parted.part i row u d within f.0 (ap (λ (j : ℕ). slice_get raw j) own.0 ∙ is_unit) means.0 in
+        let part = sym (own_range around.common raw refs (start i) (start (i + 1)) knows.entries) ∙ knows.parted.part i row u d within f.0 (ap (λ (j : ℕ). slice_get raw j) own.0 ∙ is_unit) means.0 in
         let more = parts_are (i + 1) k rows after ds own.1 (omega arith) f.1 means.1 in
         let high = more.0 in (
           omega arith,

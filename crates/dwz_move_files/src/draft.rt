@@ -21,7 +21,7 @@ use dwz_expr::Operand;
 use dwz_graph::{File, Graph, Index, TopEntry};
 use dwz_groups::{Edge, TopRow};
 use dwz_model::{NoMemory, Place};
-use dwz_move::{Named, TopRange, add_targets, top_binds, top_weight, tops_of};
+use dwz_move::{EntryWeights, Named, TopRange, add_targets, top_binds, tops_of};
 use std::alloc::Global;
 
 /// The rows of tops, whether each binds itself, and the tops that the references of those that don't go into, each under its top.
@@ -78,7 +78,16 @@ fn part<'a>(into: &'a [Option<u32>], starts: &[u32], first: u32, end: u32) -> &'
 }
 
 // The row of a top of a file, which stands from one entry to before another: where it stands, its unit, and what it weighs.
-fn row_of(file: &File, number: u32, n: u32, top: TopEntry, end: u32, named: &Named) -> TopRow
+fn row_of(
+    file: &File,
+    weights: &EntryWeights,
+    number: u32,
+    n: u32,
+    top: TopEntry,
+    end: u32,
+    named: &Named,
+) -> TopRow
+    requires weights { weights.now ≡ file.now.units }
     requires entry { top.entry < entries_in (raw_units file.now.units) }
     requires end { end ≤ entries_in (raw_units file.now.units) }
     ensures { (contents : List (List ℕ)) (bytes : List ℕ) (x : Index) (is : IsFileAmong contents number bytes file.now x) (k : ℕ) (t : Top)
@@ -86,14 +95,13 @@ fn row_of(file: &File, number: u32, n: u32, top: TopEntry, end: u32, named: &Nam
         → ((r : RawEntry) → slice_get (shown_entries (raw_units file.now.units)) top.entry ≡ Some r → r.end ≡ end)
         → AreNamed (units_of (docs_of contents)) named.now → IsRowOf (docs_of contents) result t }
 {
-    let units = &file.units;
     TopRow {
         place: Place {
             file: number,
-            offset: units.entry(top.entry).at,
+            offset: file.units.entry(top.entry).at,
         },
         unit: top.unit,
-        weight: top_weight(units, top.entry, end),
+        weight: weights.top_weight(top.entry, end),
         movable: false,
         pinned: flag(named.by_uleb.as_slice(), n),
     }
@@ -145,6 +153,7 @@ fn put_targets(
 fn put_top(
     draft: &mut Draft,
     file: &File,
+    weights: &EntryWeights,
     number: u32,
     own: &TopRange,
     into: &[Option<u32>],
@@ -153,6 +162,7 @@ fn put_top(
     named: &Named,
     operands: &mut Vec<Operand>,
 ) -> Result<(), NoMemory>
+    requires weights { weights.now ≡ file.now.units }
     requires entry { top.entry < entries_in (raw_units file.now.units) }
     requires end { (r : RawEntry) → slice_get (shown_entries (raw_units file.now.units)) top.entry ≡ Some r
         → r.end ≤ entries_in (raw_units file.now.units) }
@@ -165,7 +175,9 @@ fn put_top(
 {
     let end = file.units.entry(top.entry).end;
     let bound = binds(file, own, into, n, top, end, named, operands)?;
-    draft.rows.push(row_of(file, number, n, top, end, named))?;
+    draft
+        .rows
+        .push(row_of(file, weights, number, n, top, end, named))?;
     draft.binds.push(bound)?;
     let starts = file.resolved.starts.as_slice();
     put_targets(
@@ -195,6 +207,7 @@ pub(crate) fn put_file(
         → OnOk result (IsDraft (docs_of contents) from (count + length index.now.tops) draft.new) }
 {
     let into = tops_of(alloc, index, file.resolved.refs.as_slice())?;
+    let weights = EntryWeights::new(alloc, &file.units)?;
     let first = index.starts().top;
     let tops = index.tops();
     let mut own = TopRange { first: 0, end: 0 };
@@ -204,6 +217,7 @@ pub(crate) fn put_file(
         put_top(
             draft,
             file,
+            &weights,
             number,
             &own,
             into.as_slice(),
@@ -223,10 +237,10 @@ pub(crate) fn gather(
     indexes: &[Index],
     named: &Named,
 ) -> Result<Draft, NoMemory>
-    requires few { length graph.now < 2 ^ 32 }
-    requires indexes { AreIndexes (docs_of graph.now) indexes.now }
-    ensures { AreNamed (units_of (docs_of graph.now)) named.now
-        → IfOk result (IsDraft (docs_of graph.now) 0 (length (tops_of (units_of (docs_of graph.now))))) }
+    requires few { length graph.now.given < 2 ^ 32 }
+    requires indexes { AreIndexes (docs_of graph.now.given) indexes.now }
+    ensures { AreNamed (units_of (docs_of graph.now.given)) named.now
+        → IfOk result (IsDraft (docs_of graph.now.given) 0 (length (tops_of (units_of (docs_of graph.now.given))))) }
 {
     let mut draft = nothing(alloc);
     let mut operands = Vec::new(alloc);

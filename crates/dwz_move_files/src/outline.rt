@@ -36,8 +36,8 @@ fn put_number(numbers: &mut Vec<u32>, number: u32, count: u32) -> Result<(), NoM
 
 // The number of the file of each unit.
 fn files_of_units(alloc: Global, graph: &Graph) -> Result<Vec<u32>, NoMemory>
-    requires { length graph.now < 2 ^ 32 }
-    ensures { IfOk result (λ files. files.items ≡ map (λ f. f.file) (units_of (docs_of graph.now))) }
+    requires { length graph.now.given < 2 ^ 32 }
+    ensures { IfOk result (λ files. files.items ≡ map (λ f. f.file) (units_of (docs_of graph.now.given))) }
 {
     let mut numbers = Vec::new(alloc);
     for (number, file) in graph.files().iter().enumerate() {
@@ -64,10 +64,10 @@ pub fn outline_files<R: Threads + Sync>(
     indexes: &[Index],
     workers: u32,
 ) -> Result<Outline, NoMemory>
-    requires few { length graph.now < 2 ^ 32 }
-    requires indexes { AreIndexes (docs_of graph.now) indexes.now }
+    requires few { length graph.now.given < 2 ^ 32 }
+    requires indexes { AreIndexes (docs_of graph.now.given) indexes.now }
     requires workers { (0 < workers) × (workers ≤ 64) }
-    ensures tops { IfOk result (λ o. IsOutline (docs_of graph.now) o.tops) }
+    ensures tops { IfOk result (λ o. IsOutline (docs_of graph.now.given) o.tops) }
 {
     let files = graph.files();
     let named = named_tops(alloc, graph, indexes)?;

@@ -26,11 +26,11 @@ fn part_at(
     named: &Named,
     k: usize,
 ) -> Result<Draft, NoMemory>
-    requires at { k < length graph.now }
-    requires few { length graph.now < 2 ^ 32 }
-    requires indexes { AreIndexes (docs_of graph.now) indexes.now }
-    ensures { AreNamed (units_of (docs_of graph.now)) named.now
-        → IfOk result (IsFileDraft (docs_of graph.now) indexes.now k) }
+    requires at { k < length graph.now.given }
+    requires few { length graph.now.given < 2 ^ 32 }
+    requires indexes { AreIndexes (docs_of graph.now.given) indexes.now }
+    ensures { AreNamed (units_of (docs_of graph.now.given)) named.now
+        → IfOk result (IsFileDraft (docs_of graph.now.given) indexes.now k) }
 {
     let files = graph.files();
     let mut draft = nothing(alloc);
@@ -56,11 +56,11 @@ fn fill(
     k: usize,
     slot: &mut Option<Draft>,
 )
-    requires at { k < length graph.now }
-    requires few { length graph.now < 2 ^ 32 }
-    requires indexes { AreIndexes (docs_of graph.now) indexes.now }
-    ensures { AreNamed (units_of (docs_of graph.now)) named.now
-        → IfSome slot.new (IsFileDraft (docs_of graph.now) indexes.now k) }
+    requires at { k < length graph.now.given }
+    requires few { length graph.now.given < 2 ^ 32 }
+    requires indexes { AreIndexes (docs_of graph.now.given) indexes.now }
+    ensures { AreNamed (units_of (docs_of graph.now.given)) named.now
+        → IfSome slot.new (IsFileDraft (docs_of graph.now.given) indexes.now k) }
 {
     *slot = part_at(alloc, graph, indexes, named, k).ok();
 }
@@ -75,17 +75,17 @@ fn fill_slots<R: Threads + Sync>(
     workers: u32,
     slots: &mut [Option<Draft>],
 )
-    requires len { length slots.old ≡ length graph.now }
-    requires few { length graph.now < 2 ^ 32 }
-    requires indexes { AreIndexes (docs_of graph.now) indexes.now }
+    requires len { length slots.old ≡ length graph.now.given }
+    requires few { length graph.now.given < 2 ^ 32 }
+    requires indexes { AreIndexes (docs_of graph.now.given) indexes.now }
     requires workers { 0 < workers }
-    ensures { AreNamed (units_of (docs_of graph.now)) named.now → (k : ℕ) (d : _) → k < length slots.old
-        → IfSome (slice_index_or slots.new k d) (IsFileDraft (docs_of graph.now) indexes.now k) }
+    ensures { AreNamed (units_of (docs_of graph.now.given)) named.now → (k : ℕ) (d : _) → k < length slots.old
+        → IfSome (slice_index_or slots.new k d) (IsFileDraft (docs_of graph.now.given) indexes.now k) }
 {
     let each = |k: usize, slot: &mut Option<Draft>|
-        requires { (k < length graph.now) × (length graph.now < 2 ^ 32) × AreIndexes (docs_of graph.now) indexes.now }
-        ensures { AreNamed (units_of (docs_of graph.entry.now)) named.entry.now
-            → IfSome slot.exit.now (IsFileDraft (docs_of graph.entry.now) indexes.entry.now k) }
+        requires { (k < length graph.now.given) × (length graph.now.given < 2 ^ 32) × AreIndexes (docs_of graph.now.given) indexes.now }
+        ensures { AreNamed (units_of (docs_of graph.entry.now.given)) named.entry.now
+            → IfSome slot.exit.now (IsFileDraft (docs_of graph.entry.now.given) indexes.entry.now k) }
     { fill(alloc, graph, indexes, named, k, slot) };
     thread::for_each_mut(rt, slots, workers as usize, &each);
 }
@@ -110,12 +110,12 @@ fn parts_of<R: Threads + Sync>(
     named: &Named,
     workers: u32,
 ) -> Result<Vec<Option<Draft>>, NoMemory>
-    requires few { length graph.now < 2 ^ 32 }
-    requires indexes { AreIndexes (docs_of graph.now) indexes.now }
+    requires few { length graph.now.given < 2 ^ 32 }
+    requires indexes { AreIndexes (docs_of graph.now.given) indexes.now }
     requires workers { 0 < workers }
-    ensures len { IfOk result (λ parts. vec_len parts ≡ length graph.now) }
-    ensures are { AreNamed (units_of (docs_of graph.now)) named.now
-        → IfOk result (λ parts. AreParts (docs_of graph.now) indexes.now 0 parts.items) }
+    ensures len { IfOk result (λ parts. vec_len parts ≡ length graph.now.given) }
+    ensures are { AreNamed (units_of (docs_of graph.now.given)) named.now
+        → IfOk result (λ parts. AreParts (docs_of graph.now.given) indexes.now 0 parts.items) }
 {
     let mut slots = empty_slots(alloc, graph.files().len())?;
     fill_slots(
@@ -164,11 +164,11 @@ pub(crate) fn gather_by<R: Threads + Sync>(
     named: &Named,
     workers: u32,
 ) -> Result<Draft, NoMemory>
-    requires few { length graph.now < 2 ^ 32 }
-    requires indexes { AreIndexes (docs_of graph.now) indexes.now }
+    requires few { length graph.now.given < 2 ^ 32 }
+    requires indexes { AreIndexes (docs_of graph.now.given) indexes.now }
     requires workers { 0 < workers }
-    ensures { AreNamed (units_of (docs_of graph.now)) named.now
-        → IfOk result (IsDraft (docs_of graph.now) 0 (length (tops_of (units_of (docs_of graph.now))))) }
+    ensures { AreNamed (units_of (docs_of graph.now.given)) named.now
+        → IfOk result (IsDraft (docs_of graph.now.given) 0 (length (tops_of (units_of (docs_of graph.now.given))))) }
 {
     if workers == 1 || graph.files().len() < 2 {
         return gather(alloc, graph, indexes, named);

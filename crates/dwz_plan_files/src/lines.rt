@@ -64,10 +64,10 @@ pub fn part_lines(
     tops: &Tops,
     plan: &Plan,
 ) -> Result<Vec<Option<u32>>, NoMemory>
-    ensures { (scope : TopScope) (rule : Rule) → AreIndexes (docs_of graph.now) indexes.now
-        → IsAlike scope (units_of (docs_of graph.now)) rule.alike → IsChoice (units_of (docs_of graph.now)) rule
-        → ShowsTops (units_of (docs_of graph.now)) tops.now → ShowsPlan rule (units_of (docs_of graph.now)) (length (docs_of graph.now))
-        plan.now → IfOk result (λ lines. AreLines (move_of rule (docs_of graph.now)) lines.items) }
+    ensures { (scope : TopScope) (rule : Rule) → AreIndexes (docs_of graph.now.given) indexes.now
+        → IsAlike scope (units_of (docs_of graph.now.given)) rule.alike → IsChoice (units_of (docs_of graph.now.given)) rule
+        → ShowsTops (units_of (docs_of graph.now.given)) tops.now → ShowsPlan rule (units_of (docs_of graph.now.given)) (length (docs_of graph.now.given))
+        plan.now → IfOk result (λ lines. AreLines (move_of rule (docs_of graph.now.given)) lines.items) }
 {
     let files = graph.files();
     let partials = plan.partials();

@@ -104,10 +104,10 @@ fn put_texts<'t>(
 /// For each space of all files, by its number, the number of its name: equal names alone have one number. Takes n log n comparisons of
 /// names, and copies none.
 pub fn space_texts(alloc: Global, graph: &Graph, indexes: &[Index]) -> Result<Vec<u32>, NoMemory>
-    requires { AreIndexes (docs_of graph.now) indexes.now }
+    requires { AreIndexes (docs_of graph.now.given) indexes.now }
     ensures len { IfOk result (λ texts. length texts.items ≡ length (all_spaces indexes.now)) }
     ensures few { OnOk result (length (all_spaces indexes.now) ≤ 2 ^ 29) }
-    ensures numbers { IfOk result (λ texts. NumbersTexts (rows_from 0 (all_spaces indexes.now)) (said_of (units_of (docs_of graph.now)))
+    ensures numbers { IfOk result (λ texts. NumbersTexts (rows_from 0 (all_spaces indexes.now)) (said_of (units_of (docs_of graph.now.given)))
         texts.items) }
 {
     let mut seen = BTreeMap::new(alloc);

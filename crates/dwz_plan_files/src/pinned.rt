@@ -179,8 +179,8 @@ fn unset_flags(alloc: Global, indexes: &[Index]) -> Result<Vec<bool>, NoMemory>
 /// For each space of all files, by its number, whether an operand of an expression or of a location list names it that is a ULEB128
 /// number. A pass over the values of all entries, beside that for tops, where there are spaces.
 pub fn pinned_spaces(alloc: Global, graph: &Graph, indexes: &[Index]) -> Result<Vec<bool>, NoMemory>
-    requires { AreIndexes (docs_of graph.now) indexes.now }
-    ensures { IfOk result (λ flags. ArePinned (units_of (docs_of graph.now)) flags.items) }
+    requires { AreIndexes (docs_of graph.now.given) indexes.now }
+    ensures { IfOk result (λ flags. ArePinned (units_of (docs_of graph.now.given)) flags.items) }
 {
     let flags = unset_flags(alloc, indexes)?;
     if flags.is_empty() {

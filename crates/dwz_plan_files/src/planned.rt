@@ -37,11 +37,11 @@ fn tops_of<R: Threads + Sync>(
     indexes: &[Index],
     workers: u32,
 ) -> Result<Tops, NoMemory>
-    requires few { length graph.now < 2 ^ 32 }
-    requires indexes { AreIndexes (docs_of graph.now) indexes.now }
+    requires few { length graph.now.given < 2 ^ 32 }
+    requires indexes { AreIndexes (docs_of graph.now.given) indexes.now }
     requires workers { (0 < workers) × (workers ≤ 64) }
-    ensures outline { IfOk result (λ tops. IsOutline (docs_of graph.now) tops) }
-    ensures files { IfOk result (λ tops. tops.files ≡ length (docs_of graph.now)) }
+    ensures outline { IfOk result (λ tops. IsOutline (docs_of graph.now.given) tops) }
+    ensures files { IfOk result (λ tops. tops.files ≡ length (docs_of graph.now.given)) }
     ensures few_rows { IfOk result (λ tops. length tops.rows < 2 ^ 32) }
     ensures few_units { IfOk result (λ tops. length tops.files_of_units < 2 ^ 32) }
 {
@@ -70,12 +70,12 @@ pub fn plan_files<R: Threads + Sync, G: Gate>(
     workers: u32,
     gate: &G,
 ) -> Result<PlannedFiles, NoMemory>
-    requires few { length graph.now < 2 ^ 32 }
-    requires indexes { AreIndexes (docs_of graph.now) indexes.now }
+    requires few { length graph.now.given < 2 ^ 32 }
+    requires indexes { AreIndexes (docs_of graph.now.given) indexes.now }
     requires workers { (0 < workers) × (workers ≤ 64) }
-    ensures outline { IfOk result (λ p. IsOutline (docs_of graph.now) p.tops) }
-    ensures plan { IfOk result (λ p. let docs = docs_of graph.now in ShowsPlan (rule_by scope docs) (units_of docs) (length docs) p.plan) }
-    ensures fits { IfOk result (λ p. FitsFiles scope (docs_of graph.now) p.tops p.plan) }
+    ensures outline { IfOk result (λ p. IsOutline (docs_of graph.now.given) p.tops) }
+    ensures plan { IfOk result (λ p. let docs = docs_of graph.now.given in ShowsPlan (rule_by scope docs) (units_of docs) (length docs) p.plan) }
+    ensures fits { IfOk result (λ p. FitsFiles scope (docs_of graph.now.given) p.tops p.plan) }
 {
     let tops = tops_of(rt, alloc, graph, indexes, workers)?;
     let movable = movable_of(alloc, &tops)?;

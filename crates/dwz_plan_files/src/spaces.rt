@@ -24,8 +24,8 @@ pub struct Spaces {
 /// The spaces of all files (DWARF 5, 3.2.2): which stands in which, and in which each top stands. Name lists have equal numbers where
 /// their names are equal.
 pub fn spaces_of_files(alloc: Global, graph: &Graph, indexes: &[Index]) -> Result<Spaces, NoMemory>
-    requires { AreIndexes (docs_of graph.now) indexes.now }
-    ensures { IfOk result (AreSpaces (docs_of graph.now) indexes.now) }
+    requires { AreIndexes (docs_of graph.now.given) indexes.now }
+    ensures { IfOk result (AreSpaces (docs_of graph.now.given) indexes.now) }
 {
     let texts = space_texts(alloc, graph, indexes)?;
     let rows = space_rows(alloc, indexes)?;

@@ -18,7 +18,7 @@ use Rattle.dwz_def_readback.specs.Back.{run_of}
 use Rattle.dwz_def_readback.specs.Files.{Run}
 use Rattle.dwz_graph.specs.Files.{FilesFail, docs_of}
 use Rattle.dwz_plan.specs.declared.plan.Scope.{Scope}
-use Rattle.dwz_plan_files.specs.Rules.{alike_scope, rule_by}
+use Rattle.dwz_run_files.specs.Rules.{alike_scope, rule_by}
 use Rattle.dwz_run_files.proofs.FirstFaults.{refused}
 use Rattle.dwz_words.specs.declared.options.Options.{Options}
 use Rattle.dwz_run_course.specs.declared.output.Output.{Output}

@@ -9,7 +9,7 @@ ghost use Rattle.dwz_def_reading.specs.Files.{ReadAll, no_files_before};
 ghost use Rattle.dwz_def_run.specs.Out.{Out, Slims, top_scope_of};
 ghost use Rattle.dwz_def_run.specs.Tells.{TellsWhy};
 ghost use Rattle.dwz_graph.specs.Files.{docs_of};
-ghost use Rattle.dwz_plan_files.specs.Rules.{alike_scope};
+ghost use Rattle.dwz_run_files.specs.Rules.{alike_scope};
 
 use dwz_explain::explain_places;
 use dwz_gate::Gate;
@@ -56,11 +56,11 @@ fn slimmed_files<R: Threads + Sync, G: Gate>(
     workers: u32,
     gate: &G,
 ) -> Result<Output, GraphErr>
-    requires read { graph.now ≡ map (λ c. c.items) contents.now }
-    requires reads { ReadAll no_files_before graph.now (docs_of graph.now) }
+    requires read { graph.now.given ≡ map (λ c. c.items) contents.now }
+    requires reads { ReadAll no_files_before graph.now.given (docs_of graph.now.given) }
     requires few { length contents.now < 2 ^ 32 }
     requires workers { (0 < workers) × (workers ≤ 64) }
-    ensures { IsAnswer (Slims options.now graph.now) result }
+    ensures { IsAnswer (Slims options.now graph.now.given) result }
 {
     let prunes = prunable_files(alloc, contents, graph)?;
     let sharing = sharing_of(options);
@@ -84,10 +84,10 @@ fn told_places<R: Threads + Sync>(
     graph: &Graph<'_>,
     workers: u32,
 ) -> Result<Output, GraphErr>
-    requires reads { ReadAll no_files_before graph.now (docs_of graph.now) }
-    requires few { length graph.now < 2 ^ 32 }
+    requires reads { ReadAll no_files_before graph.now.given (docs_of graph.now.given) }
+    requires few { length graph.now.given < 2 ^ 32 }
     requires workers { (0 < workers) × (workers ≤ 64) }
-    ensures { IsAnswer (TellsWhy options.now graph.now) result }
+    ensures { IsAnswer (TellsWhy options.now graph.now.given) result }
 {
     let (first, second) = places_asked(options);
     let text = explain_places(rt, alloc, graph, first, second, workers)?;

@@ -1,5 +1,5 @@
 -- The first fault of files is what refuses them, and it is placed in the file or in a section.
-use Rattle.std.proofs.Common.{ℕ, suc, ◌≤◌, List, [], ◌∷◌, sym, subst, inl, inr, lit≤}
+use Rattle.std.proofs.Common.{◌≡◌, ℕ, suc, ◌≤◌, List, [], ◌∷◌, Some, None, sym, subst, inl, inr, lit≤}
 use Rattle.dwz_model.specs.declared.fault.Fault.{Fault}
 use Rattle.dwz_model.specs.declared.fault.Refusal.{Refusal}
 use Rattle.dwz_def_reading.specs.Files.{First, HasMeaningFault, IsFileFault, Limits}
@@ -27,8 +27,11 @@ file_placed l bytes f (inr h) = elim h.1 [
   | inr p ↦ elim p.1 [
     | inl machine ↦ same_place f _ machine.0 (lit≤ tt)
     | inr q ↦ elim q.1 [
-      | inl units ↦ units_placed (debug_abbrev bytes) (given l.entries) 0 0 (debug_info bytes) f units
-      | inr meaning ↦ meaning_placed l bytes f meaning
+      | inl sup ↦ absurd (let none : None ≡ Some f = sup in cc)
+      | inr s ↦ elim s.1 [
+        | inl units ↦ units_placed (debug_abbrev bytes) (given l.entries) 0 0 (debug_info bytes) f units
+        | inr meaning ↦ meaning_placed l bytes f meaning
+      ]
     ]
   ]
 ]

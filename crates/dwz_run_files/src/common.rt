@@ -53,8 +53,8 @@ fn with_texts<'u, 'a>(
     orders: &[FileItems],
     known: EntryTable<'u, 'a>,
 ) -> Result<WholeLists<'u, 'a>, NoMemory>
-    requires { (f : RunFacts) × (s : Settled) × (t : TextsAt) × StandBefore graph.now files.now importing.now known orders.now f s t }
-    ensures { (f : RunFacts) (s : Settled) (t : TextsAt) → StandBefore graph.now files.now importing.now known.entry orders.now f s t
+    requires { (f : RunFacts) × (s : Settled) × (t : TextsAt) × StandBefore graph.now.given files.now importing.now known orders.now f s t }
+    ensures { (f : RunFacts) (s : Settled) (t : TextsAt) → StandBefore graph.now.given files.now importing.now known.entry orders.now f s t
         → 0 < known.entry.commons → IfOk result (AreWhole f s orders.now) }
 {
     let order = orders[0].as_slice();
@@ -82,8 +82,8 @@ pub(crate) fn whole_lists<'u, 'a>(
     orders: &[FileItems],
     known: EntryTable<'u, 'a>,
 ) -> Result<WholeLists<'u, 'a>, NoMemory>
-    requires { (f : RunFacts) × (s : Settled) × (t : TextsAt) × StandBefore graph.now files.now importing.now known orders.now f s t }
-    ensures { (f : RunFacts) (s : Settled) (t : TextsAt) → StandBefore graph.now files.now importing.now known.entry orders.now f s t
+    requires { (f : RunFacts) × (s : Settled) × (t : TextsAt) × StandBefore graph.now.given files.now importing.now known orders.now f s t }
+    ensures { (f : RunFacts) (s : Settled) (t : TextsAt) → StandBefore graph.now.given files.now importing.now known.entry orders.now f s t
         → IfOk result (AreWhole f s orders.now) }
 {
     if known.commons == 0 {

@@ -28,10 +28,10 @@ pub fn number_units(
     plan: &Plan,
     written: &[bool],
 ) -> Result<UnitNumbers, NoMemory>
-    requires few { length graph.now < 2 ^ 32 }
-    requires flags { length written.now ≡ length graph.now }
-    requires numbers { length plan.now.partials + length (units_of (docs_of graph.now)) < 2 ^ 32 }
-    ensures { IfOk result (λ n. AreNumbersOf (docs_of graph.now) plan.now written.now n) }
+    requires few { length graph.now.given < 2 ^ 32 }
+    requires flags { length written.now ≡ length graph.now.given }
+    requires numbers { length plan.now.partials + length (units_of (docs_of graph.now.given)) < 2 ^ 32 }
+    ensures { IfOk result (λ n. AreNumbersOf (docs_of graph.now.given) plan.now written.now n) }
 {
     let counts = counts(alloc, graph.files())?;
     UnitNumbers::make(alloc, plan.partials(), counts.as_slice(), written)

@@ -35,9 +35,9 @@ fn texts_of(
     files: &[File],
     indexes: &[Index],
 ) -> Result<FileTexts, NoMemory>
-    requires { AreIndexes (docs_of graph.now) indexes.now }
+    requires { AreIndexes (docs_of graph.now.given) indexes.now }
     ensures files { IfOk result (λ t. map (λ texts. texts.items) t.files.items ≡ map texts_in_file files.now) }
-    ensures spaces { IfOk result (λ t. HaveNames graph.now indexes.now t.spaces.items) }
+    ensures spaces { IfOk result (λ t. HaveNames graph.now.given indexes.now t.spaces.items) }
     ensures commons { IfOk result (λ t. length t.commons.items ≡ length t.spaces.items) }
     ensures numbers { IfOk result (λ t. length t.numbers.items ≡ length files.now) }
 {
@@ -60,10 +60,10 @@ pub(crate) fn list_run<'u, 'a>(
     files: &'u [File<'a>],
     run: &SettledRun,
 ) -> Result<EntryTable<'u, 'a>, NoMemory>
-    requires few { length graph.now < 2 ^ 32 }
-    requires kept { AreKept graph.now files.now }
-    requires run { IsSettledRun graph.now run.now }
-    ensures { IfOk result (AreListedAsRead graph.now files.now run.now) }
+    requires few { length graph.now.given < 2 ^ 32 }
+    requires kept { AreKept graph.now.given files.now }
+    requires run { IsSettledRun graph.now.given run.now }
+    ensures { IfOk result (AreListedAsRead graph.now.given files.now run.now) }
 {
     let indexes = run.indexes.as_slice();
     let plan = &run.settled.planned.plan;

@@ -89,14 +89,14 @@ pub fn make_files<R: Threads + Sync, G: Gate>(
     workers: u32,
     gate: &G,
 ) -> Result<NewSectionsOfRun, NoMemory>
-    requires read { graph.now ≡ map (λ v. v.items) contents.now }
-    requires few { length graph.now < 2 ^ 32 }
-    requires prunes { ArePrunable graph.now (docs_of graph.now) prunes.now }
+    requires read { graph.now.given ≡ map (λ v. v.items) contents.now }
+    requires few { length graph.now.given < 2 ^ 32 }
+    requires prunes { ArePrunable graph.now.given (docs_of graph.now.given) prunes.now }
     requires workers { (0 < workers) × (workers ≤ 64) }
-    ensures common { IfOk result (λ m. let docs = docs_of graph.now in
-        IsNewCommon (run_of (rule_by scope docs) docs (stored_of graph.now prunes.now)) m.common) }
-    ensures files { IfOk result (λ m. let docs = docs_of graph.now in
-        AreNew (run_of (rule_by scope docs) docs (stored_of graph.now prunes.now)) m.files.items m.partials) }
+    ensures common { IfOk result (λ m. let docs = docs_of graph.now.given in
+        IsNewCommon (run_of (rule_by scope docs) docs (stored_of graph.now.given prunes.now)) m.common) }
+    ensures files { IfOk result (λ m. let docs = docs_of graph.now.given in
+        AreNew (run_of (rule_by scope docs) docs (stored_of graph.now.given prunes.now)) m.files.items m.partials) }
 {
     let ready = prepare_files(rt, alloc, contents, graph, prunes, scope, workers, gate)?;
     let prepared = ready.files;

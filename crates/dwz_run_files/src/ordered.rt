@@ -39,9 +39,9 @@ impl OrderedFiles {
 
 // The units of each file that is written, with their entries.
 fn orders_of(alloc: Global, graph: &Graph, run: &SettledRun) -> Result<Vec<FileItems>, NoMemory>
-    requires few { length graph.now < 2 ^ 32 }
-    requires run { IsSettledRun graph.now run.now }
-    ensures { IfOk result (λ orders. IsInOrder graph.now run.now orders.items) }
+    requires few { length graph.now.given < 2 ^ 32 }
+    requires run { IsSettledRun graph.now.given run.now }
+    ensures { IfOk result (λ orders. IsInOrder graph.now.given run.now orders.items) }
 {
     let settled = run.settled.as_settled();
     orders_of_files(alloc, graph, &run.indexes, &settled)
@@ -53,9 +53,9 @@ pub(crate) fn order_run(
     graph: &Graph,
     run: &SettledRun,
 ) -> Result<OrderedFiles, NoMemory>
-    requires few { length graph.now < 2 ^ 32 }
-    requires run { IsSettledRun graph.now run.now }
-    ensures { IfOk result (AreOrdered graph.now run.now) }
+    requires few { length graph.now.given < 2 ^ 32 }
+    requires run { IsSettledRun graph.now.given run.now }
+    ensures { IfOk result (AreOrdered graph.now.given run.now) }
 {
     let orders = orders_of(alloc, graph, run)?;
     let ranks = ranks_of(alloc, run.settled.written.as_slice())?;

@@ -77,11 +77,11 @@ pub fn prepare_files<'u, 'a, R: Threads + Sync, G: Gate>(
     workers: u32,
     gate: &G,
 ) -> Result<ReadyRun<'u, 'a>, NoMemory>
-    requires read { graph.now ≡ map (λ v. v.items) contents.now }
-    requires few { length graph.now < 2 ^ 32 }
-    requires prunes { ArePrunable graph.now (docs_of graph.now) prunes.now }
+    requires read { graph.now.given ≡ map (λ v. v.items) contents.now }
+    requires few { length graph.now.given < 2 ^ 32 }
+    requires prunes { ArePrunable graph.now.given (docs_of graph.now.given) prunes.now }
     requires workers { (0 < workers) × (workers ≤ 64) }
-    ensures ready { IfOk result (AreReady graph.now prunes.now) }
+    ensures ready { IfOk result (AreReady graph.now.given prunes.now) }
     ensures scope { IfOk result (λ r. r.files.run.settled.scope ≡ scope) }
 {
     look_at_all(contents);

@@ -62,9 +62,9 @@ fn prune_one(
     number: u32,
     prunes: bool,
 ) -> Result<Option<PrunedFile>, NoMemory>
-    requires there { number < length graph.now }
-    requires texts { UsesNameTexts graph.now known.now written.now }
-    ensures { IfOk result (FileKeeps graph.now known.now written.now prunes number) }
+    requires there { number < length graph.now.given }
+    requires texts { UsesNameTexts graph.now.given known.now written.now }
+    ensures { IfOk result (FileKeeps graph.now.given known.now written.now prunes number) }
 {
     if !prunes {
         return Ok(None);
@@ -94,10 +94,10 @@ pub fn prune_files(
     written: &Written,
     prunes: &[bool],
 ) -> Result<Vec<Option<PrunedFile>>, NoMemory>
-    requires few { length graph.now < 2 ^ 32 }
-    requires many { length written.now.ranks.now ≡ length graph.now }
-    requires texts { UsesNameTexts graph.now known.now written.now }
-    ensures { (f : RunFacts) → AreFilesWritten f graph.now written.now prunes.now
+    requires few { length graph.now.given < 2 ^ 32 }
+    requires many { length written.now.ranks.now ≡ length graph.now.given }
+    requires texts { UsesNameTexts graph.now.given known.now written.now }
+    ensures { (f : RunFacts) → AreFilesWritten f graph.now.given written.now prunes.now
         → IfOk result (λ pruned. ArePruned f known.now written.now.orders.now pruned.items) }
 {
     let count = written.ranks.len();

@@ -30,9 +30,9 @@ pub(crate) fn settle_run<R: Threads + Sync, G: Gate>(
     workers: u32,
     gate: &G,
 ) -> Result<SettledRun, NoMemory>
-    requires few { length graph.now < 2 ^ 32 }
+    requires few { length graph.now.given < 2 ^ 32 }
     requires workers { (0 < workers) × (workers ≤ 64) }
-    ensures settled { IfOk result (IsSettledRun graph.now) }
+    ensures settled { IfOk result (IsSettledRun graph.now.given) }
     ensures scope { IfOk result (λ run. run.settled.scope ≡ scope) }
 {
     let indexes = indexes(alloc, graph)?;

@@ -38,12 +38,12 @@ pub fn outcome(
     made: Vec<Option<NewFile>>,
     partials: u32,
 ) -> Result<Output, GraphErr>
-    requires read { graph.now ≡ map (λ c. c.items) contents.now }
+    requires read { graph.now.given ≡ map (λ c. c.items) contents.now }
     requires few { length contents.now < 2 ^ 32 }
     requires each { length made.items ≡ length contents.now }
-    ensures { (docs : List (Doc ℕ)) (prunes : List Bool) → ReadAs graph.now docs prunes
-        → AreNew (run_for options.now graph.now docs prunes) made.items partials
-        → IsNewCommon (run_for options.now graph.now docs prunes) common → IsAnswer (Slims options.now graph.now) result }
+    ensures { (docs : List (Doc ℕ)) (prunes : List Bool) → ReadAs graph.now.given docs prunes
+        → AreNew (run_for options.now graph.now.given docs prunes) made.items partials
+        → IsNewCommon (run_for options.now graph.now.given docs prunes) common → IsAnswer (Slims options.now graph.now.given) result }
 {
     if let Some(fault) = common_fault(&common) {
         return Err(GraphErr::Refused(in_file(contents.len() as u32, fault)));

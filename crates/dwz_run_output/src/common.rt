@@ -95,8 +95,8 @@ pub(crate) fn common_fault(common: &Option<Sections>) -> Option<Fault>
 
 // The machine and the flags of the first file; 0 where there is none.
 fn machine_of(graph: &Graph<'_>) -> (u16, u32)
-    ensures machine { result.0 ≡ (file_header (get_or graph.now 0 [])).machine }
-    ensures flags { result.1 ≡ (file_header (get_or graph.now 0 [])).flags }
+    ensures machine { result.0 ≡ (file_header (get_or graph.now.given 0 [])).machine }
+    ensures flags { result.1 ≡ (file_header (get_or graph.now.given 0 [])).flags }
 {
     match graph.files().first() {
         Some(file) => (file.elf.machine(), file.elf.flags()),
@@ -137,7 +137,7 @@ pub(crate) fn common_made(
     common: Option<Sections>,
 ) -> Result<Option<CommonFile>, NoMemory>
     requires { (f : Fault) → ¬ FaultWith common f }
-    ensures { (r : Run) → get_or graph.now 0 [] ≡ r.input.bytes 0 → IsNewCommon r common → IfOk result (IsCommonMade options.now r) }
+    ensures { (r : Run) → get_or graph.now.given 0 [] ≡ r.input.bytes 0 → IsNewCommon r common → IfOk result (IsCommonMade options.now r) }
 {
     let Some(sections) = common else {
         return Ok(None);

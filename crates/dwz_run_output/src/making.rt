@@ -120,10 +120,10 @@ pub(crate) fn all_made(
     common: &Option<CommonFile>,
     mut made: Vec<Option<NewFile>>,
 ) -> Result<Vec<Option<Blob>>, GraphErr>
-    requires read { graph.now ≡ map (λ c. c.items) contents.now }
+    requires read { graph.now.given ≡ map (λ c. c.items) contents.now }
     requires few { length contents.now < 2 ^ 32 }
     ensures { (o : Options) (r : Run) → IsCommonMade o r common.now
-        → ((file : ℕ) → file < length contents.now → CanMake r file (get_or graph.now file []) (get_or made.items file None))
+        → ((file : ℕ) → file < length contents.now → CanMake r file (get_or graph.now.given file []) (get_or made.items file None))
         → AnswersAll (λ files. files.items) (sup_name o) r (length contents.now) result }
 {
     let mut files = Vec::new(alloc);

@@ -2,10 +2,12 @@
 
 ghost use Rattle.std.specs.Prelude.{◌≡◌, ◌<◌, length, map};
 
-use dwz_codes::{Row, attribute_names, tag_names};
+use crate::values::show_value;
+use dwz_codes::{Row, attribute_names, forms, tag_names};
 use dwz_graph::Graph;
-use dwz_graph_view::{EntryView, UnitView, attr_form, entry, section, unit, units};
+use dwz_graph_view::{AttrView, EntryView, UnitView, attr, entry, section, unit, units};
 use dwz_model::{DEBUG_INFO, Place, UnitKind};
+use std::alloc::Global;
 
 // Where a unit begins, its number, and where its root begins; its language, and the type that it describes.
 fn show_unit(rt: &impl Print, number: u32, view: &UnitView) -> anyhow::Result<()> {
@@ -40,32 +42,49 @@ fn show_name(rt: &impl Print, row: Option<Row>, code: u16) -> anyhow::Result<()>
     Ok(())
 }
 
-// Where an entry begins, its tag, and the names of its attributes.
+// An attribute: its name, its form, and what it says.
+fn show_attr(rt: &impl Print, attr: &AttrView<'_>) -> anyhow::Result<()> {
+    print!(rt; "     ")?;
+    show_name(rt, attribute_names().find(u64::from(attr.name)), attr.name)?;
+    print!(rt; " (")?;
+    match forms().find(u64::from(attr.form)) {
+        Some(row) => print!(rt; "{}", row.name)?,
+        None => print!(rt; "0x{:x}", attr.form)?,
+    }
+    print!(rt; ")")?;
+    show_value(rt, &attr.value)?;
+    println!(rt)?;
+    Ok(())
+}
+
+// Where an entry begins, its tag, and its attributes, a line for each.
 fn show_entry(
     rt: &impl Print,
+    alloc: Global,
     graph: &Graph,
     place: Place,
     view: &EntryView,
 ) -> anyhow::Result<()> {
     print!(rt; "  0x{:x}:", place.offset)?;
     show_name(rt, tag_names().find(u64::from(view.tag)), view.tag)?;
+    println!(rt)?;
     for index in 0..view.attrs {
-        if let Some(attr) = attr_form(graph, place, index) {
-            show_name(rt, attribute_names().find(u64::from(attr.name)), attr.name)?;
+        if let Some(attr) = attr(alloc, graph, place, index)? {
+            show_attr(rt, &attr)?;
         }
     }
-    println!(rt)?;
     Ok(())
 }
 
 /// The entries of the first of files that were read from these contents, in order of place.
 pub(crate) fn show_entries(
     rt: &impl Print,
+    alloc: Global,
     contents: &[Vec<u8>],
     graph: &Graph,
 ) -> anyhow::Result<()>
-    requires contents { graph.now ≡ map (λ v. v.items) contents.now }
-    requires some { 0 < length graph.now }
+    requires contents { graph.now.given ≡ map (λ v. v.items) contents.now }
+    requires some { 0 < length graph.now.given }
 {
     let Some(info) = section(contents, graph, 0, DEBUG_INFO) else {
         return Ok(());
@@ -73,7 +92,7 @@ pub(crate) fn show_entries(
     for offset in 0..u32::try_from(info.len())? {
         let place = Place { file: 0, offset };
         if let Some(view) = entry(graph, place) {
-            show_entry(rt, graph, place, &view)?;
+            show_entry(rt, alloc, graph, place, &view)?;
         }
     }
     Ok(())

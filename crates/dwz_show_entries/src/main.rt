@@ -1,10 +1,14 @@
 //! For each file that is named: how many units and entries it has, or its first fault. Behind the word `--entries` also each unit, and each
-//! entry: where it begins, its tag, and the names of its attributes.
+//! entry: where it begins, its tag, and its attributes with what they say, a line for each.
+//!
+//! Behind `--common COMMON` files are read beside that finished common file, as files that are to import from it; behind `--back` as files
+//! that may import from it, or without it by themselves.
 //!
 //! It shows what the readers answer, beside a model that was written independently.
 #![tactic(auto)]
 
 mod entries;
+mod values;
 mod walk;
 
 ghost use Rattle.std.specs.Prelude.{◌≡◌, ◌<◌, IfOk, length, map};
@@ -22,13 +26,14 @@ use walk::{Counts, counts_of};
 // A line for a file that was read from these contents, and, if asked for, one for each of its units and entries; or its first fault.
 fn report(
     rt: &impl Print,
+    alloc: Global,
     name: &str,
     with_entries: bool,
     files: &[Vec<u8>],
     answer: Result<Graph<'_>, GraphErr>,
 ) -> anyhow::Result<()>
     requires some { 0 < length files.now }
-    requires contents { IfOk answer (λ graph. graph ≡ map (λ v. v.items) files.now) }
+    requires contents { IfOk answer (λ graph. graph.given ≡ map (λ v. v.items) files.now) }
 {
     match answer {
         Ok(graph) => {
@@ -36,40 +41,113 @@ fn report(
             println!(rt; "{name}: {units} units, {entries} entries")?;
             if with_entries {
                 show_units(rt, &graph)?;
-                show_entries(rt, files, &graph)?;
+                show_entries(rt, alloc, files, &graph)?;
             }
         }
-        Err(
-            GraphErr::Refused(
-                Refusal {
-                    file: _,
-                    section,
-                    at,
-                    reason,
-                },
-            ),
-        ) => {
-            println!(rt; "{name}: section {section} at {at}: {reason:?}")?;
-        }
-        Err(GraphErr::NoMemory) => println!(rt; "{name}: out of memory")?,
+        Err(error) => show_error(rt, name, error)?,
     }
     Ok(())
+}
+
+// The same of a file that may have been written.
+fn report_back(
+    rt: &impl Print,
+    name: &str,
+    answer: Result<Graph<'_>, GraphErr>,
+) -> anyhow::Result<()> {
+    match answer {
+        Ok(graph) => {
+            for file in graph.back() {
+                let units = &file.units;
+                println!(rt;
+                    "{name}: {} units, {} entries",
+                    units.len(),
+                    units.entries()
+                )?;
+            }
+        }
+        Err(error) => show_error(rt, name, error)?,
+    }
+    Ok(())
+}
+
+// Why a file wasn't read, or the common file before it, which has the number 1.
+fn show_error(rt: &impl Print, name: &str, error: GraphErr) -> anyhow::Result<()> {
+    match error {
+        GraphErr::Refused(
+            Refusal {
+                file,
+                section,
+                at,
+                reason,
+            },
+        ) => {
+            print!(rt; "{name}: ")?;
+            if file > 0 {
+                print!(rt; "common file, ")?;
+            }
+            println!(rt; "section {section} at {at}: {reason:?}")?;
+        }
+        GraphErr::NoMemory => println!(rt; "{name}: out of memory")?,
+    }
+    Ok(())
+}
+
+// How files are read.
+#[derive(Drop)]
+struct How {
+    with_entries: bool,
+    back: bool,
+    common: Option<Vec<u8>>,
+}
+
+// Reads the file of that name, and shows what comes of it.
+fn show<R: Files + Print + AllocGlobal + Threads + Sync>(
+    rt: &R,
+    alloc: Global,
+    name: &str,
+    how: &How,
+) -> anyhow::Result<()> {
+    let bytes = read(rt, name)?;
+    let files = vec![in alloc; bytes]?;
+    let common = how.common.as_ref().map(|bytes| bytes.as_slice());
+    if how.back {
+        return report_back(rt, name, Graph::read_back(alloc, files.as_slice(), common));
+    }
+    let answer = match common {
+        None => Graph::read(rt, alloc, files.as_slice(), 1),
+        Some(common) => Graph::read_sup(rt, alloc, files.as_slice(), common, 1),
+    };
+    report(rt, alloc, name, how.with_entries, files.as_slice(), answer)
+}
+
+// The bytes of the file of that name.
+fn read<R: Files + AllocGlobal>(rt: &R, name: &str) -> anyhow::Result<Vec<u8>> {
+    Ok(fs::read(rt, name).context(format_args!("reading {name}"))?)
 }
 
 fn run<R: Env + Files + Print + AllocGlobal + Threads + Sync>(
     rt: &R,
     alloc: Global,
 ) -> anyhow::Result<()> {
-    let mut with_entries = false;
+    let mut how = How {
+        with_entries: false,
+        back: false,
+        common: None,
+    };
+    let mut names_common = false;
     for name in env::args(rt)?.skip(1) {
-        if name.as_str() == "--entries" {
-            with_entries = true;
+        if names_common {
+            how.common = Some(read(rt, name.as_str())?);
+            names_common = false;
             continue;
         }
-        let bytes = fs::read(rt, name.as_str()).context(format_args!("reading {name}"))?;
-        let files = vec![in alloc; bytes]?;
-        let answer = Graph::read(rt, alloc, files.as_slice(), 1);
-        report(rt, name.as_str(), with_entries, files.as_slice(), answer)?;
+        match name.as_str() {
+            "--entries" => how.with_entries = true,
+            "--back" => how.back = true,
+            "--common" => names_common = true,
+            name => show(rt, alloc, name, &how)?,
+        }
     }
     Ok(())
 }

@@ -14,8 +14,8 @@ pub(crate) struct Counts {
 
 /// Counts the units and the entries of the first of files that were read.
 pub(crate) fn counts_of(graph: &Graph) -> Counts
-    requires { 0 < length graph.now }
-    ensures { (bytes : List ℕ) → slice_get graph.now 0 ≡ Some bytes → AreCounted bytes result }
+    requires { 0 < length graph.now.given }
+    ensures { (bytes : List ℕ) → slice_get graph.now.given 0 ≡ Some bytes → AreCounted bytes result }
 {
     let file = graph.file(0);
     Counts {

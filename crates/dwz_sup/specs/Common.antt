@@ -1,5 +1,5 @@
 -- How long the supplementary file is.
-use Rattle.std.specs.Prelude.{ℕ, ◌+◌, ◌*◌, List, length, replicate}
+use Rattle.std.specs.Prelude.{ℕ, ◌+◌, ◌*◌, length, replicate}
 use Rattle.dwz_model.specs.declared.sections.Sections.{Sections}
 use Rattle.dwz_def_reading.specs.PlainFile.{plain_headers_at, sections_with}
 

@@ -19,7 +19,7 @@ use Rattle.dwz_def_reading.specs.Values.{shaped_at}
 use Rattle.dwz_def_reading.specs.OffsetTables.{count_at, counts_in, is_contribution}
 use Rattle.dwz_def_reading.specs.Pruning.{bytes_kept, is_kept, range_end}
 use Rattle.dwz_def_reading.specs.Documents.{Doc}
-use Rattle.dwz_def_reading.specs.Files.{file_meaning, files_meaning, longest_file, longest_files, most_entries, no_files_before, section_of, unit_places}
+use Rattle.dwz_def_reading.specs.Files.{file_meaning_by, files_meaning, longest_file, longest_files, most_entries, no_files_before, section_of, unit_places}
 use Rattle.dwz_def_reading.specs.LocLists.{list_at, list_entry_at}
 use Rattle.dwz_def_reading.specs.Meanings.{all_places, first_raw, places_in, without_siblings}
 use Rattle.dwz_def_reading.specs.Meant.{attrs_meaning, entries_meaning, meaning, units_meaning}
@@ -45,7 +45,7 @@ use Rattle.dwz_test_definitions.proofs.Runs.{run_in}
 
 -- what files say; whatever unfolds this unfolds all by which they are read
 unfoldable pub said : List (List ℕ) → Result (List (Doc ℕ)) Refusal
-unfolding run_in row_at row_items_from times_at list_kind_rows sleb_at file_table_at tables_at values_at rows_said nth_path plain_file plain_headers numbers files_meaning file_meaning section_of
+unfolding run_in row_at row_items_from times_at list_kind_rows sleb_at file_table_at tables_at values_at rows_said nth_path plain_file plain_headers numbers files_meaning file_meaning_by section_of
     longest_file longest_files most_entries headers_from number_at section_name_in elf_fault_for field_fault_for first_in first_other header_fault identification_fault missing_fault names_fault
     section_range
     unkept_fault_for units_at units_from unit_at entries_in header_reason tree_at zero_count front_at attrs_at siblings_at forest_at table_at declaration_at pair_at items_at items_from uleb_at groups_at

@@ -4,6 +4,8 @@
 #![tactic(auto)]
 
 #[cfg(test)]
+mod finished;
+#[cfg(test)]
 mod labels;
 #[cfg(test)]
 mod workers;

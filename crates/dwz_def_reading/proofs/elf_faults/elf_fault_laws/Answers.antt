@@ -1,6 +1,6 @@
 use Rattle.dwz_def_reading.proofs.ElfBackLemmas.{back_by_itself}
 use Rattle.dwz_def_reading.proofs.ElfFaultLemmas.{elf_is_sound}
-use Rattle.dwz_def_reading.proofs.FileLemmas.{first_is_one}
+use Rattle.dwz_def_reading.proofs.ElfFirst.{first_is_one}
 use Rattle.dwz_def_reading.proofs.elf_faults.elf_fault_laws.Goals as goal
 
 pub returns-clause-first : goal.returns-clause-first

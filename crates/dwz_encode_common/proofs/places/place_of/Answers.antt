@@ -15,13 +15,13 @@ pub returns-in_default : goal.returns-in_default
 returns-in_default c = λ give. (
     let files = c.files.result.now in
     let past = slice_get_past files c.args.row.file (ltb-false c.args.row.file (length files) (sym c.in_default.ensures.lookup.0)) in
-    no_file c.args.graph.now files c.args.known.now c.args.row c.files.ensures past give)
+    no_file c.args.graph.now.given files c.args.known.now c.args.row c.files.ensures past give)
 
 pub returns-in_default-get : goal.returns-in_default-get
 returns-in_default-get c = λ give. (
     let files = c.deref.result.now in
     let past = slice_get_past files c.args.row.file (ltb-false c.args.row.file (length files) (sym c.in_default-get.ensures.lookup.0)) in
-    no_row c.args.graph.now c.args.known.now c.args.row (rows_none c.args.known.now c.args.row files c.deref.ensures.value past) give)
+    no_row c.args.graph.now.given c.args.known.now c.args.row (rows_none c.args.known.now c.args.row files c.deref.ensures.value past) give)
 
 pub returns-then-row-entries : goal.returns-then-row-entries
 returns-then-row-entries c = λ give. (
@@ -29,7 +29,7 @@ returns-then-row-entries c = λ give. (
     let found = file_found c.deref.result.now c.args.known.now.files.items c.args.row.file f c.deref.ensures.value
     c.in-Some-get.ensures.lookup.0
     c.in-Some-get.ensures.lookup.1 in
-    no_row c.args.graph.now c.args.known.now c.args.row
+    no_row c.args.graph.now.given c.args.known.now c.args.row
     (entry_none c.args.known.now c.args.row f found (omega (arith, c.entries.ensures, c.if-row-entries.true))) give)
 
 pub bounds-bases-row : goal.bounds-bases-row
@@ -55,7 +55,7 @@ returns c =
     let two = length-map k.files.items file_bases in
     let same = ap (λ (w : List (List (Option ℕ))). length w) c.requires in
     let bases = item_got c.args.bases.now c.args.row.file c.index-bases-row.result (omega arith) c.index-bases-row.is in
-    let file = file_at c.args.graph.now c.files.result.now c.files.ensures c.args.row.file c.in-Some.file.now
+    let file = file_at c.args.graph.now.given c.files.result.now c.files.ensures c.args.row.file c.in-Some.file.now
     (file_found c.files.result.now c.files.result.now c.args.row.file c.in-Some.file.now
     (λ i. c.files.result.now) c.in-Some.ensures.lookup.0
     c.in-Some.ensures.lookup.1) in

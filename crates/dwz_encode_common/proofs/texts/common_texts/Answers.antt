@@ -6,22 +6,22 @@ use Rattle.dwz_encode_common.proofs.TextSteps.{units_end, units_step}
 use Rattle.dwz_encode_common.proofs.texts.common_texts.Goals as goal
 
 pub loop-items-init : goal.loop-items-init
-loop-items-init c = ap (λ (w : List (List ℕ)). with_all w (order_texts c.args.graph.now c.args.known.now c.args.order.now))
+loop-items-init c = ap (λ (w : List (List ℕ)). with_all w (order_texts c.args.graph.now.given c.args.known.now c.args.order.now))
     c.new-pool.ensures
 
 pub loop-items-preserved : goal.loop-items-preserved
 loop-items-preserved c =
     let k = c.args.known.now in
-    units_step (origin_texts c.args.graph.now k) k c.args.order.now c.loop-items.items-index c.items-item.result c.loop-items.pool
+    units_step (origin_texts c.args.graph.now.given k) k c.args.order.now c.loop-items.items-index c.items-item.result c.loop-items.pool
     c.put_unit.new.pool
-    (with_all [] (order_texts c.args.graph.now k c.args.order.now)) c.loop-items-test.true c.items-item.is c.in_ok-put_unit.ensures
+    (with_all [] (order_texts c.args.graph.now.given k c.args.order.now)) c.loop-items-test.true c.items-item.is c.in_ok-put_unit.ensures
     c.loop-items.invariant
 
 all_found : goal.returns-clause-said
 all_found c =
     let k = c.args.known.now in
-    units_end (origin_texts c.args.graph.now k) k c.args.order.now c.loop-items.items-index c.loop-items.pool
-    (with_all [] (order_texts c.args.graph.now k c.args.order.now)) c.loop-items-test.false c.loop-items.invariant
+    units_end (origin_texts c.args.graph.now.given k) k c.args.order.now c.loop-items.items-index c.loop-items.pool
+    (with_all [] (order_texts c.args.graph.now.given k c.args.order.now)) c.loop-items-test.false c.loop-items.invariant
 
 pub returns-clause-said : goal.returns-clause-said
 returns-clause-said c = all_found c

@@ -5,4 +5,4 @@ use Rattle.dwz_encode_common.proofs.texts.common_texts.Given as goal
 
 abbrev pub invariant-loop-items : goal.invariant-loop-items
 invariant-loop-items l =
-    with_all l.pool (order_texts l.graph l.known (drop l.items-index l.order)) ≡ with_all [] (order_texts l.graph l.known l.order)
+    with_all l.pool (order_texts l.graph.given l.known (drop l.items-index l.order)) ≡ with_all [] (order_texts l.graph.given l.known l.order)

@@ -12,7 +12,7 @@ pub returns-in-Some : goal.returns-in-Some
 returns-in-Some c =
     let is = c.in-Some.ensures in
     subst (λ (w : List (List ℕ)). OnOk c.put_name.result (c.put_name.new.pool ≡ with_all c.args.pool.now w))
-    (sym (place_gives c.args.graph.now c.args.known.now c.args.row c.in-Some.place is row_name)) (c.put_name.ensures is.row is.found)
+    (sym (place_gives c.args.graph.now.given c.args.known.now c.args.row c.in-Some.place is row_name)) (c.put_name.ensures is.row is.found)
 
 pub returns-in-None : goal.returns-in-None
 returns-in-None c = sym (ap (with_all c.args.pool.now) (c.in-None.ensures row_name))

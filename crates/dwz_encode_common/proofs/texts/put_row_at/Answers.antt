@@ -12,7 +12,7 @@ pub returns-in-Some : goal.returns-in-Some
 returns-in-Some c =
     let is = c.in-Some.ensures in
     subst (λ (w : List (List ℕ)). OnOk c.put_row.result (c.put_row.new.pool ≡ with_all c.args.pool.now w))
-    (sym (place_gives c.args.graph.now c.args.known.now c.args.row c.in-Some.place is row_texts)) (c.put_row.ensures is.row is.found)
+    (sym (place_gives c.args.graph.now.given c.args.known.now c.args.row c.in-Some.place is row_texts)) (c.put_row.ensures is.row is.found)
 
 pub returns-in-None : goal.returns-in-None
 returns-in-None c = sym (ap (with_all c.args.pool.now) (c.in-None.ensures row_texts))

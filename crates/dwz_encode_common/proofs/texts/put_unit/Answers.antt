@@ -11,13 +11,13 @@ pub loop-entry-init : goal.loop-entry-init
 loop-entry-init c =
     let k = c.args.known.now in
     let o = c.args.items.now in
-    let give = origin_texts c.args.graph.now k in
+    let give = origin_texts c.args.graph.now.given k in
     ap (λ (w : List Slot). with_all c.args.pool.now (entries_give give (entries_of w))) c.new-walk.ensures
     ∙ ap (with_all c.args.pool.now) (entries_are give (items_slots k o.sort o.items))
 
 pub loop-entry-preserved : goal.loop-entry-preserved
 loop-entry-preserved c =
-    let give = origin_texts c.args.graph.now c.args.known.now in
+    let give = origin_texts c.args.graph.now.given c.args.known.now in
     entries_step give c.in-Some.entry c.loop-entry.walk c.next.new.self c.loop-entry.pool c.put_entry.new.pool
     (with_all c.args.pool.now (items_give give c.args.known.now c.args.items.now)) c.in-Some.ensures c.in_ok-put_entry.ensures
     c.loop-entry.invariant
@@ -27,7 +27,7 @@ loop-entry-smaller c = walk_smaller c.in-Some.entry c.loop-entry.walk c.next.new
 
 pub returns : goal.returns
 returns c =
-    let give = origin_texts c.args.graph.now c.args.known.now in
+    let give = origin_texts c.args.graph.now.given c.args.known.now in
     entries_end give c.loop-entry.walk c.loop-entry.pool
     (with_all c.args.pool.now (items_give give c.args.known.now c.args.items.now)) c.in_default.ensures
     c.loop-entry.invariant

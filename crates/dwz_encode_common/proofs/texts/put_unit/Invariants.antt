@@ -7,8 +7,8 @@ use Rattle.dwz_encode_common.proofs.texts.put_unit.Given as goal
 
 abbrev pub invariant-loop-entry : goal.invariant-loop-entry
 invariant-loop-entry l =
-    with_all l.pool (entries_give (origin_texts l.graph l.known) (entries_of l.walk))
-    ≡ with_all l.fn.pool (items_give (origin_texts l.graph l.known) l.known l.items)
+    with_all l.pool (entries_give (origin_texts l.graph.given l.known) (entries_of l.walk))
+    ≡ with_all l.fn.pool (items_give (origin_texts l.graph.given l.known) l.known l.items)
 
 abbrev pub decreases-loop-entry : goal.decreases-loop-entry
 decreases-loop-entry l = length l.walk

@@ -11,14 +11,14 @@ use Rattle.dwz_encode_texts.proofs.names.texts_of_spaces.Goals as goal
 
 pub bounds-indexes-number : goal.bounds-indexes-number
 bounds-indexes-number c =
-    let many = are_many c.args.graph.now c.files-file-items.result.now c.args.indexes.now c.files-file-items.ensures c.requires in
+    let many = are_many c.args.graph.now.given c.files-file-items.result.now c.args.indexes.now c.files-file-items.ensures c.requires in
     let a = many.0 in
     let b = many.1 in
     omega (arith, c.loop-number-test.true)
 
 pub put_names-requires : goal.put_names-requires
 put_names-requires c =
-    let contents = c.args.graph.now in
+    let contents = c.args.graph.now.given in
     let files = c.files-file-items.result.now in
     let indexes = c.args.indexes.now in
     let k = c.loop-number.number in
@@ -34,7 +34,7 @@ put_names-requires c =
 
 pub loop-number-preserved : goal.loop-number-preserved
 loop-number-preserved c =
-    let contents = c.args.graph.now in
+    let contents = c.args.graph.now.given in
     let files = c.files-file-items.result.now in
     let indexes = c.args.indexes.now in
     let k = c.loop-number.number in
@@ -52,7 +52,7 @@ loop-number-preserved c =
 
 pub returns : goal.returns
 returns c =
-    let contents = c.args.graph.now in
+    let contents = c.args.graph.now.given in
     let files = c.files-file-items.result.now in
     let indexes = c.args.indexes.now in
     let many = are_many contents files indexes c.files-file-items.ensures c.requires in

@@ -4,7 +4,7 @@ use Rattle.dwz_explain.proofs.differences.name_of_first.Goals as goal
 
 pub returns : goal.returns
 returns c = λ x y h k. (
-    let contents = c.args.run.now.graph.now in
+    let contents = c.args.run.now.graph.now.given in
     let files = c.args.run.now.files.now in
     let m = means_here contents files c.args.first c.units_at.result.now x c.units_at.ensures h in
     let n = means_here contents files c.args.second c.units_at-2.result.now y c.units_at-2.ensures k in

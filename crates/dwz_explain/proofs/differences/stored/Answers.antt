@@ -9,7 +9,7 @@ entry-requires c =
     entry_there (units_of units) c.args.spot.entry (has_there c.args.run.now.files.now c.args.spot units c.units_at.ensures c.requires)
 
 pub returns-clause-tag : goal.returns-clause-tag
-returns-clause-tag c = tag_is c.args.run.now.graph.now c.args.run.now.files.now c.args.spot c.units_at.result.now c.entry.result c.units_at.ensures c.entry.ensures.entry
+returns-clause-tag c = tag_is c.args.run.now.graph.now.given c.args.run.now.files.now c.args.spot c.units_at.result.now c.entry.result c.units_at.ensures c.entry.ensures.entry
 
 pub returns-clause-place : goal.returns-clause-place
-returns-clause-place c = place_there c.args.run.now.graph.now c.args.run.now.files.now c.args.spot c.units_at.result.now c.entry.result c.units_at.ensures c.entry.ensures.entry
+returns-clause-place c = place_there c.args.run.now.graph.now.given c.args.run.now.files.now c.args.spot c.units_at.result.now c.entry.result c.units_at.ensures c.entry.ensures.entry

@@ -7,7 +7,7 @@ use Rattle.dwz_explain.proofs.places.text_of.Goals as goal
 
 pub returns : goal.returns
 returns g c = λ p q m n. (
-    let docs = docs_of c.args.graph.now in
+    let docs = docs_of c.args.graph.now.given in
     let x = c.requires.first in
     let y = c.requires.second in
     let verdict = c.in_ok-verdict.verdict in

@@ -11,13 +11,13 @@ returns-clause-file c =
     let run = c.args.run.now in
     let a = c.requires.asked in
     let rows = c.as_slice.result.now in
-    row_holds run.graph.now run.files.now run.indexes.now a.kept a.indexed run.tops.now a.outline c.args.top (get_or rows c.args.top no_row) c.requires.there
-    (row_got run.graph.now run.files.now run.indexes.now a.kept a.indexed run.tops.now a.outline rows c.args.top no_row c.as_slice.ensures c.requires.there)
+    row_holds run.graph.now.given run.files.now run.indexes.now a.kept a.indexed run.tops.now a.outline c.args.top (get_or rows c.args.top no_row) c.requires.there
+    (row_got run.graph.now.given run.files.now run.indexes.now a.kept a.indexed run.tops.now a.outline rows c.args.top no_row c.as_slice.ensures c.requires.there)
 
 pub returns-clause-offset : goal.returns-clause-offset
 returns-clause-offset c =
     let run = c.args.run.now in
     let a = c.requires.asked in
     let rows = c.as_slice.result.now in
-    row_place run.graph.now run.files.now run.indexes.now a.kept a.indexed run.tops.now a.outline c.args.top (get_or rows c.args.top no_row)
-    (row_got run.graph.now run.files.now run.indexes.now a.kept a.indexed run.tops.now a.outline rows c.args.top no_row c.as_slice.ensures c.requires.there)
+    row_place run.graph.now.given run.files.now run.indexes.now a.kept a.indexed run.tops.now a.outline c.args.top (get_or rows c.args.top no_row)
+    (row_got run.graph.now.given run.files.now run.indexes.now a.kept a.indexed run.tops.now a.outline rows c.args.top no_row c.as_slice.ensures c.requires.there)

@@ -7,5 +7,5 @@ returns-clause-has c =
 
 pub returns-clause-shows : goal.returns-clause-shows
 returns-clause-shows c =
-    along_shows c.args.run.now.graph.now c.args.run.now.files.now c.args.spot c.find_entry-entry.result c.units_at-units.result.now c.args.path.now c.units_at-units.ensures
+    along_shows c.args.run.now.graph.now.given c.args.run.now.files.now c.args.spot c.find_entry-entry.result c.units_at-units.result.now c.args.path.now c.units_at-units.ensures
     c.find_entry-entry.ensures.along

@@ -5,11 +5,11 @@ pub returns-clause-has : goal.returns-clause-has
 returns-clause-has c =
     let run = c.args.run.now in
     let a = c.requires.asked in
-    top_has run.graph.now run.files.now run.indexes.now a.kept a.indexed c.place_of_top-file.result.file c.args.top c.entry_of-entry.result c.requires.there c.place_of_top-file.ensures.file
+    top_has run.graph.now.given run.files.now run.indexes.now a.kept a.indexed c.place_of_top-file.result.file c.args.top c.entry_of-entry.result c.requires.there c.place_of_top-file.ensures.file
     c.entry_of-entry.ensures
 
 pub returns-clause-shows : goal.returns-clause-shows
 returns-clause-shows c =
     let run = c.args.run.now in
     let a = c.requires.asked in
-    top_shows run.graph.now run.files.now run.indexes.now a.kept a.indexed c.place_of_top-file.result.file c.args.top c.entry_of-entry.result c.place_of_top-file.ensures.file c.entry_of-entry.ensures
+    top_shows run.graph.now.given run.files.now run.indexes.now a.kept a.indexed c.place_of_top-file.result.file c.args.top c.entry_of-entry.result c.place_of_top-file.ensures.file c.entry_of-entry.ensures

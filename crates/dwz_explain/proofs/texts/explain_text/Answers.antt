@@ -14,16 +14,16 @@ use Rattle.dwz_explain.proofs.texts.explain_text.Goals as goal
 pub lines_of-requires-clause-first : goal.lines_of-requires-clause-first
 lines_of-requires-clause-first c =
     subst (λ (w : List (List ℕ)). c.args.a < length (tops_of (units_of (docs_of w)))) (sym c.asked_of-run.ensures.graph)
-    (movable_below (units_of (docs_of c.args.graph.now)) c.args.a c.requires.first)
+    (movable_below (units_of (docs_of c.args.graph.now.given)) c.args.a c.requires.first)
 
 pub lines_of-requires-clause-second : goal.lines_of-requires-clause-second
 lines_of-requires-clause-second c =
     subst (λ (w : List (List ℕ)). c.args.b < length (tops_of (units_of (docs_of w)))) (sym c.asked_of-run.ensures.graph)
-    (movable_below (units_of (docs_of c.args.graph.now)) c.args.b c.requires.second)
+    (movable_below (units_of (docs_of c.args.graph.now.given)) c.args.b c.requires.second)
 
 pub returns-in_ok-text-in-Differ : goal.returns-in_ok-text-in-Differ
 returns-in_ok-text-in-Differ c = λ x y i j p q said. (
-    let docs = docs_of c.args.graph.now in
+    let docs = docs_of c.args.graph.now.given in
     let e = c.asked_of-run.ensures.graph in
     let s = c.as_slice.ensures in
     let chain = c.in-Differ.chain in

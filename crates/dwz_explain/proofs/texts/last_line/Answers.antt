@@ -9,7 +9,7 @@ use Rattle.dwz_explain.proofs.texts.last_line.Goals as goal
 
 pub returns : goal.returns
 returns c = λ t u i j p q. (
-    let docs = docs_of c.args.run.now.graph.now in
+    let docs = docs_of c.args.run.now.graph.now.given in
     let what = c.args.what.now in
     let path = c.path_of-path.result.now in
     let a = c.spot_along-a.ensures.shows (whole_top t) (c.spot_of_top.ensures.shows t i p) in

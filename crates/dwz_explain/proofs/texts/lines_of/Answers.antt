@@ -15,7 +15,7 @@ loop-number-preserved c =
       first = c.target_of-first.ensures.there;
       second = c.target_of-second.ensures.there;
       printed =
-          printed_more (docs_of c.args.run.now.graph.now) chain c.args.what.now c.args.a c.args.b (line (codes "depth " ∷ decimal (suc (length chain)) ∷ [])) k c.loop-number.first c.loop-number.second
+          printed_more (docs_of c.args.run.now.graph.now.given) chain c.args.what.now c.args.a c.args.b (line (codes "depth " ∷ decimal (suc (length chain)) ∷ [])) k c.loop-number.first c.loop-number.second
           c.target_of-first.result c.target_of-second.result (get_or chain k 0) text c.in_ok-line.line.items c.extend_from_slice.new.self.items c.loop-number.invariant.printed
           (slice_get-get_or chain k 0 c.loop-number-test.true) c.target_of-first.ensures.target c.target_of-second.ensures.target c.in_ok-line.ensures
           (c.in_ok-extend_from_slice.ensures.items ∙ ap (λ (w : List ℕ). text ++ w) c.deref.ensures.value);

@@ -8,7 +8,7 @@ use Rattle.dwz_explain.proofs.texts.lines_of.Given as goal
 
 abbrev pub invariant-loop-number : goal.invariant-loop-number
 invariant-loop-number l = record {
-  first : l.first < length (tops_of (units_of (docs_of l.run.graph.now)));
-  second : l.second < length (tops_of (units_of (docs_of l.run.graph.now)));
-  printed : Printed (docs_of l.run.graph.now) l.chain l.what l.a l.b (line (codes "depth " ∷ decimal (suc (length l.chain)) ∷ [])) l.number-index l.first l.second l.text.items;
+  first : l.first < length (tops_of (units_of (docs_of l.run.graph.now.given)));
+  second : l.second < length (tops_of (units_of (docs_of l.run.graph.now.given)));
+  printed : Printed (docs_of l.run.graph.now.given) l.chain l.what l.a l.b (line (codes "depth " ∷ decimal (suc (length l.chain)) ∷ [])) l.number-index l.first l.second l.text.items;
 }

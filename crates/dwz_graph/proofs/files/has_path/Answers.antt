@@ -1,4 +1,3 @@
-use Rattle.std.proofs.Common.{◌∙◌}
 use mir.Syntax.{w128}
 use Rattle.std.proofs.lemmas.Int.{to_z-of_z}
 use Rattle.dwz_graph.proofs.FileSteps.{past_all, plain_number}

@@ -7,25 +7,25 @@ use Rattle.dwz_graph.proofs.index_files.indexes.Goals as goal
 pub loop-file-init : goal.loop-file-init
 loop-file-init c =
     let files = c.files-file-items.result.now in
-    subst (λ (xs : List Index). Going c.args.graph.now files 0 first_starts xs) (sym c.new-indexes.ensures.items) (begins c.args.graph.now files c.files-file-items.ensures)
+    subst (λ (xs : List Index). Going c.args.graph.now.given files 0 first_starts xs) (sym c.new-indexes.ensures.items) (begins c.args.graph.now.given files c.files-file-items.ensures)
 
 pub read-requires : goal.read-requires
 read-requires c =
     record {
-      room = has_room c.args.graph.now c.files-file-items.result.now c.loop-file.file-index c.loop-file.starts c.loop-file.indexes.items c.file-item.result c.loop-file.invariant (omega arith)
+      room = has_room c.args.graph.now.given c.files-file-items.result.now c.loop-file.file-index c.loop-file.starts c.loop-file.indexes.items c.file-item.result c.loop-file.invariant (omega arith)
           c.file-item.is;
     }
 
 pub behind-starts-requires-clause-room : goal.behind-starts-requires-clause-room
 behind-starts-requires-clause-room c =
-    behind_room c.args.graph.now c.files-file-items.result.now c.loop-file.file-index c.loop-file.starts c.loop-file.indexes.items c.file-item.result c.in_ok-index.index c.loop-file.invariant
+    behind_room c.args.graph.now.given c.files-file-items.result.now c.loop-file.file-index c.loop-file.starts c.loop-file.indexes.items c.file-item.result c.in_ok-index.index c.loop-file.invariant
     (omega arith) c.file-item.is c.in_ok-index.ensures.tops
 
 pub loop-file-preserved : goal.loop-file-preserved
 loop-file-preserved c =
-    goes_on c.args.graph.now c.files-file-items.result.now c.loop-file.file-index c.loop-file.starts c.behind-starts.result c.loop-file.indexes.items c.push.new.self.items c.file-item.result
+    goes_on c.args.graph.now.given c.files-file-items.result.now c.loop-file.file-index c.loop-file.starts c.behind-starts.result c.loop-file.indexes.items c.push.new.self.items c.file-item.result
     c.in_ok-index.index c.loop-file.invariant (omega arith) c.file-item.is
     c.in_ok-index.ensures.names c.in_ok-index.ensures.tops c.in_ok-index.ensures.few c.behind-starts.ensures c.in_ok-push.ensures.items
 
 pub returns : goal.returns
-returns c = ends c.args.graph.now c.files-file-items.result.now c.loop-file.file-index c.loop-file.starts c.loop-file.indexes.items c.loop-file.invariant (omega arith)
+returns c = ends c.args.graph.now.given c.files-file-items.result.now c.loop-file.file-index c.loop-file.starts c.loop-file.indexes.items c.loop-file.invariant (omega arith)

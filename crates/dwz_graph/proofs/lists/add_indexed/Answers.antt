@@ -2,7 +2,7 @@ use Rattle.std.proofs.Common.{refl, Ok, Err}
 use Rattle.std.proofs.lemmas.Result.{err_from_is_err_and}
 use Rattle.dwz_unit.specs.Rows.{units_of}
 use Rattle.dwz_graph.specs.declared.state.State.{State}
-use Rattle.dwz_graph.specs.Resolved.{scope_in}
+use Rattle.dwz_graph.specs.Surroundings.{scope_within}
 use Rattle.dwz_graph.proofs.ListGoes.{by_slot, slot_fails}
 use Rattle.dwz_graph.proofs.ListStates.{state_slot}
 use Rattle.dwz_graph.proofs.lists.add_indexed.Goals as goal
@@ -11,7 +11,7 @@ pub returns-in_err-add_list-clause-goes : goal.returns-in_err-add_list-clause-go
 returns-in_err-add_list-clause-goes c = λ u before here k. (
     let p = err_from_is_err_and c.from_residual.result c.from_residual.ensures.1 in
     let raw = units_of c.args.units.now in
-    let s = scope_in c.args.sections.now raw u in
+    let s = scope_within c.args.around.now raw u in
     let n = c.args.here.now.number in
     let x = c.in-Some-slot_at.slot in
     let sl = c.in-Some-slot_at.ensures in
@@ -23,7 +23,7 @@ returns-in_err-add_list-clause-goes c = λ u before here k. (
 pub returns-clause-goes : goal.returns-clause-goes
 returns-clause-goes c = λ u before here k. (
     let raw = units_of c.args.units.now in
-    let s = scope_in c.args.sections.now raw u in
+    let s = scope_within c.args.around.now raw u in
     let n = c.args.here.now.number in
     let x = c.in-Some-slot_at.slot in
     let sl = c.in-Some-slot_at.ensures in

@@ -9,7 +9,7 @@ use Rattle.dwz_graph.specs.declared.operands.ListOperand.{ListOperand}
 use Rattle.dwz_graph.specs.declared.state.State.{State}
 use Rattle.dwz_graph.specs.ListParts.{ReadsUp}
 use Rattle.dwz_graph.specs.ListSteps.{AreOperands}
-use Rattle.dwz_graph.specs.Resolved.{scope_in}
+use Rattle.dwz_graph.specs.Surroundings.{scope_within}
 use Rattle.dwz_graph.proofs.ListStates.{state_more}
 use Rattle.dwz_graph.proofs.ListSteps.{list_unnamed, ups_row}
 use Rattle.dwz_graph.proofs.OperandSteps.{has_memory}
@@ -19,10 +19,10 @@ pub returns-in_err-name_operands-clause-goes : goal.returns-in_err-name_operands
 returns-in_err-name_operands-clause-goes c = λ u before here k. (
     let p = err_from_is_err_and c.from_residual-in_err-name_operands.result c.from_residual-in_err-name_operands.ensures.1 in
     let raw = units_of c.args.units.now in
-    let s = scope_in c.args.sections.now raw u in
+    let s = scope_within c.args.around.now raw u in
     let n = c.args.here.now.number in
     let rows = c.args.state.now.lists.rows.items in
-    let up = ups_row c.args.sections.now.lists.now n c.args.place rows c.deref.result.now c.fit.new.marks.items c.deref-2.result.now c.read_up-read.new.operands.items c.deref-3.result.now
+    let up = ups_row c.args.around.now.sections.lists.now n c.args.place rows c.deref.result.now c.fit.new.marks.items c.deref-2.result.now c.read_up-read.new.operands.items c.deref-3.result.now
     c.read_up-read.new.places.items c.read_up-read.result c.deref.ensures.value c.deref-2.ensures.value c.deref-3.ensures.value (c.read_up-read.ensures c.clear.ensures.items c.clear-2.ensures.items) in
     rw (p.1, p.2) (list_unnamed raw c.args.state.now.file s c.args.place c.deref-3.result.now rows c.fit.new.marks.items n c.read_up-read.new.places.items c.in_err-name_operands.field-0.0
     c.read_up-read.result c.args.state.now.lists.operands.items c.name_operands.new.out.items (has_memory c.read_up-read.result (sym c.is_no_memory.ensures ∙ c.if-is_no_memory.false)) up
@@ -31,16 +31,16 @@ returns-in_err-name_operands-clause-goes c = λ u before here k. (
 pub returns-clause-goes : goal.returns-clause-goes
 returns-clause-goes c = λ u before here k. (
     let raw = units_of c.args.units.now in
-    let s = scope_in c.args.sections.now raw u in
+    let s = scope_within c.args.around.now raw u in
     let n = c.args.here.now.number in
     let file = c.args.state.now.file in
     let old = c.args.state.now.lists in
     let ops = c.read_up-read.new.operands.items in
     let places = c.read_up-read.new.places.items in
-    let up = ups_row c.args.sections.now.lists.now n c.args.place old.rows.items c.deref.result.now c.fit.new.marks.items c.deref-2.result.now ops ops places c.read_up-read.result
+    let up = ups_row c.args.around.now.sections.lists.now n c.args.place old.rows.items c.deref.result.now c.fit.new.marks.items c.deref-2.result.now ops ops places c.read_up-read.result
     c.deref.ensures.value c.deref-2.ensures.value refl (c.read_up-read.ensures c.clear.ensures.items c.clear-2.ensures.items) in
-    let read = subst (λ (r : Result Stop ReadErr). ReadsUp c.args.sections.now.lists.now old.rows.items c.fit.new.marks.items n c.args.place ops places r) c.in_ok-stop.was up in
-    let short : length c.args.sections.now.lists.now < 2 ^ 32 = c.args.sections.now.short in
+    let read = subst (λ (r : Result Stop ReadErr). ReadsUp c.args.around.now.sections.lists.now old.rows.items c.fit.new.marks.items n c.args.place ops places r) c.in_ok-stop.was up in
+    let short : length c.args.around.now.sections.lists.now < 2 ^ 32 = c.args.around.now.sections.short in
     let all : c.keep.new.lists.operands.items ≡ c.name_operands.new.out.items = (λ i. (c.in_ok-keep.ensures.operands i).items) in
     let named = subst (λ (os : List Operand). AreOperands raw file s os old.operands.items c.name_operands.new.out.items) c.deref-3.ensures.value (c.in_ok-name_operands.ensures u here) in
     let kept = subst (λ (os : List ListOperand). AreOperands raw file s ops old.operands.items os) (sym all) named in

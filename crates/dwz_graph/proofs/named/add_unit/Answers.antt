@@ -11,7 +11,8 @@ use Rattle.dwz_graph.proofs.PartSteps.{entry_more, first_is, one_unit_more, part
 use Rattle.std.proofs.lemmas.Result.{err_from_is_err_and}
 use Rattle.dwz_unit.specs.Rows.{units_of}
 use Rattle.dwz_graph.specs.Named.{collect, entries_of, entry_named, kind_named}
-use Rattle.dwz_graph.specs.Resolved.{Goes, StateAt, StateIn, around, scope_in}
+use Rattle.dwz_graph.specs.Resolved.{Goes, StateAt, StateIn}
+use Rattle.dwz_graph.specs.Surroundings.{around_in, common_view, scope_within}
 use Rattle.dwz_graph.specs.State.{IsState}
 use Rattle.dwz_graph.proofs.NamedSteps.{added_known, adds_all, adds_more, adds_none, behind_none, fails_at, fails_behind, fails_first}
 use Rattle.dwz_graph.proofs.RowLemmas.{row_there}
@@ -34,24 +35,25 @@ returns-in_err-check_kind-clause-goes c = λ u before found k. (
     let p = err_from_is_err_and c.from_residual.result c.from_residual.ensures.1 in
     let raw = units_of c.args.units.now in
     let h = c.here_of-here.ensures c.unit-unit.ensures in
-    let s = scope_in c.args.sections.now raw u in
+    let s = scope_within c.args.around.now raw u in
     rw (p.1, p.2) (fails_first c.in_err-check_kind.field-0.0 (kind_named s u.kind) (collect (entry_named s) (entries_of u))
     (c.in_err-check_kind.ensures u (here_there raw c.args.n c.unit-unit.result c.here_of-here.result h u found) (shown_there raw c.args.n c.unit-unit.result c.here_of-here.result h u found))))
 
 pub loop-i-init : goal.loop-i-init
 loop-i-init c =
     let raw = units_of c.args.units.now in
+    let co = common_view c.args.around.now.common in
     let h = c.here_of-here.ensures c.unit-unit.ensures in
     let none : 0 ≡ c.here_of-here.result.first - c.here_of-here.result.first = omega arith in
     record {
       file = refl;
       goes = λ u before found k. (
-          let s = scope_in c.args.sections.now raw u in
-          let K = StateIn c.args.sections.now raw u c.here_of-here.result in
-          subst (λ (k : ℕ). Goes {Y = Unit {0}} raw K before c.args.state.now c.args.state.now (Ok tt) (collect (entry_named s) (take k (entries_of u)))) none
-          (adds_none raw K (entry_named s) (entries_of u) before c.args.state.now c.args.state.now refl
-          (subst (λ (m : ℕ). IsState raw s m before c.args.state.now) (sym h.number) (unit_begins raw (around c.args.sections.now raw) u c.args.n before c.args.state.now found k))));
-      starts = λ before k parted small. subst (λ (m : ℕ). AreParted (around c.args.sections.now raw) raw m c.args.state.now.refs.items c.args.parts.now.starts.items)
+          let s = scope_within c.args.around.now raw u in
+          let K = StateIn c.args.around.now raw u c.here_of-here.result in
+          subst (λ (k : ℕ). Goes {Y = Unit {0}} co raw K before c.args.state.now c.args.state.now (Ok tt) (collect (entry_named s) (take k (entries_of u)))) none
+          (adds_none co raw K (entry_named s) (entries_of u) before c.args.state.now c.args.state.now refl
+          (subst (λ (m : ℕ). IsState raw s m before c.args.state.now) (sym h.number) (unit_begins raw (around_in c.args.around.now raw) u c.args.n before c.args.state.now found k))));
+      starts = λ before k parted small. subst (λ (m : ℕ). AreParted (around_in c.args.around.now raw) raw m c.args.state.now.refs.items c.args.parts.now.starts.items)
           (sym (h.first ∙ first_is raw c.args.n c.unit-unit.result c.unit-unit.ensures)) (parted.starts small);
       lines = refl;
       learns = λ u found. subst (λ (m : ℕ). Learns (list_any entry_numbers (take m (entries_of u))) c.here_of-here.result.line c.args.state.now.files c.args.state.now.files) none
@@ -70,21 +72,23 @@ pub returns-in_err-add_values-clause-goes : goal.returns-in_err-add_values-claus
 returns-in_err-add_values-clause-goes c = λ u before found k. (
     let p = err_from_is_err_and c.from_residual-in_err-add_values.result c.from_residual-in_err-add_values.ensures.1 in
     let raw = units_of c.args.units.now in
+    let co = common_view c.args.around.now.common in
     let h = c.here_of-here.ensures c.unit-unit.ensures in
     let within = h.within in
-    let s = scope_in c.args.sections.now raw u in
-    let K = StateIn c.args.sections.now raw u c.here_of-here.result in
+    let s = scope_within c.args.around.now raw u in
+    let K = StateIn c.args.around.now raw u c.here_of-here.result in
     let is = here_there raw c.args.n c.unit-unit.result c.here_of-here.result h u found in
     let row = row_there raw c.loop-i.i (omega arith) in
     let there = entry_there raw c.args.n c.unit-unit.result c.here_of-here.result h u found c.unit-unit.ensures c.loop-i.i row.0 (omega arith) (omega arith) row.1 in
     rw (p.1, p.2) (fails_behind c.in_err-add_values.field-0.0 (kind_named s u.kind) (collect (entry_named s) (entries_of u))
     (c.in_ok-check_kind.ensures u is (shown_there raw c.args.n c.unit-unit.result c.here_of-here.result h u found))
-    (fails_at raw K (entry_named s) (entries_of u) (c.loop-i.i - c.here_of-here.result.first) row.0.entry before c.args.state.now c.loop-i.state c.in_err-add_values.field-0.0 there
+    (fails_at co raw K (entry_named s) (entries_of u) (c.loop-i.i - c.here_of-here.result.first) row.0.entry before c.args.state.now c.loop-i.state c.in_err-add_values.field-0.0 there
     (c.loop-i.invariant.goes u before found k) (λ lists q. c.in_err-add_values.ensures.goes u row.0 lists is row.1 q))))
 
 pub loop-i-preserved : goal.loop-i-preserved
 loop-i-preserved c =
     let raw = units_of c.args.units.now in
+    let co = common_view c.args.around.now.common in
     let h = c.here_of-here.ensures c.unit-unit.ensures in
     let within = h.within in
     let row = row_there raw c.loop-i.i (omega arith) in
@@ -92,15 +96,15 @@ loop-i-preserved c =
     record {
       file = c.in_ok-add_values.ensures.file ∙ c.loop-i.invariant.file;
       goes = λ u before found k. (
-          let s = scope_in c.args.sections.now raw u in
-          let K = StateIn c.args.sections.now raw u c.here_of-here.result in
+          let s = scope_within c.args.around.now raw u in
+          let K = StateIn c.args.around.now raw u c.here_of-here.result in
           let is = here_there raw c.args.n c.unit-unit.result c.here_of-here.result h u found in
           let there = entry_there raw c.args.n c.unit-unit.result c.here_of-here.result h u found c.unit-unit.ensures c.loop-i.i row.0 (omega arith) (omega arith) row.1 in
-          subst (λ (k : ℕ). Goes {Y = Unit {0}} raw K before c.args.state.now c.add_values.new.state (Ok tt) (collect (entry_named s) (take k (entries_of u)))) next
-          (adds_more raw K K (entry_named s) (entries_of u) (c.loop-i.i - c.here_of-here.result.first) row.0.entry before c.args.state.now c.loop-i.state c.add_values.new.state there
+          subst (λ (k : ℕ). Goes {Y = Unit {0}} co raw K before c.args.state.now c.add_values.new.state (Ok tt) (collect (entry_named s) (take k (entries_of u)))) next
+          (adds_more co raw K K (entry_named s) (entries_of u) (c.loop-i.i - c.here_of-here.result.first) row.0.entry before c.args.state.now c.loop-i.state c.add_values.new.state there
           (c.loop-i.invariant.goes u before found k) (λ lists q. c.in_ok-add_values.ensures.goes u row.0 lists is row.1 q)));
       starts = λ before k parted small. (
-          let found = there raw c.args.n c.requires in
+          let found = there raw c.args.n c.requires.unit in
           let u = found.0 in
           let is = here_there raw c.args.n c.unit-unit.result c.here_of-here.result h u found.1 in
           let end = end_there raw c.args.n c.unit-unit.result c.here_of-here.result h u found.1 in
@@ -108,12 +112,12 @@ loop-i-preserved c =
           let g = c.loop-i.invariant.goes u before found.1 k in
           let a = c.in_ok-add_values.ensures.goes u row.0 (before ++ g.lists) is row.1 g.keeps in
           let wide = ap (λ (w : List ℕ). length w) a.refs ∙ length-append c.loop-i.state.refs.items a.more in
-          subst (λ (w : List ℕ). AreParted (around c.args.sections.now raw) raw (c.loop-i.i + 1) c.add_values.new.state.refs.items w)
+          subst (λ (w : List ℕ). AreParted (around_in c.args.around.now raw) raw (c.loop-i.i + 1) c.add_values.new.state.refs.items w)
           (sym (c.in_ok-end_entry.ensures.starts (subst (λ (w : List ℕ). length w < 2 ^ 32) (sym c.as_slice.ensures.value) small)
           ∙ ap (λ (w : List ℕ). c.loop-i.parts.starts.items ++ length w ∷ []) c.as_slice.ensures.value))
-          (parted_more (around c.args.sections.now raw) raw c.loop-i.i c.loop-i.state.refs.items c.add_values.new.state.refs.items c.loop-i.parts.starts.items a.more a.refs
+          (parted_more (around_in c.args.around.now raw) raw c.loop-i.i c.loop-i.state.refs.items c.add_values.new.state.refs.items c.loop-i.parts.starts.items a.more a.refs
           (c.loop-i.invariant.starts before k parted (omega (arith, wide, small)))
-          (entry_more (around c.args.sections.now raw) raw c.args.n u c.loop-i.i row.0 a.more a.lists found.1 (omega (arith, first)) (omega (arith, first, end)) row.1 a.is)));
+          (entry_more (around_in c.args.around.now raw) raw c.args.n u c.loop-i.i row.0 a.more a.lists found.1 (omega (arith, first)) (omega (arith, first, end)) row.1 a.is)));
       lines = c.end_entry.ensures.lines ∙ c.loop-i.invariant.lines;
       learns = λ u found. (
           let there = entry_there raw c.args.n c.unit-unit.result c.here_of-here.result h u found c.unit-unit.ensures c.loop-i.i row.0 (omega arith) (omega arith) row.1 in
@@ -125,26 +129,27 @@ loop-i-preserved c =
 pub returns-clause-goes : goal.returns-clause-goes
 returns-clause-goes c = λ u before found k. (
     let raw = units_of c.args.units.now in
+    let co = common_view c.args.around.now.common in
     let h = c.here_of-here.ensures c.unit-unit.ensures in
-    let s = scope_in c.args.sections.now raw u in
-    let K = StateIn c.args.sections.now raw u c.here_of-here.result in
-    let L = StateAt c.args.sections.now raw (c.args.n + 1) in
+    let s = scope_within c.args.around.now raw u in
+    let K = StateIn c.args.around.now raw u c.here_of-here.result in
+    let L = StateAt c.args.around.now raw (c.args.n + 1) in
     let is = here_there raw c.args.n c.unit-unit.result c.here_of-here.result h u found in
     let end = end_there raw c.args.n c.unit-unit.result c.here_of-here.result h u found in
     let many = entries_many u in
-    behind_none raw L before c.args.state.now c.loop-i.state (kind_named s u.kind) (collect (entry_named s) (entries_of u))
+    behind_none co raw L before c.args.state.now c.loop-i.state (kind_named s u.kind) (collect (entry_named s) (entries_of u))
     (c.in_ok-check_kind.ensures u is (shown_there raw c.args.n c.unit-unit.result c.here_of-here.result h u found))
-    (added_known raw K L before c.args.state.now c.loop-i.state (collect (entry_named s) (entries_of u))
-    (adds_all raw K (entry_named s) (entries_of u) (c.loop-i.i - c.here_of-here.result.first) before c.args.state.now c.loop-i.state (omega arith) (c.loop-i.invariant.goes u before found k))
-    (λ lists q. unit_left raw (around c.args.sections.now raw) u c.args.n lists c.loop-i.state found (subst (λ (m : ℕ). IsState raw s m lists c.loop-i.state) h.number q))))
+    (added_known co raw K L before c.args.state.now c.loop-i.state (collect (entry_named s) (entries_of u))
+    (adds_all co raw K (entry_named s) (entries_of u) (c.loop-i.i - c.here_of-here.result.first) before c.args.state.now c.loop-i.state (omega arith) (c.loop-i.invariant.goes u before found k))
+    (λ lists q. unit_left raw (around_in c.args.around.now raw) u c.args.n lists c.loop-i.state found (subst (λ (m : ℕ). IsState raw s m lists c.loop-i.state) h.number q))))
 
 pub returns-clause-parts : goal.returns-clause-parts
 returns-clause-parts c = λ before k parted. (
     let raw = units_of c.args.units.now in
     let h = c.here_of-here.ensures c.unit-unit.ensures in
-    let found = there raw c.args.n c.requires in
+    let found = there raw c.args.n c.requires.unit in
     let u = found.0 in
-    let a = around c.args.sections.now raw in
+    let a = around_in c.args.around.now raw in
     let is = here_there raw c.args.n c.unit-unit.result c.here_of-here.result h u found.1 in
     let end = end_there raw c.args.n c.unit-unit.result c.here_of-here.result h u found.1 in
     let first = h.first ∙ first_is raw c.args.n c.unit-unit.result c.unit-unit.ensures in

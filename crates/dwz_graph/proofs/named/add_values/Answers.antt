@@ -6,7 +6,8 @@ use Rattle.dwz_forms.specs.RawValues.{raw_view}
 use Rattle.dwz_unit.specs.Rows.{units_of}
 use Rattle.dwz_unit.proofs.ReadsLemmas.{reads_count, reads_next}
 use Rattle.dwz_graph.specs.Named.{attr_named}
-use Rattle.dwz_graph.specs.Resolved.{StateIn, scope_in}
+use Rattle.dwz_graph.specs.Resolved.{StateIn}
+use Rattle.dwz_graph.specs.Surroundings.{common_view, scope_within}
 use Rattle.dwz_graph.specs.Parts.{numbers_file}
 use Rattle.dwz_graph.proofs.LineSteps.{learns_all, learns_next, learns_none}
 use Rattle.dwz_graph.proofs.NamedSteps.{adds_all, adds_more, adds_none, fails_at}
@@ -18,8 +19,8 @@ pub loop-pair-init : goal.loop-pair-init
 loop-pair-init c = record {
   file = refl;
   reads = c.values-cursor.ensures.read;
-  adds = λ u row before here found k. adds_none (units_of c.args.units.now) (StateIn c.args.sections.now (units_of c.args.units.now) u c.args.here.now)
-      (attr_named (scope_in c.args.sections.now (units_of c.args.units.now) u)) row.entry.attrs before c.args.state.now c.args.state.now refl k;
+  adds = λ u row before here found k. adds_none (common_view c.args.around.now.common) (units_of c.args.units.now) (StateIn c.args.around.now (units_of c.args.units.now) u c.args.here.now)
+      (attr_named (scope_within c.args.around.now (units_of c.args.units.now) u)) row.entry.attrs before c.args.state.now c.args.state.now refl k;
   learns = λ row found. learns_none c.args.here.now.line c.args.state.now.files;
 }
 
@@ -33,6 +34,7 @@ known_value-raw-requires c =
 pub loop-pair-preserved : goal.loop-pair-preserved
 loop-pair-preserved c =
     let raw = units_of c.args.units.now in
+    let co = common_view c.args.around.now.common in
     let pairs = c.values-cursor.result.pairs.now in
     let j = c.loop-pair.pair-index in
     let value = raw_view c.known_value-raw.result in
@@ -44,7 +46,7 @@ loop-pair-preserved c =
       adds = λ u row before here found k. (
           let is = (next_read row.entry.at pairs j no_pair c.loop-pair.cursor c.known_value-raw.new.cursor value row.entry.attrs c.loop-pair-test.true (c.loop-pair.invariant.reads row found)
           c.known_value-raw.ensures.value).is in
-          adds_more raw (StateIn c.args.sections.now raw u c.args.here.now) (StateIn c.args.sections.now raw u c.args.here.now) (attr_named (scope_in c.args.sections.now raw u)) row.entry.attrs j a
+          adds_more co raw (StateIn c.args.around.now raw u c.args.here.now) (StateIn c.args.around.now raw u c.args.here.now) (attr_named (scope_within c.args.around.now raw u)) row.entry.attrs j a
           before c.args.state.now c.loop-pair.state c.add_attr.new.state is (c.loop-pair.invariant.adds u row before here found k)
           (λ lists q. rw (sym c.at-at.ensures, sym c.at-end.ensures) (c.in_ok-add_attr.ensures.goes u lists here q)));
       learns = λ row found. (
@@ -58,22 +60,24 @@ pub returns-in_err-add_attr-clause-goes : goal.returns-in_err-add_attr-clause-go
 returns-in_err-add_attr-clause-goes c = λ u row before here found k. (
     let p = err_from_is_err_and c.from_residual.result c.from_residual.ensures.1 in
     let raw = units_of c.args.units.now in
+    let co = common_view c.args.around.now.common in
     let pairs = c.values-cursor.result.pairs.now in
     let j = c.loop-pair.pair-index in
     let value = raw_view c.known_value-raw.result in
     let a : RawAttr = record { at = c.loop-pair.cursor.at; end = c.known_value-raw.new.cursor.at; pair = get_or pairs j no_pair; raw = value } in
     let is = (next_read row.entry.at pairs j no_pair c.loop-pair.cursor c.known_value-raw.new.cursor value row.entry.attrs c.loop-pair-test.true (c.loop-pair.invariant.reads row found)
     c.known_value-raw.ensures.value).is in
-    rw (p.1, p.2) (fails_at raw (StateIn c.args.sections.now raw u c.args.here.now) (attr_named (scope_in c.args.sections.now raw u)) row.entry.attrs j a before c.args.state.now c.loop-pair.state
+    rw (p.1, p.2) (fails_at co raw (StateIn c.args.around.now raw u c.args.here.now) (attr_named (scope_within c.args.around.now raw u)) row.entry.attrs j a before c.args.state.now c.loop-pair.state
     c.in_err-add_attr.field-0.0 is (c.loop-pair.invariant.adds u row before here found k)
     (λ lists q. rw (sym c.at-at.ensures, sym c.at-end.ensures) (c.in_err-add_attr.ensures.goes u lists here q))))
 
 pub returns-clause-goes : goal.returns-clause-goes
 returns-clause-goes c = λ u row before here found k. (
     let raw = units_of c.args.units.now in
+    let co = common_view c.args.around.now.common in
     let pairs = c.values-cursor.result.pairs.now in
     let count = reads_count row.entry.at pairs c.values-cursor.result.cursor row.entry.attrs (c.values-cursor.ensures.read row found) in
-    adds_all raw (StateIn c.args.sections.now raw u c.args.here.now) (attr_named (scope_in c.args.sections.now raw u)) row.entry.attrs c.loop-pair.pair-index before c.args.state.now c.loop-pair.state
+    adds_all co raw (StateIn c.args.around.now raw u c.args.here.now) (attr_named (scope_within c.args.around.now raw u)) row.entry.attrs c.loop-pair.pair-index before c.args.state.now c.loop-pair.state
     (omega (arith, count, c.loop-pair-test.false)) (c.loop-pair.invariant.adds u row before here found k))
 
 pub returns-clause-learns : goal.returns-clause-learns

@@ -7,7 +7,8 @@ use Rattle.std.specs.List.{list_any}
 use Rattle.dwz_graph.specs.FileRows.{Learns}
 use Rattle.dwz_graph.specs.Parts.{numbers_file}
 use Rattle.dwz_graph.specs.Named.{attr_named, collect}
-use Rattle.dwz_graph.specs.Resolved.{Goes, IsHere, StateIn, scope_in}
+use Rattle.dwz_graph.specs.Resolved.{Goes, IsHere, StateIn}
+use Rattle.dwz_graph.specs.Surroundings.{common_view, scope_within}
 use Rattle.dwz_graph.proofs.named.add_values.Given as goal
 
 abbrev pub invariant-loop-pair : goal.invariant-loop-pair
@@ -15,8 +16,8 @@ invariant-loop-pair l = record {
   file : l.state.file ≡ l.fn.state.file;
   reads : (row : EntryRow) → slice_get (rows_of (units_of l.units)) l.i ≡ Some row → Reads row.entry.at (drop l.pair-index l.pairs) l.cursor (drop l.pair-index row.entry.attrs);
   adds : (u : RawUnit) (row : EntryRow) (before : List NamedList) → IsHere (units_of l.units) u l.here → slice_get (rows_of (units_of l.units)) l.i ≡ Some row
-      → StateIn l.sections (units_of l.units) u l.here before l.fn.state
-      → Goes {Y = Unit {0}} (units_of l.units) (StateIn l.sections (units_of l.units) u l.here) before l.fn.state l.state (Ok tt)
-      (collect (attr_named (scope_in l.sections (units_of l.units) u)) (take l.pair-index row.entry.attrs));
+      → StateIn l.around (units_of l.units) u l.here before l.fn.state
+      → Goes {Y = Unit {0}} (common_view l.around.common) (units_of l.units) (StateIn l.around (units_of l.units) u l.here) before l.fn.state l.state (Ok tt)
+      (collect (attr_named (scope_within l.around (units_of l.units) u)) (take l.pair-index row.entry.attrs));
   learns : (row : EntryRow) → slice_get (rows_of (units_of l.units)) l.i ≡ Some row → Learns (list_any numbers_file (take l.pair-index row.entry.attrs)) l.here.line l.fn.state.files l.state.files;
 }

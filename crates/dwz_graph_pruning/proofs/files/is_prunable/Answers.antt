@@ -33,8 +33,8 @@ returns c = λ l number is. (
     let raw = units_of f.units in
     let lines = subst (λ (w : List (Option ℕ)). HaveLines (around_of bytes raw) raw (length raw) c.deref.result.now w) (sym c.deref-2.ensures.value)
     (subst (λ (w : List FileTable). HaveLines (around_of bytes raw) raw (length raw) w f.resolved.lines.items) (sym c.deref.ensures.value) is.lines) in
-    prunable l number bytes f is c.as_slice.result.now c.in_ok-uses_strp.field-0 c.units_stay.result
+    prunable l number bytes f is c.as_slice.result.now c.in_ok-uses_strp.field-0 c.in_ok-units_stay.field-0
     (sym (c.has_section.ensures is.elf (no_fault l number bytes f is)) ∙ c.if-has_section.false)
     (sym c.in_ok-slots.ensures ∙ c.in-Some.is ∙ ap (λ (w : List ℕ). Some w) (sym c.as_slice.ensures))
     c.in_ok-uses_strp.ensures (same_use c.in_ok-uses_strp.field-0 (sym c.ne.ensures ∙ c.if-ne.false))
-    (c.units_stay.ensures (around_of bytes raw) is.doc.units (units_mean l number bytes f is) lines))
+    (c.in_ok-units_stay.ensures (around_of bytes raw) is.doc.units (units_mean l number bytes f is) lines))

@@ -1,13 +1,30 @@
-use Rattle.std.proofs.Common.{get_or, refl, subst, sym, ◌∙◌, arith}
+use Rattle.std.proofs.Common.{◌<◌, Bool, length, get_or, ap, refl, subst, sym, ◌∙◌, arith}
+use Rattle.std.specs.List.{list_any}
+use Rattle.std.proofs.lemmas.Option.{slice_get-get_or}
 use Rattle.std.specs.Prelude.{IsOk}
 use Rattle.dwz_def_reading.specs.Entries.{RawAttr}
 use Rattle.dwz_forms.specs.RawValues.{raw_view}
-use Rattle.dwz_graph_pruning.proofs.RowLemmas.{passes, unasked}
+use Rattle.dwz_graph_pruning.proofs.RowLemmas.{none_asked, passes, unasked}
 use Rattle.dwz_graph.proofs.RowLemmas.{all_done, all_fails, all_more, row_there}
 use Rattle.dwz_graph.proofs.ValueSteps.{next_read, no_pair}
-use Rattle.dwz_unit.specs.Rows.{units_of}
+use Rattle.dwz_graph_pruning.specs.Stays.{asks}
+use Rattle.dwz_unit.specs.Known.{pairs_of}
+use Rattle.dwz_unit.specs.Rows.{rows_of, units_of}
+use Rattle.dwz_unit.proofs.DeclarationLemmas.{numbers_length, pairs_by_number}
 use Rattle.dwz_unit.proofs.ReadsLemmas.{reads_count, reads_next}
 use Rattle.dwz_graph_pruning.proofs.units.entry_stays.Goals as goal
+
+pub has-requires : goal.has-requires
+has-requires c = omega (arith, c.requires.entry, numbers_length (units_of c.args.units.now) c.args.asked.now c.requires.asked)
+
+pub returns-then-not-has : goal.returns-then-not-has
+returns-then-not-has c = λ row found. (
+    let d = c.args.asked.now in
+    let within : c.args.i < length d.numbers = omega (arith, c.requires.entry, numbers_length (units_of c.args.units.now) d c.requires.asked) in
+    let number = slice_get-get_or d.numbers c.args.i 0 within in
+    let pairs = pairs_by_number (rows_of (units_of c.args.units.now)) d c.requires.asked c.args.i (get_or d.numbers c.args.i 0) row number found in
+    sym (none_asked c.args.slots.now c.args.known.now row.entry.attrs
+    (ap (λ (b : Bool). list_any (asks b) (pairs_of row.entry)) c.if-not-known.true ∙ sym (c.has.ensures (get_or d.numbers c.args.i 0) (pairs_of row.entry) number pairs) ∙ c.if-not-has.true)))
 
 pub returns-then-not-any_asks : goal.returns-then-not-any_asks
 returns-then-not-any_asks c = λ row found.

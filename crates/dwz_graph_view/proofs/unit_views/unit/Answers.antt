@@ -15,11 +15,11 @@ within contents files n file k kept has =
     omega arith
 
 pub bounds-files-file : goal.bounds-files-file
-bounds-files-file c = within c.args.graph.now c.files.result.now c.args.n c.find_unit-file.result.file c.find_unit-file.result.unit c.files.ensures c.find_unit-file.ensures
+bounds-files-file c = within c.args.graph.now.given c.files.result.now c.args.n c.find_unit-file.result.file c.find_unit-file.result.unit c.files.ensures c.find_unit-file.ensures
 
 pub unit-row-requires : goal.unit-row-requires
 unit-row-requires c =
-    let contents = c.args.graph.now in
+    let contents = c.args.graph.now.given in
     let files = c.files.result.now in
     let has = c.find_unit-file.ensures in
     let file = c.find_unit-file.result.file in
@@ -28,7 +28,7 @@ unit-row-requires c =
 
 pub kind_of-requires : goal.kind_of-requires
 kind_of-requires c =
-    let contents = c.args.graph.now in
+    let contents = c.args.graph.now.given in
     let files = c.files.result.now in
     let has = c.find_unit-file.ensures in
     let file = c.find_unit-file.result.file in
@@ -38,7 +38,7 @@ kind_of-requires c =
 
 pub language_of-requires : goal.language_of-requires
 language_of-requires c =
-    let contents = c.args.graph.now in
+    let contents = c.args.graph.now.given in
     let files = c.files.result.now in
     let has = c.find_unit-file.ensures in
     let file = c.find_unit-file.result.file in
@@ -48,7 +48,7 @@ language_of-requires c =
 
 pub entry-requires : goal.entry-requires
 entry-requires c =
-    let contents = c.args.graph.now in
+    let contents = c.args.graph.now.given in
     let files = c.files.result.now in
     let has = c.find_unit-file.ensures in
     let file = c.find_unit-file.result.file in
@@ -58,7 +58,7 @@ entry-requires c =
 
 pub returns : goal.returns
 returns c =
-    let contents = c.args.graph.now in
+    let contents = c.args.graph.now.given in
     let files = c.files.result.now in
     let has = c.find_unit-file.ensures in
     let file = c.find_unit-file.result.file in

@@ -11,6 +11,6 @@ returns g c = λ show. (
     let labels = c.in_ok-labels.labels in
     let movable = c.args.movable.now in
     let targets = c.args.tops.now.targets in
-    let units = units_of (docs_of c.args.graph.now) in
+    let units = units_of (docs_of c.args.graph.now.given) in
     IfOk-weaker c.least_alike.result (λ least. GivesLeast labels movable targets least) (λ least. AreLeast units least)
-    (λ least gives. gives units (all_shown c.args.graph.now labels movable targets c.in_ok-labels.ensures.labels c.requires.targets show)) c.least_alike.ensures)
+    (λ least gives. gives units (all_shown c.args.graph.now.given labels movable targets c.in_ok-labels.ensures.labels c.requires.targets show)) c.least_alike.ensures)

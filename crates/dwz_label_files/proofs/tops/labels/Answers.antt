@@ -7,7 +7,7 @@ use Rattle.dwz_label_files.proofs.tops.labels.Goals as goal
 
 pub returns-clause-labels : goal.returns-clause-labels
 returns-clause-labels g c =
-    let contents = c.args.graph.now in
+    let contents = c.args.graph.now.given in
     let movable = c.args.movable.now in
     let w : Asked = c.in_ok-writer.writer in
     let same = c.in_ok-writer.ensures ∙ ap (λ (q : List (List ℕ)). asked q movable) c.run_of-run.ensures.graph in
@@ -15,7 +15,7 @@ returns-clause-labels g c =
 
 pub returns-clause-len : goal.returns-clause-len
 returns-clause-len g c =
-    let contents = c.args.graph.now in
+    let contents = c.args.graph.now.given in
     let movable = c.args.movable.now in
     let w : Asked = c.in_ok-writer.writer in
     let same = c.in_ok-writer.ensures ∙ ap (λ (q : List (List ℕ)). asked q movable) c.run_of-run.ensures.graph in

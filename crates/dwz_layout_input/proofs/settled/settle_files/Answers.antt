@@ -10,7 +10,7 @@ use Rattle.dwz_layout_input.proofs.settled.settle_files.Goals as goal
 
 pub overflow_cast-files : goal.overflow_cast-files
 overflow_cast-files c =
-    let many = are_many c.args.graph.now c.files.result.now c.args.indexes.now c.files.ensures c.requires.indexes in
+    let many = are_many c.args.graph.now.given c.files.result.now c.args.indexes.now c.files.ensures c.requires.indexes in
     let files = many.0 in
     let contents = many.2 in
     let few = c.requires.few in
@@ -24,7 +24,7 @@ changed_files-requires-clause-homes c = c.requires.planned.fits.homes ∙ sym c.
 
 pub returns-clause-settled : goal.returns-clause-settled
 returns-clause-settled c = λ f s of lends. (
-    let contents = c.args.graph.now in
+    let contents = c.args.graph.now.given in
     let indexes = c.args.indexes.now in
     let sharing = c.args.scope in
     let docs = docs_of contents in
@@ -53,7 +53,7 @@ returns-clause-settled c = λ f s of lends. (
 
 pub returns-clause-importing : goal.returns-clause-importing
 returns-clause-importing c = λ f of. (
-    let contents = c.args.graph.now in
+    let contents = c.args.graph.now.given in
     let indexes = c.args.indexes.now in
     let sharing = c.args.scope in
     let planned = c.requires.planned in
@@ -63,7 +63,7 @@ returns-clause-importing c = λ f of. (
 
 pub returns-clause-fits : goal.returns-clause-fits
 returns-clause-fits c = λ s lends. (
-    let contents = c.args.graph.now in
+    let contents = c.args.graph.now.given in
     let indexes = c.args.indexes.now in
     let sharing = c.args.scope in
     let docs = docs_of contents in

@@ -1,15 +1,13 @@
-use Rattle.std.proofs.Common.{◌≡◌, ℕ, ◌+◌, arith, drop, get_or, refl, subst, sym, ap, ◌∙◌, if◌then◌else◌}
+use Rattle.std.proofs.Common.{ℕ, ◌+◌, arith, drop, get_or, refl, subst, sym, ◌∙◌, if◌then◌else◌}
 use Rattle.std.specs.Prelude.{IsOk, nat_lt}
 use Rattle.dwz_def_reading.specs.Entries.{RawAttr}
 use Rattle.dwz_forms.specs.RawValues.{raw_view}
 use Rattle.dwz_def_reading.specs.Documents.{node_map}
-use Rattle.dwz_unit.specs.declared.rows.RawEntry.{RawEntry}
 use Rattle.dwz_unit.specs.Rows.{units_of}
 use Rattle.dwz_unit.proofs.ReadsLemmas.{reads_count, reads_next}
 use Rattle.dwz_graph.proofs.RowLemmas.{row_there}
 use Rattle.dwz_graph.proofs.ValueSteps.{next_read, no_pair}
 use Rattle.dwz_move.specs.Weights.{node_weight}
-use Rattle.dwz_move.proofs.RowSteps.{shown_row}
 use Rattle.dwz_move.proofs.WeightSteps.{AreLeft, left_all, left_more, left_none, left_sibling, own_low}
 use Rattle.dwz_move.proofs.weight.weight_of_entry.Goals as goal
 use Rattle.dwz_move.proofs.weight.weight_of_entry.Goals.{then-pair-ne-DW_AT_SIBLING, else-pair-ne-DW_AT_SIBLING}
@@ -19,11 +17,8 @@ loop-pair-init c = record {
   reads = c.values-cursor.ensures.read;
   left = λ s numbers row d name m. (
       let raw = units_of c.args.units.now in
-      let same = shown_row raw c.args.i row c.entry-entry.result m.found c.entry-entry.ensures.entry in
       let own : ℕ = if nat_lt (c.args.i + 1) row.end then 2 else 1 in
-      let is : c.own_weight-weight.result ≡ own = c.own_weight-weight.ensures ∙ (λ k. let n : ℕ = if nat_lt (c.from-2.ensures k + 1) (c.from.ensures k) then 2 else 1 in n)
-      ∙ ap (λ (x : RawEntry). let n : ℕ = if nat_lt (c.args.i + 1) x.end then 2 else 1 in n) (sym same) in
-      left_all raw s name numbers c.args.i row d c.own_weight-weight.result own m is (own_low (nat_lt (c.args.i + 1) row.end)));
+      left_all raw s name numbers c.args.i row d c.weight_alone-weight.result own m (c.weight_alone-weight.ensures row m.found) (own_low (nat_lt (c.args.i + 1) row.end)));
 }
 
 pub known_value-raw-requires : goal.known_value-raw-requires

@@ -6,4 +6,4 @@ use Rattle.dwz_move_files.specs.Drafts.{IsDraft}
 use Rattle.dwz_move_files.proofs.draft.gather.Given as goal
 
 abbrev pub invariant-loop-number : goal.invariant-loop-number
-invariant-loop-number l = AreNamed (units_of (docs_of l.graph)) l.named → IsDraft (docs_of l.graph) 0 (starts_at (docs_of l.graph) l.indexes l.number).top l.draft
+invariant-loop-number l = AreNamed (units_of (docs_of l.graph.given)) l.named → IsDraft (docs_of l.graph.given) 0 (starts_at (docs_of l.graph.given) l.indexes l.number).top l.draft

@@ -8,7 +8,7 @@ use Rattle.dwz_move_files.proofs.marks.named_tops.Goals as goal
 
 pub loop-number-init : goal.loop-number-init
 loop-number-init c = (
-    let docs = docs_of c.args.graph.now in
+    let docs = docs_of c.args.graph.now.given in
     let indexes = c.args.indexes.now in
     record {
       any = files_begin docs indexes names_in_unit c.in_ok-unset_flags.field-0.items (c.in_ok-unset_flags.ensures docs c.requires);
@@ -16,15 +16,15 @@ loop-number-init c = (
     })
 
 pub bounds-indexes-number : goal.bounds-indexes-number
-bounds-indexes-number c = below c.args.graph.now c.files-file-items.result.now c.args.indexes.now c.loop-number.number c.files-file-items.ensures c.requires c.loop-number-test.true
+bounds-indexes-number c = below c.args.graph.now.given c.files-file-items.result.now c.args.indexes.now c.loop-number.number c.files-file-items.ensures c.requires c.loop-number-test.true
 
 pub mark_file-requires : goal.mark_file-requires
-mark_file-requires c = few c.args.graph.now c.files-file-items.result.now c.args.indexes.now c.loop-number.number c.file-item.result c.index-indexes-number.result c.files-file-items.ensures c.requires
+mark_file-requires c = few c.args.graph.now.given c.files-file-items.result.now c.args.indexes.now c.loop-number.number c.file-item.result c.index-indexes-number.result c.files-file-items.ensures c.requires
     c.loop-number-test.true c.file-item.is c.index-indexes-number.is
 
 pub loop-number-preserved : goal.loop-number-preserved
 loop-number-preserved c = (
-    let contents = c.args.graph.now in
+    let contents = c.args.graph.now.given in
     let files = c.files-file-items.result.now in
     let indexes = c.args.indexes.now in
     let count = (starts_at (docs_of contents) indexes (length indexes)).top in
@@ -40,7 +40,7 @@ loop-number-preserved c = (
 pub returns : goal.returns
 unfolding is_pinned
 returns c = (
-    let contents = c.args.graph.now in
+    let contents = c.args.graph.now.given in
     let files = c.files-file-items.result.now in
     let indexes = c.args.indexes.now in
     let k = c.loop-number.number in

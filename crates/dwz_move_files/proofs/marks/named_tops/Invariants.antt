@@ -9,7 +9,7 @@ use Rattle.dwz_move_files.proofs.marks.named_tops.Given as goal
 
 abbrev pub invariant-loop-number : goal.invariant-loop-number
 invariant-loop-number l = record {
-  any : MarkedBy (units_of (docs_of l.graph)) names_in_unit (starts_at (docs_of l.graph) l.indexes (length l.indexes)).top (starts_at (docs_of l.graph) l.indexes l.number).unit l.named.by_any.items;
-  uleb : MarkedBy (units_of (docs_of l.graph)) (λ n. pinned_in (is_in n)) (starts_at (docs_of l.graph) l.indexes (length l.indexes)).top (starts_at (docs_of l.graph) l.indexes l.number).unit
+  any : MarkedBy (units_of (docs_of l.graph.given)) names_in_unit (starts_at (docs_of l.graph.given) l.indexes (length l.indexes)).top (starts_at (docs_of l.graph.given) l.indexes l.number).unit l.named.by_any.items;
+  uleb : MarkedBy (units_of (docs_of l.graph.given)) (λ n. pinned_in (is_in n)) (starts_at (docs_of l.graph.given) l.indexes (length l.indexes)).top (starts_at (docs_of l.graph.given) l.indexes l.number).unit
       l.named.by_uleb.items;
 }

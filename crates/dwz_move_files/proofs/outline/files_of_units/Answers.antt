@@ -12,13 +12,13 @@ loop-number-init c = c.new-numbers.ensures.items ∙ files_none
 pub loop-number-preserved : goal.loop-number-preserved
 loop-number-preserved c =
     let files = c.files-file-items.result.now in
-    files_step c.args.graph.now files c.files-file-items.ensures c.loop-number.number c.file-item.result (item_got files c.loop-number.number c.file-item.result (omega arith) c.file-item.is)
+    files_step c.args.graph.now.given files c.files-file-items.ensures c.loop-number.number c.file-item.result (item_got files c.loop-number.number c.file-item.result (omega arith) c.file-item.is)
     c.loop-number.numbers.items c.put_number.new.numbers.items c.len.result c.loop-number.invariant c.len.ensures c.in_ok-put_number.ensures
 
 pub returns : goal.returns
 returns c =
-    let many = files_many c.args.graph.now c.files-file-items.result.now c.files-file-items.ensures in
-    files_end (docs_of c.args.graph.now) c.loop-number.number c.loop-number.numbers.items (omega arith) c.loop-number.invariant
+    let many = files_many c.args.graph.now.given c.files-file-items.result.now c.files-file-items.ensures in
+    files_end (docs_of c.args.graph.now.given) c.loop-number.number c.loop-number.numbers.items (omega arith) c.loop-number.invariant
 
 pub overflow_cast-number : goal.overflow_cast-number
-overflow_cast-number c = (let many = files_few c.args.graph.now c.files-file-items.result.now c.files-file-items.ensures in omega arith)
+overflow_cast-number c = (let many = files_few c.args.graph.now.given c.files-file-items.result.now c.files-file-items.ensures in omega arith)

@@ -26,18 +26,18 @@ group-requires g c =
 
 pub movable_by-requires-clause-few : goal.movable_by-requires-clause-few
 movable_by-requires-clause-few g c =
-    let docs = docs_of c.args.graph.now in
+    let docs = docs_of c.args.graph.now.given in
     let draft = c.in_ok-draft.draft in
     let d = c.in_ok-draft.ensures c.in_ok-named.ensures in
     let len_is : c.len.result ≡ length c.in_ok-draft.draft.rows.items = omega (arith, c.len.ensures, c.in_ok-draft.draft.rows.ok.0) in
     let made = c.in_ok-targets.ensures ∙ (λ i. grouped (len_is i) (c.as_slice.ensures.value i)) in
     let len = long docs draft d c.in_ok-targets.targets made in
-    let few = tops_few c.args.graph.now c.files-files.result.now c.args.indexes.now c.files-files.ensures c.requires.indexes in
+    let few = tops_few c.args.graph.now.given c.files-files.result.now c.args.indexes.now c.files-files.ensures c.requires.indexes in
     omega arith
 
 pub movable_by-requires-clause-len : goal.movable_by-requires-clause-len
 movable_by-requires-clause-len g c =
-    let docs = docs_of c.args.graph.now in
+    let docs = docs_of c.args.graph.now.given in
     let draft = c.in_ok-draft.draft in
     let d = c.in_ok-draft.ensures c.in_ok-named.ensures in
     let len_is : c.len.result ≡ length c.in_ok-draft.draft.rows.items = omega (arith, c.len.ensures, c.in_ok-draft.draft.rows.ok.0) in
@@ -46,7 +46,7 @@ movable_by-requires-clause-len g c =
 
 pub movable_by-requires-clause-inside : goal.movable_by-requires-clause-inside
 movable_by-requires-clause-inside g c =
-    let docs = docs_of c.args.graph.now in
+    let docs = docs_of c.args.graph.now.given in
     let draft = c.in_ok-draft.draft in
     let d = c.in_ok-draft.ensures c.in_ok-named.ensures in
     let len_is : c.len.result ≡ length c.in_ok-draft.draft.rows.items = omega (arith, c.len.ensures, c.in_ok-draft.draft.rows.ok.0) in
@@ -56,7 +56,7 @@ movable_by-requires-clause-inside g c =
 pub set_movable-requires : goal.set_movable-requires
 set_movable-requires g c =
     let d = c.in_ok-draft.ensures c.in_ok-named.ensures in
-    let docs = docs_of c.args.graph.now in
+    let docs = docs_of c.args.graph.now.given in
     let draft = c.in_ok-draft.draft in
     let len_is : c.len.result ≡ length c.in_ok-draft.draft.rows.items = omega (arith, c.len.ensures, c.in_ok-draft.draft.rows.ok.0) in
     let made = c.in_ok-targets.ensures ∙ (λ i. grouped (len_is i) (c.as_slice.ensures.value i)) in
@@ -66,7 +66,7 @@ set_movable-requires g c =
 
 pub returns : goal.returns
 returns g c =
-    let docs = docs_of c.args.graph.now in
+    let docs = docs_of c.args.graph.now.given in
     let draft = c.in_ok-draft.draft in
     let d = c.in_ok-draft.ensures c.in_ok-named.ensures in
     let len_is : c.len.result ≡ length c.in_ok-draft.draft.rows.items = omega (arith, c.len.ensures, c.in_ok-draft.draft.rows.ok.0) in
@@ -77,7 +77,7 @@ returns g c =
     let rows : (with_items draft.rows c.set_movable.new.rows).items ≡ with_flags draft.rows.items flags =
     with_items_is draft.rows c.set_movable.new.rows (omega (arith, c.in_ok-draft.draft.rows.ok.0, ap (λ (w : List TopRow). length w) c.as_mut_slice.ensures.value, c.set_movable.auto.rows))
     ∙ c.set_movable.ensures ∙ (λ i. with_flags (c.as_mut_slice.ensures.value i) (c.as_slice-3.ensures i)) in
-    let many = files_many c.args.graph.now c.files-files.result.now c.files-files.ensures in
+    let many = files_many c.args.graph.now.given c.files-files.result.now c.files-files.ensures in
     let low = subst (λ (w : List ℕ). All (λ n. n < length c.files-files.result.now) w) (sym c.in_ok-files_of_units.ensures) (files_low docs (length c.files-files.result.now) (omega arith)) in
     record {
       tops = outline_is docs draft d c.in_ok-targets.targets made flags moves c.in_ok-files_of_units.files_of_units.items (length c.files-files.result.now) c.in_ok-files_of_units.ensures low _
@@ -85,4 +85,4 @@ returns g c =
     }
 
 pub overflow_cast-tops : goal.overflow_cast-tops
-overflow_cast-tops g c = (let many = files_few c.args.graph.now c.files-files.result.now c.files-files.ensures in omega arith)
+overflow_cast-tops g c = (let many = files_few c.args.graph.now.given c.files-files.result.now c.files-files.ensures in omega arith)

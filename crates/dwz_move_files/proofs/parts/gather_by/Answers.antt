@@ -10,7 +10,7 @@ use Rattle.dwz_move_files.proofs.parts.gather_by.Goals as goal
 
 pub returns : goal.returns
 returns g c = λ named. (
-    let contents = c.args.graph.now in
+    let contents = c.args.graph.now.given in
     let docs = docs_of contents in
     let files = c.files.result.now in
     let indexes = c.args.indexes.now in

@@ -11,35 +11,35 @@ file_there : (contents : List (List ℕ)) (files : List File) (k : ℕ) → AreK
 file_there contents files k kept lt = (let many = files_few contents files kept in omega arith)
 
 pub bounds-files-k : goal.bounds-files-k
-bounds-files-k c = file_there c.args.graph.now c.files-files.result.now c.args.k c.files-files.ensures c.requires.at
+bounds-files-k c = file_there c.args.graph.now.given c.files-files.result.now c.args.k c.files-files.ensures c.requires.at
 
 pub bounds-indexes-k : goal.bounds-indexes-k
 bounds-indexes-k c =
     let files = c.files-files.result.now in
-    let at = file_there c.args.graph.now files c.args.k c.files-files.ensures c.requires.at in
-    below c.args.graph.now files c.args.indexes.now c.args.k c.files-files.ensures c.requires.indexes at
+    let at = file_there c.args.graph.now.given files c.args.k c.files-files.ensures c.requires.at in
+    below c.args.graph.now.given files c.args.indexes.now c.args.k c.files-files.ensures c.requires.indexes at
 
 pub put_file-requires-clause-few : goal.put_file-requires-clause-few
 put_file-requires-clause-few c =
     let files = c.files-files.result.now in
-    let at = file_there c.args.graph.now files c.args.k c.files-files.ensures c.requires.at in
-    few_steps c.args.graph.now files c.args.indexes.now c.args.k c.index-files-k.result c.index-indexes-k.result c.files-files.ensures c.requires.indexes at c.index-files-k.is c.index-indexes-k.is
+    let at = file_there c.args.graph.now.given files c.args.k c.files-files.ensures c.requires.at in
+    few_steps c.args.graph.now.given files c.args.indexes.now c.args.k c.index-files-k.result c.index-indexes-k.result c.files-files.ensures c.requires.indexes at c.index-files-k.is c.index-indexes-k.is
 
 pub put_file-requires-clause-room : goal.put_file-requires-clause-room
 put_file-requires-clause-room c =
     let files = c.files-files.result.now in
-    let at = file_there c.args.graph.now files c.args.k c.files-files.ensures c.requires.at in
-    room c.args.graph.now files c.args.indexes.now c.args.k c.index-files-k.result c.index-indexes-k.result c.files-files.ensures c.requires.indexes at c.index-files-k.is c.index-indexes-k.is
+    let at = file_there c.args.graph.now.given files c.args.k c.files-files.ensures c.requires.at in
+    room c.args.graph.now.given files c.args.indexes.now c.args.k c.index-files-k.result c.index-indexes-k.result c.files-files.ensures c.requires.indexes at c.index-files-k.is c.index-indexes-k.is
 
 pub put_file-requires-clause-tops : goal.put_file-requires-clause-tops
 put_file-requires-clause-tops c =
     let files = c.files-files.result.now in
-    let at = file_there c.args.graph.now files c.args.k c.files-files.ensures c.requires.at in
-    tops_within c.args.graph.now files c.args.indexes.now c.args.k c.index-files-k.result c.index-indexes-k.result c.files-files.ensures c.requires.indexes at c.index-files-k.is c.index-indexes-k.is
+    let at = file_there c.args.graph.now.given files c.args.k c.files-files.ensures c.requires.at in
+    tops_within c.args.graph.now.given files c.args.indexes.now c.args.k c.index-files-k.result c.index-indexes-k.result c.files-files.ensures c.requires.indexes at c.index-files-k.is c.index-indexes-k.is
 
 pub returns : goal.returns
 returns c = λ named. (
-    let contents = c.args.graph.now in
+    let contents = c.args.graph.now.given in
     let files = c.files-files.result.now in
     let x = c.index-indexes-k.result in
     let at = file_there contents files c.args.k c.files-files.ensures c.requires.at in

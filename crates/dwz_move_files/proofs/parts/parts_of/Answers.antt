@@ -10,15 +10,15 @@ use Rattle.dwz_move_files.proofs.parts.parts_of.Goals as goal
 
 pub fill_slots-requires-clause-len : goal.fill_slots-requires-clause-len
 fill_slots-requires-clause-len g c κs within =
-    let many = files_few c.args.graph.now c.files.result.now c.files.ensures in
+    let many = files_few c.args.graph.now.given c.files.result.now c.files.ensures in
     omega (arith, many, c.in_ok-slots.ensures, c.in_ok-slots.slots.ok.0, ap (λ (w : List (Option Draft)). length w) c.as_mut_slice.ensures.value)
 
 pub returns-clause-len : goal.returns-clause-len
-returns-clause-len g c = (let many = files_few c.args.graph.now c.files.result.now c.files.ensures in omega (arith, many, c.in_ok-slots.ensures))
+returns-clause-len g c = (let many = files_few c.args.graph.now.given c.files.result.now c.files.ensures in omega (arith, many, c.in_ok-slots.ensures))
 
 pub returns-clause-are : goal.returns-clause-are
 returns-clause-are g c = λ named. (
-    let docs = docs_of c.args.graph.now in
+    let docs = docs_of c.args.graph.now.given in
     let indexes = c.args.indexes.now in
     let new : List (Option Draft) = c.fill_slots.new.slots in
     let len : length new ≡ length c.as_mut_slice.result.now = c.fill_slots.auto.slots in

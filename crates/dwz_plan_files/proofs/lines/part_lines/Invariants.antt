@@ -9,5 +9,5 @@ use Rattle.dwz_plan_files.proofs.LinesLemmas.{LinesUpTo}
 use Rattle.dwz_plan_files.proofs.lines.part_lines.Given as goal
 
 abbrev pub invariant-loop-part : goal.invariant-loop-part
-invariant-loop-part l = (scope : TopScope) (rule : Rule) → AreIndexes (docs_of l.graph) l.indexes → IsAlike scope (units_of (docs_of l.graph)) rule.alike → IsChoice (units_of (docs_of l.graph)) rule
-    → ShowsTops (units_of (docs_of l.graph)) l.tops → ShowsPlan rule (units_of (docs_of l.graph)) (length (docs_of l.graph)) l.plan → LinesUpTo rule (docs_of l.graph) l.part-index l.lines.items
+invariant-loop-part l = (scope : TopScope) (rule : Rule) → AreIndexes (docs_of l.graph.given) l.indexes → IsAlike scope (units_of (docs_of l.graph.given)) rule.alike → IsChoice (units_of (docs_of l.graph.given)) rule
+    → ShowsTops (units_of (docs_of l.graph.given)) l.tops → ShowsPlan rule (units_of (docs_of l.graph.given)) (length (docs_of l.graph.given)) l.plan → LinesUpTo rule (docs_of l.graph.given) l.part-index l.lines.items

@@ -22,7 +22,7 @@ use Rattle.dwz_plan_files.proofs.names.space_texts.Goals as goal
 
 pub loop-number-init : goal.loop-number-init
 loop-number-init c =
-    let docs = docs_of c.args.graph.now in
+    let docs = docs_of c.args.graph.now.given in
     let names : ℕ → List ℕ = λ n. text_of (said_of (units_of docs) n) in
     let seen = c.new-seen.result in
     record {
@@ -31,11 +31,11 @@ loop-number-init c =
     }
 
 pub bounds-indexes-number : goal.bounds-indexes-number
-bounds-indexes-number c = below c.args.graph.now c.files-file-items.result.now c.args.indexes.now c.loop-number.number c.files-file-items.ensures c.requires c.loop-number-test.true
+bounds-indexes-number c = below c.args.graph.now.given c.files-file-items.result.now c.args.indexes.now c.loop-number.number c.files-file-items.ensures c.requires c.loop-number-test.true
 
 pub put_texts-requires-clause-few : goal.put_texts-requires-clause-few
 put_texts-requires-clause-few c =
-    let contents = c.args.graph.now in
+    let contents = c.args.graph.now.given in
     let files = c.files-file-items.result.now in
     let indexes = c.args.indexes.now in
     let k = c.loop-number.number in
@@ -51,7 +51,7 @@ put_texts-requires-clause-few c =
 
 pub put_texts-requires-clause-entries : goal.put_texts-requires-clause-entries
 put_texts-requires-clause-entries c =
-    let contents = c.args.graph.now in
+    let contents = c.args.graph.now.given in
     let files = c.files-file-items.result.now in
     let indexes = c.args.indexes.now in
     let k = c.loop-number.number in
@@ -64,7 +64,7 @@ put_texts-requires-clause-entries c =
 
 pub loop-number-preserved : goal.loop-number-preserved
 loop-number-preserved c =
-    let contents = c.args.graph.now in
+    let contents = c.args.graph.now.given in
     let files = c.files-file-items.result.now in
     let indexes = c.args.indexes.now in
     let k = c.loop-number.number in
@@ -89,16 +89,16 @@ pub returns-clause-len : goal.returns-clause-len
 returns-clause-len c =
     let indexes = c.args.indexes.now in
     let k = c.loop-number.number in
-    let many = are_many c.args.graph.now c.files-file-items.result.now indexes c.files-file-items.ensures c.requires in
+    let many = are_many c.args.graph.now.given c.files-file-items.result.now indexes c.files-file-items.ensures c.requires in
     let a = many.0 in
     let b = many.1 in
     let at : k ≡ length indexes = omega arith in
-    c.loop-number.invariant.len ∙ ap (λ (n : ℕ). (starts_at (docs_of c.args.graph.now) indexes n).space) at ∙ spaces_end (docs_of c.args.graph.now) indexes c.requires
+    c.loop-number.invariant.len ∙ ap (λ (n : ℕ). (starts_at (docs_of c.args.graph.now.given) indexes n).space) at ∙ spaces_end (docs_of c.args.graph.now.given) indexes c.requires
 
 pub returns-clause-few : goal.returns-clause-few
-returns-clause-few c = spaces_few c.args.graph.now c.files-file-items.result.now c.args.indexes.now c.files-file-items.ensures c.requires
+returns-clause-few c = spaces_few c.args.graph.now.given c.files-file-items.result.now c.args.indexes.now c.files-file-items.ensures c.requires
 
 pub returns-clause-numbers : goal.returns-clause-numbers
 returns-clause-numbers c =
-    all_numbered (said_of (units_of (docs_of c.args.graph.now))) (all_spaces c.args.indexes.now) c.loop-number.texts.items (look c.loop-number.seen) (returns-clause-len c)
+    all_numbered (said_of (units_of (docs_of c.args.graph.now.given))) (all_spaces c.args.indexes.now) c.loop-number.texts.items (look c.loop-number.seen) (returns-clause-len c)
     c.loop-number.invariant.numbers

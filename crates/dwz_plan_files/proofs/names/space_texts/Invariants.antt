@@ -9,6 +9,6 @@ use Rattle.dwz_plan_files.proofs.names.space_texts.Given as goal
 
 abbrev pub invariant-loop-number : goal.invariant-loop-number
 invariant-loop-number l = record {
-  len : length l.texts.items ≡ (starts_at (docs_of l.graph) l.indexes l.number).space;
-  numbers : HaveNumbers (λ n. text_of (said_of (units_of (docs_of l.graph)) n)) l.texts.items (look l.seen);
+  len : length l.texts.items ≡ (starts_at (docs_of l.graph.given) l.indexes l.number).space;
+  numbers : HaveNumbers (λ n. text_of (said_of (units_of (docs_of l.graph.given)) n)) l.texts.items (look l.seen);
 }

@@ -8,5 +8,5 @@ use Rattle.dwz_plan_files.proofs.AllPins.{pins_number}
 use Rattle.dwz_plan_files.proofs.pinned.pinned_spaces.Given as goal
 
 abbrev pub invariant-loop-number : goal.invariant-loop-number
-invariant-loop-number l = MarkedBy (units_of (docs_of l.graph)) (pins_number (units_of (docs_of l.graph))) (length (all_spaces l.indexes)) (starts_at (docs_of l.graph) l.indexes l.number).unit
+invariant-loop-number l = MarkedBy (units_of (docs_of l.graph.given)) (pins_number (units_of (docs_of l.graph.given))) (length (all_spaces l.indexes)) (starts_at (docs_of l.graph.given) l.indexes l.number).unit
     l.named.by_uleb.items

@@ -12,7 +12,7 @@ least-requires-clause-movable g c κs within =
     ap (λ (bs : List Bool). length bs) flags ∙ c.in_ok-tops.ensures.outline.movable.len
 
 pub least-requires-clause-inside : goal.least-requires-clause-inside
-least-requires-clause-inside g c κs within = targets_low (docs_of c.args.graph.now) c.in_ok-tops.tops c.in_ok-tops.ensures.outline
+least-requires-clause-inside g c κs within = targets_low (docs_of c.args.graph.now.given) c.in_ok-tops.tops c.in_ok-tops.ensures.outline
 
 pub make-requires-clause-rows : goal.make-requires-clause-rows
 make-requires-clause-rows g c = c.in_ok-tops.ensures.few_rows
@@ -22,7 +22,7 @@ make-requires-clause-units g c = c.in_ok-tops.ensures.few_units
 
 pub make-requires-clause-least : goal.make-requires-clause-least
 make-requires-clause-least g c =
-    let docs = docs_of c.args.graph.now in
+    let docs = docs_of c.args.graph.now.given in
     let tops = c.in_ok-tops.tops in
     let o = c.in_ok-tops.ensures.outline in
     let are = c.in_ok-least.ensures (flags_show docs tops c.as_slice-flags.result.now o (c.as_slice-flags.ensures.value ∙ c.in_ok-movable.ensures)) in
@@ -30,21 +30,21 @@ make-requires-clause-least g c =
 
 pub make-requires-clause-inside : goal.make-requires-clause-inside
 make-requires-clause-inside g c =
-    let docs = docs_of c.args.graph.now in
+    let docs = docs_of c.args.graph.now.given in
     let tops = c.in_ok-tops.tops in
     let o = c.in_ok-tops.ensures.outline in
     let are = c.in_ok-least.ensures (flags_show docs tops c.as_slice-flags.result.now o (c.as_slice-flags.ensures.value ∙ c.in_ok-movable.ensures)) in
     subst (λ (ns : List ℕ). All (λ n. n < length tops.rows) ns) (sym c.as_slice.ensures) (least_in_rows docs tops c.in_ok-least.least o are)
 
 pub make-requires-clause-of_units : goal.make-requires-clause-of_units
-make-requires-clause-of_units g c = rows_low (docs_of c.args.graph.now) c.in_ok-tops.tops c.in_ok-tops.ensures.outline
+make-requires-clause-of_units g c = rows_low (docs_of c.args.graph.now.given) c.in_ok-tops.tops c.in_ok-tops.ensures.outline
 
 pub make-requires-clause-inside_targets : goal.make-requires-clause-inside_targets
-make-requires-clause-inside_targets g c = targets_in_rows (docs_of c.args.graph.now) c.in_ok-tops.tops c.in_ok-tops.ensures.outline
+make-requires-clause-inside_targets g c = targets_in_rows (docs_of c.args.graph.now.given) c.in_ok-tops.tops c.in_ok-tops.ensures.outline
 
 pub returns-clause-plan : goal.returns-clause-plan
 returns-clause-plan g c =
-    let docs = docs_of c.args.graph.now in
+    let docs = docs_of c.args.graph.now.given in
     let tops = c.in_ok-tops.tops in
     let t = c.in_ok-tops.ensures in
     let plan = c.in_ok-plan.plan in
@@ -61,7 +61,7 @@ returns-clause-plan g c =
 
 pub returns-clause-fits : goal.returns-clause-fits
 returns-clause-fits g c =
-    let docs = docs_of c.args.graph.now in
+    let docs = docs_of c.args.graph.now.given in
     let tops = c.in_ok-tops.tops in
     let t = c.in_ok-tops.ensures in
     let plan = c.in_ok-plan.plan in

@@ -17,12 +17,12 @@ number_lists-requires c =
     let rows : c.as_slice.result.now ≡ rows_from 0 (all_spaces xs) = c.as_slice.ensures.value ∙ c.in_ok-rows.ensures in
     let long = ap (λ (w : List SpaceRow). length w) rows ∙ rows_long 0 (all_spaces xs) in
     let texts = ap (λ (w : List ℕ). length w) c.as_slice-2.ensures.value ∙ c.in_ok-texts.ensures.len in
-    record { many = texts ∙ sym long; few = omega arith; rising = subst IsRising (sym rows) (rows_rise (docs_of c.args.graph.now) xs c.requires) }
+    record { many = texts ∙ sym long; few = omega arith; rising = subst IsRising (sym rows) (rows_rise (docs_of c.args.graph.now.given) xs c.requires) }
 
 pub returns : goal.returns
 returns c =
     let xs = c.args.indexes.now in
-    all_known (docs_of c.args.graph.now) xs c.requires _ c.in_ok-texts.texts.items c.in_ok-lists.lists.items c.in_ok-rows.ensures
+    all_known (docs_of c.args.graph.now.given) xs c.requires _ c.in_ok-texts.texts.items c.in_ok-lists.lists.items c.in_ok-rows.ensures
     (c.in_ok-of_tops.ensures ∙ ap (λ (w : List ℕ). map (spaces_at w) (all_tops xs)) c.as_slice-3.ensures.value) c.in_ok-texts.ensures.few c.in_ok-texts.ensures.numbers
     (subst (λ (w : List ℕ). AreLists c.in_ok-rows.rows.items w c.in_ok-lists.lists.items) c.as_slice-2.ensures.value
     (subst (λ (w : List SpaceRow). AreLists w c.as_slice-2.result.now c.in_ok-lists.lists.items) c.as_slice.ensures.value c.in_ok-lists.ensures))

@@ -7,15 +7,15 @@ use Rattle.dwz_run.proofs.written.slimmed_files.Goals as goal
 pub outcome-requires-clause-each : goal.outcome-requires-clause-each
 outcome-requires-clause-each g c =
     let made = c.in_ok-made.made in
-    graph_rows c.args.options.now c.sharing_of-sharing.result c.args.graph.now c.deref.result.now c.sharing_of-sharing.ensures c.requires.reads made.files.items made.partials
+    graph_rows c.args.options.now c.sharing_of-sharing.result c.args.graph.now.given c.deref.result.now c.sharing_of-sharing.ensures c.requires.reads made.files.items made.partials
     c.in_ok-made.ensures.files
-    ∙ as_many_contents c.args.graph.now c.args.contents.now c.requires.read
+    ∙ as_many_contents c.args.graph.now.given c.args.contents.now c.requires.read
 
 pub returns : goal.returns
 returns g c =
     let o = c.args.options.now in
     let sharing = c.sharing_of-sharing.result in
-    let graph = c.args.graph.now in
+    let graph = c.args.graph.now.given in
     let flags = c.deref.result.now in
     let made = c.in_ok-made.made in
     let prunable : ArePrunable graph (docs_of graph) flags = subst (λ (fs : List Bool). ArePrunable graph (docs_of graph) fs) (sym c.deref.ensures.value) c.in_ok-prunes.ensures in

@@ -1,8 +1,9 @@
-use Rattle.std.proofs.Common.{List, ℕ, Vec, Global, map, subst}
+use Rattle.std.proofs.Common.{List, ℕ, Vec, Global, ap, map, subst}
 use Rattle.std.proofs.lemmas.Result.{err_from_is_err_and}
 use Rattle.dwz_run_course.specs.Answers.{IsAnswer}
 use Rattle.dwz_def_run.specs.Out.{Slims}
 use Rattle.dwz_def_run.specs.Tells.{TellsWhy}
+use Rattle.dwz_graph.specs.Files.{FilesRead}
 use Rattle.dwz_run.proofs.FilesWritten.{all_read, read_refused, slimmed_as_asked, told_as_asked}
 use Rattle.dwz_run.proofs.written.written_files.Goals as goal
 
@@ -14,20 +15,23 @@ returns-in_err-graph g c =
 
 pub told_places-requires-clause-reads : goal.told_places-requires-clause-reads
 told_places-requires-clause-reads g c κs within =
-    all_read c.in_ok-graph.graph (map (λ (v : Vec ℕ Global). v.items) c.args.contents.now) c.in_ok-graph.ensures.contents c.in_ok-graph.ensures.answers
+    all_read c.in_ok-graph.graph.given (map (λ (v : Vec ℕ Global). v.items) c.args.contents.now) (ap (λ (w : FilesRead). w.given) c.in_ok-graph.ensures.contents) c.in_ok-graph.ensures.answers
 
 pub slimmed_files-requires-clause-reads : goal.slimmed_files-requires-clause-reads
 slimmed_files-requires-clause-reads g c κs within =
-    all_read c.in_ok-graph.graph (map (λ (v : Vec ℕ Global). v.items) c.args.contents.now) c.in_ok-graph.ensures.contents c.in_ok-graph.ensures.answers
+    all_read c.in_ok-graph.graph.given (map (λ (v : Vec ℕ Global). v.items) c.args.contents.now) (ap (λ (w : FilesRead). w.given) c.in_ok-graph.ensures.contents) c.in_ok-graph.ensures.answers
+
+pub slimmed_files-requires-clause-read : goal.slimmed_files-requires-clause-read
+slimmed_files-requires-clause-read g c κs within = ap (λ (w : FilesRead). w.given) c.in_ok-graph.ensures.contents
 
 pub returns-then-options : goal.returns-then-options
 returns-then-options g c =
     let o = c.args.options.now in
-    let is = subst (λ (bytes : List (List ℕ)). IsAnswer (TellsWhy o bytes) c.told_places.result) c.in_ok-graph.ensures.contents c.told_places.ensures in
+    let is = subst (λ (bytes : List (List ℕ)). IsAnswer (TellsWhy o bytes) c.told_places.result) (ap (λ (w : FilesRead). w.given) c.in_ok-graph.ensures.contents) c.told_places.ensures in
     told_as_asked o (map (λ (v : Vec ℕ Global). v.items) c.args.contents.now) c.told_places.result c.if-options.true is
 
 pub returns : goal.returns
 returns g c =
     let o = c.args.options.now in
-    let is = subst (λ (bytes : List (List ℕ)). IsAnswer (Slims o bytes) c.slimmed_files.result) c.in_ok-graph.ensures.contents c.slimmed_files.ensures in
+    let is = subst (λ (bytes : List (List ℕ)). IsAnswer (Slims o bytes) c.slimmed_files.result) (ap (λ (w : FilesRead). w.given) c.in_ok-graph.ensures.contents) c.slimmed_files.ensures in
     slimmed_as_asked o (map (λ (v : Vec ℕ Global). v.items) c.args.contents.now) c.slimmed_files.result c.if-options.false is

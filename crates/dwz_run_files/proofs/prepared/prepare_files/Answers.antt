@@ -11,7 +11,7 @@ use Rattle.dwz_run_files.proofs.prepared.prepare_files.Goals as goal
 
 pub whole_lists-requires : goal.whole_lists-requires
 whole_lists-requires g c =
-    let contents = c.args.graph.now in
+    let contents = c.args.graph.now.given in
     let files = c.files-files.result.now in
     let prunes = c.args.prunes.now in
     let a = c.in_ok-run.run' in
@@ -35,7 +35,7 @@ whole_lists-requires g c =
 
 pub prune_files-requires-clause-many : goal.prune_files-requires-clause-many
 prune_files-requires-clause-many g c =
-    let contents = c.args.graph.now in
+    let contents = c.args.graph.now.given in
     let files = c.files-files.result.now in
     let prunes = c.args.prunes.now in
     let a = c.in_ok-run.run' in
@@ -58,7 +58,7 @@ prune_files-requires-clause-many g c =
 
 pub prune_files-requires-clause-texts : goal.prune_files-requires-clause-texts
 prune_files-requires-clause-texts g c =
-    let contents = c.args.graph.now in
+    let contents = c.args.graph.now.given in
     let files = c.files-files.result.now in
     let prunes = c.args.prunes.now in
     let a = c.in_ok-run.run' in
@@ -81,7 +81,7 @@ prune_files-requires-clause-texts g c =
 
 pub returns-clause-ready : goal.returns-clause-ready
 returns-clause-ready g c =
-    let contents = c.args.graph.now in
+    let contents = c.args.graph.now.given in
     let files = c.files-files.result.now in
     let prunes = c.args.prunes.now in
     let a = c.in_ok-run.run' in

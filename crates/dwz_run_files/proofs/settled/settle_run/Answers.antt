@@ -7,12 +7,12 @@ use Rattle.dwz_run_files.proofs.settled.settle_run.Goals as goal
 pub returns-clause-settled : goal.returns-clause-settled
 returns-clause-settled g c =
     let a : SettledRun = record { indexes = c.in_ok-indexes.indexes; settled = c.in_ok-settled.settled } in
-    let planned : ArePlanned c.args.scope (docs_of c.args.graph.now) c.in_ok-planned.planned = record {
+    let planned : ArePlanned c.args.scope (docs_of c.args.graph.now.given) c.in_ok-planned.planned = record {
       outline = c.in_ok-planned.ensures.outline;
       plan = c.in_ok-planned.ensures.plan;
       fits = c.in_ok-planned.ensures.fits;
     } in
-    run_settled c.args.graph.now c.files-files.result.now a c.deref-2.result.now c.args.scope c.in_ok-planned.planned
+    run_settled c.args.graph.now.given c.files-files.result.now a c.deref-2.result.now c.args.scope c.in_ok-planned.planned
     c.files-files.ensures
     c.deref-2.ensures.value
     c.in_ok-settled.ensures.scope c.in_ok-settled.ensures.planned c.in_ok-indexes.ensures planned c.in_ok-settled.ensures.settled

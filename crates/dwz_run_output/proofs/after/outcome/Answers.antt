@@ -27,7 +27,7 @@ alone r common found new none is = no_refusal r common new (subst (IsFound (Faul
 
 pub returns-in-Some : goal.returns-in-Some
 returns-in-Some c docs prunes read are new =
-    let contents = c.args.graph.now in
+    let contents = c.args.graph.now.given in
     let f = c.in-Some.fault in
     let named : ℕ → Refusal = λ n. record { file = n; section = f.section; at = f.at; reason = f.reason } in
     common_refused c.args.options.now contents docs prunes read c.args.common f c.in_file.result new c.in-Some.ensures
@@ -36,7 +36,7 @@ returns-in-Some c docs prunes read are new =
 pub returns-in-Some-sections_refusal : goal.returns-in-Some-sections_refusal
 returns-in-Some-sections_refusal c docs prunes read are new =
     let o = c.args.options.now in
-    let contents = c.args.graph.now in
+    let contents = c.args.graph.now.given in
     let first = alone (run_for o contents docs prunes) c.args.common c.common_fault.result new c.in_default.is c.common_fault.ensures in
     let found = sections_found o contents docs prunes read c.args.made.items c.deref.result.now c.args.partials c.sections_refusal.result are c.deref.ensures.value
     c.sections_refusal.ensures in
@@ -46,7 +46,7 @@ returns-in-Some-sections_refusal c docs prunes read are new =
 pub returns-in_err-files : goal.returns-in_err-files
 returns-in_err-files c docs prunes read are new =
     let o = c.args.options.now in
-    let contents = c.args.graph.now in
+    let contents = c.args.graph.now.given in
     let r = run_for o contents docs prunes in
     let first = alone r c.args.common c.common_fault.result new c.in_default.is c.common_fault.ensures in
     let found = sections_found o contents docs prunes read c.args.made.items c.deref.result.now c.args.partials c.sections_refusal.result are c.deref.ensures.value
@@ -63,7 +63,7 @@ returns-in_err-files c docs prunes read are new =
 pub returns : goal.returns
 returns c docs prunes read are new =
     let o = c.args.options.now in
-    let contents = c.args.graph.now in
+    let contents = c.args.graph.now.given in
     let n = length c.args.contents.now in
     let r = run_for o contents docs prunes in
     let first = alone r c.args.common c.common_fault.result new c.in_default.is c.common_fault.ensures in

@@ -17,6 +17,6 @@ common_file-requires c =
 pub returns : goal.returns
 returns c r first new =
     let from = c.machine_of-machine in
-    made_so c.args.options.now r c.in-Some.sections (subst (IsNewCommon r) c.in-Some.is new) (get_or c.args.graph.now 0 []) c.name_of.result.now c.sum_of-sum.result
+    made_so c.args.options.now r c.in-Some.sections (subst (IsNewCommon r) c.in-Some.is new) (get_or c.args.graph.now.given 0 []) c.name_of.result.now c.sum_of-sum.result
     from.result.0 from.result.1 (record { bytes = c.new.result; sup = c.in_ok-sup.sup }) first from.ensures.machine from.ensures.flags c.name_of.ensures c.sum_of-sum.ensures
     (c.new.ensures ∙ c.in_ok-bytes.ensures) c.in_ok-sup.ensures

@@ -22,13 +22,13 @@ can_here graph contents made rows r file v bytes new read less row is taken left
 pub made_file-requires : goal.made_file-requires
 made_file-requires c =
     (c.file.ensures c.as_slice.result.now
-    (content_at (λ v. v.items) c.args.graph.now c.args.contents.now c.loop-file.file c.index-contents-file.result c.as_slice.result.now c.requires.read c.loop-file-test.true
+    (content_at (λ v. v.items) c.args.graph.now.given c.args.contents.now c.loop-file.file c.index-contents-file.result c.as_slice.result.now c.requires.read c.loop-file-test.true
     c.index-contents-file.is c.as_slice.ensures.value)).read.elf
 
 pub returns-in_err-bytes : goal.returns-in_err-bytes
 returns-in_err-bytes c o r common can =
     let p = err_from_is_err_and c.from_residual.result c.from_residual.ensures.1 in
-    let made = c.in_err-bytes.ensures o r common (can_here c.args.graph.now c.args.contents.now c.args.made.items c.loop-file.made.items r c.loop-file.file c.index-contents-file.result
+    let made = c.in_err-bytes.ensures o r common (can_here c.args.graph.now.given c.args.contents.now c.args.made.items c.loop-file.made.items r c.loop-file.file c.index-contents-file.result
     c.as_slice.result.now c.take_row-new.result c.requires.read c.loop-file-test.true c.index-contents-file.is c.as_slice.ensures.value c.take_row-new.ensures.row c.loop-file.invariant.0 can) in
     rw (p.1, p.2) (one_refused (λ (files : Vec (Option (List ℕ)) Global). files.items) (sup_name o) r (length c.args.contents.now) c.loop-file.file c.loop-file.files.items c.in_err-bytes.field-0.0
     (c.loop-file.invariant.1 o r common can) c.loop-file-test.true made)
@@ -37,7 +37,7 @@ pub loop-file-preserved : goal.loop-file-preserved
 loop-file-preserved c = (
   λ k above. (let other : k ≢ c.loop-file.file = omega arith in c.take_row-new.ensures.others k other ∙ c.loop-file.invariant.0 k (omega arith)),
   λ o r common can.
-      (let made = c.in_ok-bytes.ensures o r common (can_here c.args.graph.now c.args.contents.now c.args.made.items c.loop-file.made.items r c.loop-file.file c.index-contents-file.result
+      (let made = c.in_ok-bytes.ensures o r common (can_here c.args.graph.now.given c.args.contents.now c.args.made.items c.loop-file.made.items r c.loop-file.file c.index-contents-file.result
       c.as_slice.result.now c.take_row-new.result c.requires.read c.loop-file-test.true c.index-contents-file.is c.as_slice.ensures.value c.take_row-new.ensures.row c.loop-file.invariant.0 can) in
       subst (AreMadeSo (sup_name o) r (c.loop-file.file + 1)) (sym c.in_ok-push.ensures.items)
       (one_made (sup_name o) r c.loop-file.file c.loop-file.files.items c.in_ok-bytes.bytes (c.loop-file.invariant.1 o r common can) made.0 made.1)),

@@ -10,5 +10,5 @@ abbrev pub invariant-loop-file : goal.invariant-loop-file
 invariant-loop-file l =
     ((k : ℕ) → l.file ≤ k → get_or l.made.items k None ≡ get_or l.initial.made.items k None)
     × ((o : Options) (r : Run) → IsCommonMade o r l.common
-    → ((file : ℕ) → file < length l.contents → CanMake r file (get_or l.graph file []) (get_or l.initial.made.items file None))
+    → ((file : ℕ) → file < length l.contents → CanMake r file (get_or l.graph.given file []) (get_or l.initial.made.items file None))
     → AreMadeSo (sup_name o) r l.file l.files.items)

@@ -1,94 +1,19 @@
-use Rattle.std.proofs.Common.{Option, ◌≡◌, ℕ, suc, ◌+◌, ◌<◌, ◌++◌, ◌∷◌, [], List, length, map, take, drop, get_or, Vec, Global, sym, ap, subst, ◌∙◌, arith, drop-cons}
-use Rattle.std.specs.Option.{option_map}
-use Rattle.std.specs.Prelude.{IfSome}
-use Rattle.std.proofs.Math.ListN.{length-set, set}
-use Rattle.std.proofs.Math.Seq.{take-suc}
-use Rattle.std.proofs.lemmas.Option.{slice_get-map}
-use Rattle.std.proofs.lemmas.List.{length-map, length-take, map-append, take-append-drop, take_all}
-use Rattle.dwz_model.specs.declared.fault.GraphErr.{GraphErr}
-use Rattle.dwz_def_reading.specs.Files.{file_meaning, files_meaning, limits_after, no_files_before}
-use Rattle.dwz_def_reading.specs.ElfReading.{elf_of}
-use Rattle.dwz_def_reading.specs.Faults.{Fails}
-use Rattle.dwz_def_reading.proofs.ListFacts.{item_got}
-use Rattle.dwz_graph.specs.Ahead.{AreAhead, IsAhead}
-use Rattle.dwz_graph.specs.declared.file.File.{File}
-use Rattle.dwz_graph.specs.Files.{AreRead, FilesFail, IsRead, limits_view}
-use Rattle.dwz_unit.specs.Rows.{units_of}
-use Rattle.dwz_graph.proofs.AheadLemmas.{here, taken}
-use Rattle.dwz_graph.proofs.GraphLemmas.{are_more, files_fail, files_read, first_limits}
+use Rattle.std.proofs.Common.{ℕ, List, [], map, refl, subst}
+use Rattle.dwz_def_reading.specs.Files.{Limits, no_files_before}
+use Rattle.dwz_graph.specs.Files.{AreReadFrom}
+use Rattle.dwz_graph.proofs.ContentLemmas.{content}
+use Rattle.dwz_graph.proofs.GraphLemmas.{files_read}
+use Rattle.dwz_graph.proofs.KeptLemmas.{none_back}
 use Rattle.dwz_graph.proofs.graph.Graph.read.Goals as goal
 
-abbrev Content : Type 0
-Content = Vec ℕ Global
-
-abbrev content : Content → List ℕ
-content v = v.items
-
-one_more : (xs : List Content) (i : ℕ) (x : Content) → i < length xs → x ≡ get_or xs i x → map content (take (i + 1) xs) ≡ map content (take i xs) ++ content x ∷ []
-one_more xs i x l e =
-    let one : i + 1 ≡ suc i = omega arith in
-    ap (λ (n : ℕ). map content (take n xs)) one ∙ ap (map content) (take-suc xs i x l) ∙ map-append content (take i xs) (get_or xs i x ∷ [])
-    ∙ ap (λ (w : Content). map content (take i xs) ++ content w ∷ []) (sym e)
-
-parted : (xs : List Content) (i : ℕ) (x : Content) → i < length xs → x ≡ get_or xs i x → map content xs ≡ map content (take i xs) ++ content x ∷ map content (drop (suc i) xs)
-parted xs i x l e =
-    ap (map content) (sym (take-append-drop i xs)) ∙ map-append content (take i xs) (drop i xs) ∙ ap (λ (w : List Content). map content (take i xs) ++ map content w) (drop-cons xs i x l)
-    ∙ ap (λ (w : Content). map content (take i xs) ++ content w ∷ map content (drop (suc i) xs)) (sym e)
-
-pub loop-number-init : goal.loop-number-init
-loop-number-init g c = record {
-  read = subst (λ (fs : List File). AreRead no_files_before 0 [] fs (record { bytes = 536870912; entries = 16777216; machine = _ })) (sym c.new-kept.ensures.items) (sym first_limits);
-  len = c.in_ok-ahead.ensures.len;
-  ahead = c.in_ok-ahead.ensures.ahead;
-}
-
-pub loop-number-preserved : goal.loop-number-preserved
-loop-number-preserved g c =
-    let files : List Content = c.args.files.now in
-    let i = c.loop-number.number in
-    let x = c.index-files-number.result in
-    let l = limits_view c.loop-number.left in
-    let read : IsRead l i x.items c.in-Ok.file = subst (λ (b : List ℕ). IsRead l i b c.in-Ok.file) c.as_slice.ensures.value c.in-Ok.ensures in
-    let next : limits_view c.behind-left.result ≡ limits_after l x.items (units_of c.in-Ok.file.units) =
-    c.behind-left.ensures (read.elf ∙ ap elf_of (sym c.as_slice-in-Ok.ensures.value)) ∙ ap (λ (b : List ℕ). limits_after l b (units_of c.in-Ok.file.units)) c.as_slice-in-Ok.ensures.value in
-    let many : i ≡ 0 + length (map content (take i files)) = omega (arith, length-map (take i files) content, length-take i files) in
-    record {
-      read =
-          subst (λ (cs : List (List ℕ)). AreRead no_files_before 0 cs c.push.new.self.items (limits_view c.behind-left.result)) (sym (one_more files i x (omega arith) c.index-files-number.is))
-          (subst (λ (fs : List File). AreRead no_files_before 0 (map content (take i files) ++ x.items ∷ []) fs (limits_view c.behind-left.result)) (sym c.in_ok-push-in-Ok.ensures.items)
-          (are_more no_files_before 0 (map content (take i files)) c.loop-number.kept.items l (limits_view c.behind-left.result) x.items c.in-Ok.file c.loop-number.invariant.read
-          (subst (λ (n : ℕ). IsRead l n x.items c.in-Ok.file) many read) (sym next)));
-      len = length-set c.loop-number.ahead.items i c.take-done.new.self ∙ c.loop-number.invariant.len;
-      ahead = subst (λ (o : Option File). AreAhead (map content files) (set c.loop-number.ahead.items i o)) (sym c.take-done.ensures.after)
-          (let len = c.loop-number.invariant.len in taken (map content files) c.loop-number.ahead.items i (omega arith) c.loop-number.invariant.ahead);
-    }
-
-pub returns-in-Err-clause-answers : goal.returns-in-Err-clause-answers
-returns-in-Err-clause-answers g c =
-    let files : List Content = c.args.files.now in
-    let i = c.loop-number.number in
-    let x = c.index-files-number.result in
-    let l = limits_view c.loop-number.left in
-    let many : length (map content (take i files)) ≡ i = omega (arith, length-map (take i files) content, length-take i files) in
-    subst (λ (e : GraphErr). FilesFail e (files_meaning no_files_before 0 (map content files))) (sym c.in_file.ensures)
-    (files_fail c.in-Err.error (map content files) (map content (take i files)) c.loop-number.kept.items l i x.items (map content (drop (suc i) files))
-    (parted files i x (omega arith) c.index-files-number.is) many c.loop-number.invariant.read
-    (subst (λ (b : List ℕ). Fails c.in-Err.error (file_meaning l b)) c.as_slice.ensures.value c.in-Err.ensures))
+pub invariant_of-result : goal.invariant_of-result
+invariant_of-result g c =
+    let files : List (List ℕ) = map content c.args.files.now in
+    let kept : AreReadFrom no_files_before files c.in_ok-kept.kept.items = subst (λ (l : Limits). AreReadFrom l files c.in_ok-kept.kept.items) c.all_left.ensures c.in_ok-kept.ensures in
+    record { common_is = tt; given_are = record { end = kept.end; are = kept.are }; back_are = none_back [] c.new.result.items refl c.new.ensures.items }
 
 pub returns-clause-answers : goal.returns-clause-answers
 returns-clause-answers g c =
-    let files : List Content = c.args.files.now in
-    let all : take c.loop-number.number files ≡ files = take_all c.loop-number.number files (omega arith) in
-    files_read (map content files) c.loop-number.kept.items (limits_view c.loop-number.left)
-    (subst (λ (w : List Content). AreRead no_files_before 0 (map content w) c.loop-number.kept.items (limits_view c.loop-number.left)) all c.loop-number.invariant.read)
-
-pub file_behind-requires : goal.file_behind-requires
-file_behind-requires g c =
-    let files : List Content = c.args.files.now in
-    let i = c.loop-number.number in
-    let x = c.index-files-number.result in
-    let slots : List (Option File) = c.loop-number.ahead.items in
-    let len = c.loop-number.invariant.len in
-    let is = slice_get-map content files i ∙ ap (option_map content) (item_got files i x (omega arith) c.index-files-number.is) in
-    subst (λ (b : List ℕ). IfSome c.take-done.result (IsAhead i b)) (sym c.as_slice.ensures.value)
-    (here (map content files) slots i x.items c.take-done.result _ (omega arith) (c.take-done.ensures.value ∙ c.index_mut.ensures.value) is c.loop-number.invariant.ahead)
+    let files : List (List ℕ) = map content c.args.files.now in
+    let kept : AreReadFrom no_files_before files c.in_ok-kept.kept.items = subst (λ (l : Limits). AreReadFrom l files c.in_ok-kept.kept.items) c.all_left.ensures c.in_ok-kept.ensures in
+    files_read files c.in_ok-kept.kept.items kept.end kept.are

@@ -24,6 +24,7 @@ ROOTS = [
     ("dwz_def_run", "src/outcome.rt", ["out_laws"]),
     ("dwz_def_reading", "src/finished.rt", ["finished_laws", "beside_laws"]),
     ("dwz_def_reading", "src/places.rt", ["place_laws", "bound_laws"]),
+    ("dwz_def_cross", "src/laws.rt", ["cross_laws"]),
 ]
 BELIEVED = ["model", "bytes", "codes", "outside", "words", "report", "gen", "run_course", "run"]
 MARK = "-- Inner:"

@@ -41,15 +41,6 @@ first_means s name other (a ∷ values) attrs h = by (a.pair.name == 0x01) refl 
   by false is [] m more = absurd m
   by false is (b ∷ others) m more = first_both s name a b values others m.0 (more others m.1)
 
--- it has the name
-pub first_name : (name : ℕ) (values : List RawAttr) (a : RawAttr) → first_raw name values ≡ Some a → a.pair.name ≡ name
-unfolding first_raw
-first_name name [] a e = absurd cc
-first_name name (b ∷ values) a e = go (b.pair.name == name) refl e (first_name name values a) where
-  go : (t : Bool) → (b.pair.name == name) ≡ t → (if t then Some b else first_raw name values) ≡ Some a → (first_raw name values ≡ Some a → a.pair.name ≡ name) → a.pair.name ≡ name
-  go true is f more = let z : b ≡ a = cc in sym (ap (λ (w : RawAttr). w.pair.name) z) ∙ eqb-true b.pair.name name is
-  go false is f more = more f
-
 -- ---- the language of a root
 
 none_means : (s : MeaningContext ℕ) (p : Option (Attr ℕ)) → FirstMeans s None p → None ≡ number_of_attr p

@@ -1,7 +1,8 @@
-//! What the documents of files say, for whoever asks: units and entries by number and place, their attributes and tops, and sections.
+//! What the documents of files say that were given, for whoever asks: units and entries by number and place, their attributes and tops, and
+//! sections.
 //!
-//! `units` counts the units of all files of a `Graph`, and `unit` shows the one with a number: where it stands, its kind, its language, and
-//! its root. `entry` shows the entry that begins at a place: its tag, its unit, how many attributes it has, and where its first child and
+//! `units` counts the units of all of these files of a `Graph`, and `unit` shows the one with a number: where it stands, its kind, its
+//! language, and its root. `entry` shows the entry that begins at a place: its tag, its unit, how many attributes it has, and where its first child and
 //! its next sibling begin, which lead through the whole tree. `attr` shows the attribute with a number, with its value, which loses nothing
 //! of the document's: texts, paths, places of entries, and expressions with the places of those that they name. `attr_form` shows its name,
 //! its form, and the number that the form stores. `top_of` is the number of the top, among those of all files, in which the entry at a place stands, and

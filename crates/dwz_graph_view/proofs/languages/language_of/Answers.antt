@@ -1,6 +1,7 @@
 use Rattle.std.proofs.Common.{refl, sym}
 use Rattle.dwz_unit.specs.Rows.{attr_view}
-use Rattle.dwz_graph_view.proofs.LanguageLemmas.{a_language, first_name, no_language}
+use Rattle.dwz_label_entries.proofs.FirstLemmas.{first_name}
+use Rattle.dwz_graph_view.proofs.LanguageLemmas.{a_language, no_language}
 use Rattle.dwz_def_reading.specs.Meanings.{MeansAs}
 use Rattle.std.proofs.Common.{subst}
 use Rattle.dwz_def_reading.specs.Classes.{Class}

@@ -1,5 +1,5 @@
 //! For each file that is named: how many units and entries it has, or its first fault. Behind the word `--entries` also each unit, and each
-//! entry: where it begins, its tag, and its attributes with what they say, a line for each.
+//! entry: where it begins, its tag, the top in which it stands and where there, and its attributes with what they say, a line for each.
 //!
 //! Behind `--common COMMON` files are read beside that finished common file, as files that are to import from it; behind `--back` as files
 //! that may import from it, or without it by themselves.
@@ -8,6 +8,7 @@
 #![tactic(auto)]
 
 mod entries;
+mod tops;
 mod values;
 mod walk;
 

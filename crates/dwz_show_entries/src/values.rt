@@ -11,8 +11,8 @@ fn show_bytes(rt: &impl Print, bytes: &[u8]) -> anyhow::Result<()> {
     Ok(())
 }
 
-// A text; what is no printable character of ASCII as a number.
-fn show_text(rt: &impl Print, text: &[u8]) -> anyhow::Result<()> {
+/// A text; what is no printable character of ASCII as a number.
+pub(crate) fn show_text(rt: &impl Print, text: &[u8]) -> anyhow::Result<()> {
     print!(rt; " \"")?;
     for byte in text {
         if (b' '..=b'~').contains(byte) {

@@ -5,13 +5,13 @@ use Rattle.std.proofs.lemmas.Bool.{le-ltb, ltb-false, ne_eqb}
 use Rattle.std.proofs.lemmas.List.{append-nil, append_assoc}
 use Rattle.dwz_def_reading.proofs.ListFacts.{got_below, same_got}
 use Rattle.dwz_def_reading.proofs.MeaningUnits.{node_agrees}
-use Rattle.dwz_def_reading.specs.Documents.{Attr, Node, first_named}
+use Rattle.dwz_def_reading.specs.Documents.{Node}
 use Rattle.dwz_def_reading.specs.Files.{Limits, around_of}
 use Rattle.dwz_def_reading.specs.Meanings.{MeaningContext, scope_of}
 use Rattle.dwz_def_reading.specs.Meant.{node_meaning}
 use Rattle.dwz_def_reading.specs.Units.{RawUnit, entries_in}
 use Rattle.dwz_def_tops.specs.Spaces.{space_text}
-use Rattle.dwz_def_tops.specs.Spots.{SpaceName, name_by}
+use Rattle.dwz_def_tops.specs.Spots.{SpaceName}
 use Rattle.dwz_graph.specs.declared.file.File.{File}
 use Rattle.dwz_graph.specs.declared.here.Here.{Here}
 use Rattle.dwz_graph.specs.declared.index.SpaceEntry.{SpaceEntry}
@@ -25,6 +25,7 @@ use Rattle.dwz_unit.specs.declared.rows.RawEntry.{RawEntry as EntryOfCode}
 use Rattle.dwz_unit.specs.declared.rows.RawUnit.{RawUnit as UnitOfCode}
 use Rattle.dwz_unit.specs.Rows.{EntryRow, rows_of, shown_entries, units_of}
 use Rattle.dwz_graph_view.specs.SpaceRows.{IsWayOut, item_with, space_before}
+use Rattle.dwz_label_entries.proofs.NamesLemmas.{space_named}
 
 -- ---- items by their numbers
 
@@ -45,10 +46,6 @@ there_is {X} first items number x e = by (nat_lt number first) refl e where
   by false is h = record { from = ltb-false number first is; item = h }
 
 -- ---- the name of a space
-
-name_text : (text : List ℕ) (o : Option (Attr ℕ)) → (name_by text o).text ≡ text
-name_text text None = refl
-name_text text (Some a) = refl
 
 module _ (l : Limits) (number : ℕ) (bytes : List ℕ) (f : File) (read : IsRead l number bytes f) (unit entry : ℕ) (name : SpaceName)
     (is : IsSpaceAt (units_of f.units) (around_of bytes (units_of f.units)) unit entry name) where
@@ -73,7 +70,7 @@ module _ (l : Limits) (number : ℕ) (bytes : List ℕ) (f : File) (read : IsRea
       → o ≡ Some name.text
   name_is x u h o shown here tells =
       tells s is.row is.d is.text (base_of x u h shown here) is.found (((node_agrees s is.row.entry).ok is.d).1 is.means) is.is_space
-      ∙ ap Some (sym (ap (λ (w : SpaceName). w.text) is.is_name ∙ name_text is.text (first_named 0x03 is.d.attrs)))
+      ∙ ap Some (space_named raw (around_of bytes raw) unit entry name is)
 
 -- ---- outward
 

@@ -1,0 +1,11 @@
+pub mod ChosenLemmas
+pub mod AgainLemmas
+pub mod AloneLemmas
+pub mod SourceLemmas
+pub mod WholeLemmas
+pub mod WorkedExpand
+pub mod RefusalLemmas
+pub mod FileLemmas
+pub mod WorkedCommon
+pub mod ChildrenLemmas
+pub mod StoredLemmas

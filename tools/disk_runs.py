@@ -5,12 +5,14 @@
 
 N times two runs at once write to one OUT, each another file: afterwards OUT is as one of them writes it, nothing else is there, and each run ended with
 status 0, or with 4 where the other's temporary file was in its way. Then a file, and a link to a file, stand at the name of the temporary file: the run
-ends with status 4, and both are untouched. Runs whose words, files or console are wrong end with the status of that. A new OUT has the mode of its FILE, a
+ends with status 4, and both are untouched. So it is where COMMON is a FILE by another name, and where OUT is no plain file. A name may be so long that the
+temporary file's is cut. Runs whose words, files or console are wrong end with the status of that. A new OUT has the mode of its FILE, a
 new COMMON the mode of any new file, and a FILE keeps its own. The last line is `wrong N`, and the status is 1 where N isn't 0. It belongs to no gate.
 """
 
 import argparse
 import os
+import stat
 import subprocess
 import sys
 import tempfile
@@ -69,6 +71,27 @@ def in_the_way(program, folder, place_it):
     return is_well
 
 
+def untouched(program, folder):
+    """For each run that would take a file's place whether that file is as it was, and the status is 4."""
+    pipe = os.path.join(folder, "pipe")
+    os.mkfifo(pipe)
+    before = {name: content_of(os.path.join(folder, name)) for name in ("one", "two")}
+    for what, words in (("COMMON that is a FILE by another name", ["-m", "./one", "one", "two"]), ("OUT that is no plain file", ["-o", "pipe", "one"])):
+        status = subprocess.run([program, "-q", *words], cwd=folder, stdout=subprocess.DEVNULL, check=False).returncode
+        same = all(content_of(os.path.join(folder, name)) == content for name, content in before.items())
+        yield what, status == 4 and same and stat.S_ISFIFO(os.stat(pipe).st_mode)
+    os.remove(pipe)
+
+
+def long_names(program, folder):
+    """Whether files whose names are as long as may be are written, and nothing else."""
+    name = "n" * 255
+    status = subprocess.run([program, "-q", "-o", name, "one"], cwd=folder, stdout=subprocess.DEVNULL, check=False).returncode
+    is_well = status == 0 and sorted(os.listdir(folder)) == sorted([name, "one", "two"])
+    os.remove(os.path.join(folder, name))
+    return is_well
+
+
 def statuses(program, folder):
     """For each run what it is, the status that it has to end with, and that with which it ended."""
     put(os.path.join(folder, "text"), b"no ELF file")
@@ -118,6 +141,9 @@ def main():
         for what, place_it in (("a file", os.link), ("a link", os.symlink)):
             is_well = in_the_way(program, folder, place_it)
             print("%s at the name of the temporary file: %s" % (what, "untouched, status 4" if is_well else "WRONG"))
+            wrong += not is_well
+        for what, is_well in (*untouched(program, folder), ("a name of 255 bytes", long_names(program, folder))):
+            print("%s: %s" % (what, "well" if is_well else "WRONG"))
             wrong += not is_well
         for what, expected, status in statuses(program, folder):
             print("%s: status %d%s" % (what, status, "" if status == expected else ", WRONG"))

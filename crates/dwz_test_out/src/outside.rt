@@ -39,7 +39,24 @@ struct Folder {
     steps: &'static [(&'static str, &'static str, OnDisk)],
 }
 
+/// A name that has no room for the ending of a temporary file.
+const LONG: &str =
+    "/nnnnnnnnnnnnnnnnnnnnnnnnnnnnnnnnnnnnnnnnnnnnnnnnnnnnnnnnnnnnnnnnnnnnnnnnnnnnnnnnnnnnnnnnnnnnnnnnnnnnnnnnnnnnnnnnnnnnnnnnnnnnnnnnnnnnnnnnnnnnnnnnnnnnnnnnnnnnnnnnnnnnnnnnnnnnnnnnnnnnnnnnnnnnnnnnnnnnnnnnnnnnnnnnnnnnnnnnnnnnnnnnnnnnnnnnnnnnnnnnnnnnnnnnnn";
+
 const FOLDERS: &[Folder] = &[
+    Folder {
+        ending: "names",
+        longest: LONG,
+        steps: &[
+            ("written", "/a", Write(b"old")),
+            ("got", "/a", Got(Some(b"old"))),
+            ("by another name", "/./a", Puts(b"lost", false)),
+            ("still there", "/a", Got(Some(b"old"))),
+            ("by its name", "/a", Puts(b"new", true)),
+            ("a long name", LONG, Puts(b"long", true)),
+            ("which is there", LONG, Got(Some(b"long"))),
+        ],
+    },
     Folder {
         ending: "put",
         longest: "/a",

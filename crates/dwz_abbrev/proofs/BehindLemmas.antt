@@ -1,21 +1,25 @@
 -- Where codes differ, the declaration with a code is found behind the first so many exactly where its place isn't one of theirs.
-use Rattle.std.proofs.Common.{◌≡◌, ℕ, zero, suc, ◌-◌, ◌<◌, ◌≤◌, ◌≢◌, List, [], ◌∷◌, drop, Option, Some, None, refl, sym, ap, subst, ◌∙◌, Bool, true, false, eqb, ltb, cond, arith}
-use Rattle.std.specs.Prelude.{All, AllPairs}
+use Rattle.std.proofs.Common.{◌≡◌, ℕ, zero, suc, ◌<◌, ◌≤◌, ◌≢◌, List, [], ◌∷◌, ◌++◌, drop, length, Option, Some, None, refl, sym, ap, subst, ◌∙◌, Bool, true, false, eqb, cond, arith}
+use Rattle.std.specs.Prelude.{All, AllPairs, is_some}
 use Rattle.std.specs.List.{slice_get}
 use Rattle.std.specs.Option.{option_and_then, option_map}
-use Rattle.std.specs.Ordering.{nat_cmp}
-use Rattle.std.specs.BTreeMap.{BTreeMap, get}
-use Rattle.std.proofs.lemmas.Bool.{eq-eqb, eqb-true, ltb-true, ltb-false, ne_eqb}
-use Rattle.std.proofs.lemmas.Option.{get_or_from_slice_get, slice_get-map, slice_get_within}
-use Rattle.dwz_def_reading.specs.Abbrevs.{Declaration, find_decl}
+use Rattle.std.proofs.lemmas.Bool.{eq-eqb, ne_eqb}
+use Rattle.std.proofs.lemmas.List.{get_or-map, length-map, map_push}
+use Rattle.std.proofs.lemmas.List.Elements.{All-cons, All-nil}
+use Rattle.std.proofs.lemmas.List.Quantifiers.{all_pairs_push}
+use Rattle.std.proofs.lemmas.Option.{get_or_from_slice_get, slice_get_within}
+use Rattle.dwz_def_reading.specs.Abbrevs.{Declaration, find_decl, is_some_decl}
 use Rattle.dwz_def_reading.proofs.FitLemmas.{none_found}
-use Rattle.dwz_def_reading.proofs.ListFacts.{got_map}
+use Rattle.dwz_def_reading.proofs.ListFacts.{got_there, same_got, got_map}
 use Rattle.dwz_def_reading.proofs.OrderLemmas.{AllPairs-behind, AllPairs-first}
-use Rattle.dwz_abbrev.specs.declared.decl.Decl.{Decl}
-use Rattle.dwz_abbrev.specs.Places.{IsIndexed, or_else, place_behind, stored_decl, stored_decl_behind}
-use Rattle.dwz_abbrev.specs.Views.{decl_view, views}
+use Rattle.dwz_model.specs.declared.place.Pair.{Pair}
+use Rattle.dwz_abbrev.specs.declared.codes.Codes.{Codes}
+use Rattle.dwz_abbrev.specs.declared.read_decl.ReadDecl.{ReadDecl}
+use Rattle.dwz_abbrev.specs.Places.{Leads, codes_of, place_in, place_of}
+use Rattle.dwz_abbrev.specs.ReadPlaces.{AreLed}
+use Rattle.dwz_abbrev.specs.ReadViews.{read_codes, read_view, read_views}
 use Rattle.dwz_abbrev.specs.Written.{Differ}
-use Rattle.dwz_abbrev.proofs.PlaceLemmas.{none_else}
+use Rattle.dwz_abbrev.proofs.PlaceLemmas.{code_at, none_suc, place_found}
 use Rattle.dwz_abbrev.proofs.StartLemmas.{none_behind}
 
 other_first : (e : Declaration) (table : List Declaration) (i : ℕ) (d : Declaration) → AllPairs Differ (e ∷ table) → slice_get table i ≡ Some d → e.code ≡ d.code → ⊥
@@ -44,54 +48,77 @@ none_past (e ∷ table) (suc skip) zero d all at lt =
     none_behind skip table d.code (none_found table d.code others)
 none_past (e ∷ table) (suc skip) (suc i) d all at lt = none_past table skip i d (AllPairs-behind Differ e table all) at (omega (arith, lt))
 
--- a declaration that is chosen is there, and has the code
-chosen_is : (o : Option Decl) (code : ℕ) (d : Decl) → or_else o code None ≡ Some d → (o ≡ Some d) × (d.code ≡ code)
-chosen_is None code d is = absurd cc
-chosen_is (Some e) code d is = go (eqb e.code code) refl is where
-  go : (test : Bool) → eqb e.code code ≡ test → cond test (Some e) None ≡ Some d → (Some e ≡ Some d) × (d.code ≡ code)
-  go true has same = (same, (let one : e ≡ d = cc in ap (λ (f : Decl). f.code) (sym one)) ∙ eqb-true e.code code has)
-  go false has same = absurd cc
+-- ---- declarations that were read
 
--- a place leads to what is seen of the declaration there
-pub place_view : (rows : List Decl) (place : Option ℕ) (o : Option Decl) → option_and_then (slice_get rows) place ≡ o → option_and_then (slice_get (views rows)) place ≡ option_map decl_view o
-place_view rows None o is = ap (option_map decl_view) is
-place_view rows (Some i) o is = slice_get-map decl_view rows i ∙ ap (option_map decl_view) is
+pub codes_read : (row : List Pair) (decls : List ReadDecl) → codes_of (read_views row decls) ≡ read_codes decls
+codes_read row [] = refl
+codes_read row (d ∷ decls) = ap (λ (w : List ℕ). d.code ∷ w) (codes_read row decls)
 
-module _ (rows : List Decl) (places : BTreeMap ℕ ℕ) (skip code : ℕ) (index : IsIndexed rows places) (different : AllPairs Differ (views rows)) where
-  pub at_place : (i : ℕ) (d : Decl) → slice_get rows i ≡ Some d → d.code ≡ code → skip ≤ i → Some (decl_view d) ≡ find_decl (drop skip (views rows)) code
-  at_place i d at is le =
-      let found = found_at (views rows) skip i (decl_view d) different (got_map decl_view rows i d at) le in
-      sym (subst (λ (n : ℕ). find_decl (drop skip (views rows)) n ≡ Some (decl_view d)) is found)
+differ_read : (row : List Pair) (decls : List ReadDecl) → AllPairs (λ d e. d.code ≢ e.code) decls → AllPairs Differ (read_views row decls)
+differ_read row [] all = λ i j d less lt. absurd (omega (arith, lt))
+differ_read row (x ∷ decls) all = λ i j d less lt.
+    let within : j < length (x ∷ decls) = omega (arith, lt, length-map (x ∷ decls) (read_view row)) in
+    let first = get_or-map (read_view row) (x ∷ decls) i x d (omega (arith, less, within)) in
+    let second = get_or-map (read_view row) (x ∷ decls) j x d within in
+    rw (first, second) (all i j x less within)
 
-  pub at_no_place : (i : ℕ) (d : Decl) → slice_get rows i ≡ Some d → d.code ≡ code → i < skip → None ≡ find_decl (drop skip (views rows)) code
-  at_no_place i d at is lt =
-      let none = none_past (views rows) skip i (decl_view d) different (got_map decl_view rows i d at) lt in
-      sym (subst (λ (n : ℕ). find_decl (drop skip (views rows)) n ≡ None) is none)
+module _ (codes : Codes) (decls : List ReadDecl) (led : AreLed codes decls) (row : List Pair) where
+  abbrev table : List Declaration
+  table = read_views row decls
 
-  nowhere : find_decl (views rows) code ≡ None → None ≡ find_decl (drop skip (views rows)) code
-  nowhere none = sym (none_behind skip (views rows) code none)
+  pub found : (code : ℕ) → option_and_then (slice_get table) (place_in codes code) ≡ find_decl table code
+  found code = place_found codes table code (subst (Leads codes) (sym (codes_read row decls)) led.leads)
 
-  -- where the code doesn't lead to its declaration by itself
-  pub at_stored : or_else (slice_get rows (code - 1)) code None ≡ None → option_map decl_view (stored_decl_behind rows places skip code) ≡ find_decl (drop skip (views rows)) code
-  at_stored not_first = go (get nat_cmp places code) refl where
-    found : (p : Option ℕ) → get nat_cmp places code ≡ p → (o : Option Decl) → or_else (option_and_then (slice_get rows) p) code None ≡ o → find_decl (views rows) code ≡ option_map decl_view o
-    found p is o at =
-        sym (index.found code)
-        ∙ ap (option_map decl_view) (none_else (slice_get rows (code - 1)) None code not_first (stored_decl rows places code))
-        ∙ ap (λ (q : Option ℕ). option_map decl_view (or_else (option_and_then (slice_get rows) q) code None)) is
-        ∙ ap (option_map decl_view) at
+  -- the declaration at the place of a code
+  pub decl_at : (code place : ℕ) → place_in codes code ≡ Some place → (d : Declaration) × (slice_get table place ≡ Some d) × (d.code ≡ code)
+  decl_at code place is =
+      let at : slice_get (codes_of table) place ≡ Some code = code_at (codes_of table) code place (ap (λ (w : List ℕ). place_of w code) (codes_read row decls) ∙ sym (led.leads.found code) ∙ is) in
+      let there = got_there table place (omega (arith, slice_get_within (codes_of table) place code at, length-map table (λ (d : Declaration). d.code))) in
+      (there.0, there.1, same_got (codes_of table) place there.0.code code (got_map (λ (d : Declaration). d.code) table place there.0 there.1) at)
 
-    at_one : (i : ℕ) → get nat_cmp places code ≡ Some i → (past : Bool) → ltb i skip ≡ past → (o : Option Decl) → or_else (slice_get rows i) code None ≡ o
-        → option_map decl_view (or_else (option_and_then (slice_get rows) (cond past None (Some i))) code None) ≡ find_decl (drop skip (views rows)) code
-    at_one i is true lt None at = nowhere (found (Some i) is None at)
-    at_one i is true lt (Some d) at = let d_is = chosen_is (slice_get rows i) code d at in at_no_place i d d_is.0 d_is.1 (ltb-true i skip lt)
-    at_one i is false le None at = ap (option_map decl_view) at ∙ nowhere (found (Some i) is None at)
-    at_one i is false le (Some d) at = let d_is = chosen_is (slice_get rows i) code d at in ap (option_map decl_view) at ∙ at_place i d d_is.0 d_is.1 (ltb-false i skip le)
+  pub behind_none : (code skip : ℕ) → place_in codes code ≡ None → find_decl (drop skip table) code ≡ None
+  behind_none code skip none = none_behind skip table code (sym (found code) ∙ ap (option_and_then (slice_get table)) none)
 
-    go : (p : Option ℕ) → get nat_cmp places code ≡ p → option_map decl_view (stored_decl_behind rows places skip code) ≡ find_decl (drop skip (views rows)) code
-    go None is =
-        ap (λ (q : Option ℕ). option_map decl_view (or_else (option_and_then (slice_get rows) (option_and_then (place_behind skip) q)) code None)) is
-        ∙ nowhere (found None is None refl)
-    go (Some i) is =
-        ap (λ (q : Option ℕ). option_map decl_view (or_else (option_and_then (slice_get rows) (option_and_then (place_behind skip) q)) code None)) is
-        ∙ at_one i is (ltb i skip) refl (or_else (slice_get rows i) code None) refl
+  pub behind_past : (code skip place : ℕ) → place_in codes code ≡ Some place → place < skip → find_decl (drop skip table) code ≡ None
+  behind_past code skip place is lt =
+      let d = decl_at code place is in
+      subst (λ (n : ℕ). find_decl (drop skip table) n ≡ None) d.2 (none_past table skip place d.0 (differ_read row decls led.different) d.1 lt)
+
+  pub behind_some : (code skip place : ℕ) → place_in codes code ≡ Some place → skip ≤ place → slice_get table place ≡ find_decl (drop skip table) code
+  behind_some code skip place is le =
+      let d = decl_at code place is in
+      d.1 ∙ sym (subst (λ (n : ℕ). find_decl (drop skip table) n ≡ Some d.0) d.2 (found_at table skip place d.0 (differ_read row decls led.different) d.1 le))
+
+  pub place_within : (code place : ℕ) → place_in codes code ≡ Some place → place < length decls
+  place_within code place is =
+      let d = decl_at code place is in
+      omega (arith, slice_get_within table place d.0 d.1, length-map decls (read_view row))
+
+  pub has_found : (code : ℕ) (o : Option ℕ) → place_in codes code ≡ o → is_some o ≡ is_some_decl (find_decl table code)
+  has_found code None is = sym (ap is_some_decl (sym (found code) ∙ ap (option_and_then (slice_get table)) is))
+  has_found code (Some place) is = sym (ap is_some_decl (sym (found code) ∙ ap (option_and_then (slice_get table)) is ∙ (decl_at code place is).1))
+
+-- ---- a declaration that is pushed
+
+none_is : (decls : List ReadDecl) (code : ℕ) → place_of (read_codes decls) code ≡ None → All (λ d. d.code ≢ code) decls
+none_is [] code none = All-nil (λ d. d.code ≢ code)
+none_is (d ∷ decls) code none = go (none_is decls code) (eqb d.code code) refl none where
+  go : (place_of (read_codes decls) code ≡ None → All (λ e. e.code ≢ code) decls) → (test : Bool) → eqb d.code code ≡ test
+      → cond test (Some 0) (option_map (λ n. suc n) (place_of (read_codes decls) code)) ≡ None → All (λ e. e.code ≢ code) (d ∷ decls)
+  go below true has is = absurd cc
+  go below false has is =
+      All-cons (λ e. e.code ≢ code) d decls (λ same. let never : true ≡ false = sym (eq-eqb d.code code same) ∙ has in absurd cc)
+      (below (none_suc (place_of (read_codes decls) code) is))
+
+pub led_more : (old codes : Codes) (decls new : List ReadDecl) (d : ReadDecl) → AreLed old decls → new ≡ decls ++ d ∷ [] → place_of (read_codes decls) d.code ≡ None
+    → Leads codes (read_codes decls ++ d.code ∷ []) → AreLed codes new
+led_more old codes decls new d led is is_new leads = record {
+  leads = subst (Leads codes) (sym (ap read_codes is ∙ map_push (λ (e : ReadDecl). e.code) decls d)) leads;
+  different = subst (AllPairs (λ e f. e.code ≢ f.code)) (sym is) (all_pairs_push (λ e f. e.code ≢ f.code) decls d led.different (none_is decls d.code is_new));
+}
+
+pub led_same : (old codes : Codes) (decls new : List ReadDecl) → AreLed old decls → new ≡ decls → Leads codes (read_codes decls) → AreLed codes new
+led_same old codes decls new led is leads = subst (AreLed codes) (sym is) (record { leads = leads; different = led.different })
+
+pub read_length : (decls : List ReadDecl) → length (read_codes decls) ≡ length decls
+read_length decls = length-map decls (λ (d : ReadDecl). d.code)

@@ -2,5 +2,6 @@ pub mod AppendLemmas
 pub mod BehindLemmas
 pub mod FollowLemmas
 pub mod PlaceLemmas
+pub mod ReadLemmas
 pub mod StartLemmas
 pub mod WriteLemmas

@@ -1,19 +1,20 @@
 //! Tables that are read.
 
-ghost use Rattle.std.specs.Prelude.{◌≡◌, [], IfErr, IfOk, IfSome, true};
+ghost use Rattle.std.specs.Prelude.{◌≡◌, [], All, IfErr, IfOk, IfSome, OnErr, drop, length, true};
 ghost use Rattle.std.specs.Option.{option_map};
 ghost use Rattle.dwz_def_reading.specs.Abbrevs.{FitsTable, constant_at, declaration_at, pair_at, pairs_at, table_at};
 ghost use Rattle.dwz_def_reading.specs.Faults.{Answers, AnswersAt, Fails, bad_abbrev};
 ghost use Rattle.dwz_model.specs.declared.fault.ReadErr.TheVariants.{Refused};
 ghost use Rattle.dwz_abbrev.specs.Starts.{IsReadUpTo, IsStop};
-ghost use Rattle.dwz_abbrev.specs.Views.{decl_view};
+ghost use Rattle.dwz_abbrev.specs.ReadViews.{IsInRow, read_view, read_views};
+ghost use Rattle.dwz_abbrev.specs.Written.{Begins};
 
-use crate::decl::Decl;
-use crate::rows::Rows;
-use crate::table::{ReadTable, Table};
+use crate::read_decl::ReadDecl;
+use crate::read_rows::ReadRows;
+use crate::table::Table;
 use dwz_bytes::Cursor;
 use dwz_codes::DW_FORM_IMPLICIT_CONST;
-use dwz_model::{DEBUG_ABBREV, Fault, Pair, Pairs, ReadErr, Reason};
+use dwz_model::{DEBUG_ABBREV, Fault, Pair, ReadErr, Reason};
 use std::alloc::Global;
 
 // The declaration at a place is bad.
@@ -63,21 +64,27 @@ fn pair(start: usize, cursor: &mut Cursor) -> Result<Option<Pair>, ReadErr>
     }))
 }
 
-// The pairs up to their end, of the declaration at `start`.
-fn pairs(alloc: Global, start: usize, cursor: &mut Cursor) -> Result<Pairs, ReadErr>
-    ensures { AnswersAt (λ x. x) cursor.new result (pairs_at start [] cursor.old) }
+// Appends the pairs up to their end, of the declaration at `start`, to a row.
+fn pairs(start: usize, cursor: &mut Cursor, row: &mut Vec<Pair>) -> Result<(), ReadErr>
+    ensures pairs { AnswersAt (λ _. drop (length row.old.items) row.new.items) cursor.new result (pairs_at start [] cursor.old) }
+    ensures begins { Begins row.old.items row.new.items }
 {
-    let mut pairs = Vec::new(alloc);
     while let Some(pair) = pair(start, cursor)? {
-        pairs.push(pair)?;
+        row.push(pair)?;
     }
-    Ok(Pairs::new(pairs))
+    Ok(())
 }
 
-// A declaration behind the earlier ones, or the end of the table.
+// A declaration behind the earlier ones, or the end of the table. Its pairs are appended to the row.
 #[tactic(auto, unfolding(dwz_def_reading::specs::Abbrevs::declaration_at))]
-fn declaration(alloc: Global, earlier: &Rows, cursor: &mut Cursor) -> Result<Option<Decl>, ReadErr>
-    ensures { AnswersAt (option_map decl_view) cursor.new result (declaration_at earlier.now cursor.old) }
+fn declaration(
+    earlier: &ReadRows,
+    cursor: &mut Cursor,
+    row: &mut Vec<Pair>,
+) -> Result<Option<ReadDecl>, ReadErr>
+    ensures decl { AnswersAt (option_map (read_view row.new.items)) cursor.new result (declaration_at (read_views row.old.items earlier.now) cursor.old) }
+    ensures within { IfOk result (λ o. IfSome o (IsInRow row.new.items)) }
+    ensures begins { Begins row.old.items row.new.items }
 {
     let start = cursor.at();
     let fault = |_| bad(start);
@@ -87,24 +94,27 @@ fn declaration(alloc: Global, earlier: &Rows, cursor: &mut Cursor) -> Result<Opt
     }
     let tag = cursor.uleb().map_err(fault)?;
     let children = cursor.u8().map_err(fault)?;
-    if tag == 0 || tag > 0xffff || children > 1 || earlier.decl(code).is_some() {
+    if tag == 0 || tag > 0xffff || children > 1 || earlier.has(code) {
         return Err(bad(start));
     }
-    let pairs = pairs(alloc, start, cursor)?;
-    Ok(Some(Decl {
+    let first = row.len();
+    pairs(start, cursor, row)?;
+    Ok(Some(ReadDecl {
         code,
+        first,
+        count: row.len() - first,
         tag: tag as u16,
         children: children == 1,
-        pairs,
     }))
 }
 
-// Declarations that were read, where each begins, and where others follow that weren't.
+/// Declarations of a table that were read, and where each begins, in bytes from the section's first.
 #[derive(Drop)]
-struct ReadRows {
-    rows: Rows,
-    starts: Vec<usize>,
-    stop: Option<usize>,
+pub struct ReadTable {
+    pub rows: ReadRows,
+    pub starts: Vec<usize>,
+    /// Where the table goes on, if it wasn't read to its end.
+    pub stop: Option<usize>,
 }
 
 // Whether a place is in one of the lists, which ascend.
@@ -119,23 +129,31 @@ fn is_stop(stops: &[&[usize]], place: usize) -> bool
     false
 }
 
-// The declarations of the table at a place, up to one of the stops or to the end.
-fn rows(alloc: Global, section: &[u8], at: usize, stops: &[&[usize]]) -> Result<ReadRows, ReadErr>
-    ensures read { IfOk result (λ r. IsReadUpTo section.now at r.rows r.starts.items r.stop) }
-    ensures fits { IfOk result (λ r. FitsTable r.rows) }
+// The declarations of the table at a place, up to one of the stops or to the end. Their pairs are appended to the row.
+fn rows(
+    alloc: Global,
+    section: &[u8],
+    at: usize,
+    stops: &[&[usize]],
+    row: &mut Vec<Pair>,
+) -> Result<ReadTable, ReadErr>
+    ensures read { IfOk result (λ r. IsReadUpTo section.now at (read_views row.new.items r.rows) r.starts.items r.stop) }
+    ensures fits { IfOk result (λ r. FitsTable (read_views row.new.items r.rows)) }
+    ensures within { IfOk result (λ r. All (IsInRow row.new.items) r.rows) }
     ensures stop { IfOk result (λ r. IfSome r.stop (IsStop stops.now)) }
+    ensures begins { Begins row.old.items row.new.items }
     ensures fault { IfErr result (λ e. Fails e (table_at section.now at)) }
 {
     if at > section.len() {
         return Err(bad(at));
     }
-    let mut rows = Rows::new(alloc);
+    let mut rows = ReadRows::new(alloc);
     let mut starts = Vec::new(alloc);
     let mut cursor = Cursor::new(section, at);
     let mut start = at;
     while !is_stop(stops, start) {
-        let Some(decl) = declaration(alloc, &rows, &mut cursor)? else {
-            return Ok(ReadRows {
+        let Some(decl) = declaration(&rows, &mut cursor, row)? else {
+            return Ok(ReadTable {
                 rows,
                 starts,
                 stop: None,
@@ -145,41 +163,50 @@ fn rows(alloc: Global, section: &[u8], at: usize, stops: &[&[usize]]) -> Result<
         starts.push(start)?;
         start = cursor.at();
     }
-    Ok(ReadRows {
+    Ok(ReadTable {
         rows,
         starts,
         stop: Some(start),
     })
 }
 
-impl Table {
+impl ReadTable {
     /// Reads the table at an offset of `.debug_abbrev`, in bytes from the section's first (DWARF 5, 7.5.3), up to a declaration that
-    /// begins at one of the `stops`, ascending lists of places, or else to its end. Says where each declaration begins: the table
-    /// there is the end of this one. Refused as `BadAbbrev` at the first declaration that isn't spelled, or whose code one before
-    /// it has, or at the offset where that is past the end of the section.
+    /// begins at one of the `stops`, ascending lists of places, or else to its end, and appends its names and forms to the row. Says where
+    /// each declaration begins: the table there is the end of this one. Refused as `BadAbbrev` at the first declaration that isn't spelled,
+    /// or whose code one before it has, or at the offset where that is past the end of the section. After an error the row is as before.
     pub fn read_up_to(
         alloc: Global,
         section: &[u8],
         at: u32,
         stops: &[&[usize]],
+        row: &mut Vec<Pair>,
     ) -> Result<ReadTable, ReadErr>
-        ensures read { IfOk result (λ r. IsReadUpTo section.now at r.table r.starts.items r.stop) }
+        ensures read { IfOk result (λ r. IsReadUpTo section.now at (read_views row.new.items r.rows) r.starts.items r.stop) }
+        ensures within { IfOk result (λ r. All (IsInRow row.new.items) r.rows) }
         ensures stop { IfOk result (λ r. IfSome r.stop (IsStop stops.now)) }
+        ensures begins { Begins row.old.items row.new.items }
         ensures fault { IfErr result (λ e. Fails e (table_at section.now at)) }
+        ensures err { OnErr result (row.new.items ≡ row.old.items) }
     {
-        let ReadRows { rows, starts, stop } = rows(alloc, section, at as usize, stops)?;
-        Ok(ReadTable {
-            table: Table { rows },
-            starts,
-            stop,
-        })
+        let len = row.len();
+        let read = rows(alloc, section, at as usize, stops, row);
+        if read.is_err() {
+            row.truncate(len);
+        }
+        read
     }
+}
 
-    /// Reads the whole table at an offset. Refused exactly where no table is spelled there, at the same places.
+impl Table {
+    /// Reads the whole table at an offset of `.debug_abbrev`, in bytes from the section's first (DWARF 5, 7.5.3). Refused as `BadAbbrev` at
+    /// the first declaration that isn't spelled, or whose code one before it has, or at the offset where that is past the end of the section.
     pub fn read(alloc: Global, section: &[u8], at: u32) -> Result<Table, ReadErr>
         ensures { Answers (λ t. t) result (table_at section.now at) }
     {
-        let ReadRows { rows, .. } = rows(alloc, section, at as usize, &[])?;
+        let mut row = Vec::new(alloc);
+        let ReadTable { rows, .. } = rows(alloc, section, at as usize, &[], &mut row)?;
+        let rows = rows.apart(alloc, row.as_slice())?;
         Ok(Table { rows })
     }
 }

@@ -1,7 +1,7 @@
 //! Tables that are looked up and made.
 
-ghost use Rattle.std.specs.Prelude.{◌≡◌, ◌==◌, ◌<◌, ◌^◌, ◌+◌, ◌++◌, ◌∷◌, [], All, IfOk, IfSome, OnErr, OnOk, drop, length, slice_get};
-ghost use Rattle.std.specs.Option.{option_and_then, option_copied, option_map};
+ghost use Rattle.std.specs.Prelude.{◌≡◌, ◌==◌, ◌<◌, ◌^◌, ◌+◌, ◌++◌, ◌∷◌, [], All, IfOk, OnErr, OnOk, length};
+ghost use Rattle.std.specs.Option.{option_copied, option_map};
 ghost use Rattle.dwz_def_reading.specs.Abbrevs.{IsCounted, IsPlainPair, find_decl, with_code};
 ghost use Rattle.dwz_abbrev.specs.Ranges.{IsInRange};
 ghost use Rattle.dwz_abbrev.specs.Views.{decl_view, views};
@@ -16,15 +16,6 @@ use std::marker::Model;
 #[derive(Drop)]
 pub struct Table {
     pub(crate) rows: Rows,
-}
-
-/// Declarations of a table that were read, and where each begins, in bytes from the section's first.
-#[derive(Drop)]
-pub struct ReadTable {
-    pub table: Table,
-    pub starts: Vec<usize>,
-    /// Where the table goes on, if it wasn't read to its end.
-    pub stop: Option<usize>,
 }
 
 impl Model for Table {
@@ -91,30 +82,12 @@ impl Table {
         self.rows.decl(code)
     }
 
-    /// The place of the declaration with a code, of those behind the first so many, among all of the table, counted from 0. None exactly
-    /// where they have none.
-    #[inline(always)]
-    pub fn place_behind(&self, skip: usize, code: u64) -> Option<usize>
-        ensures decl { option_and_then (slice_get self.now) result ≡ find_decl (drop skip self.now) code }
-        ensures within { IfSome result (λ place. place < length self.now) }
-    {
-        self.rows.place_behind(skip, code)
-    }
-
     /// The declarations, in the order in which they stand.
     #[inline(always)]
     pub fn decls(&self) -> &[Decl]
         ensures { views result.now ≡ self.now }
     {
         self.rows.as_slice()
-    }
-
-    /// The same, without the table.
-    pub fn into_decls(self) -> Vec<Decl>
-        ensures { views result.items ≡ self }
-    {
-        let Table { rows } = self;
-        rows.into_decls()
     }
 
     /// Appends a declaration of this tag, with or without children, and these pairs, under the next code, counted from 1. After

@@ -1,4 +1,5 @@
 pub mod GroupLemmas
+pub mod FewGroups
 pub mod LebLemmas
 pub mod PaddedLemmas
 pub mod SignedLemmas

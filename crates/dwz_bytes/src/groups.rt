@@ -1,7 +1,7 @@
 //! LEB128 numbers at the front of bytes.
 
-ghost use Rattle.std.specs.Prelude.{◌≡◌, ◌≤◌};
-ghost use Rattle.dwz_bytes.specs.Groups.{Finds, FindsGroups};
+ghost use Rattle.std.specs.Prelude.{◌≡◌, ◌≤◌, ℕ, IfSome};
+ghost use Rattle.dwz_bytes.specs.Groups.{AreFirst, Finds, FindsGroups};
 ghost use Rattle.dwz_bytes.specs.Reading.{groups_at, sleb_at, uleb_at};
 
 use crate::error::ByteErr;
@@ -15,10 +15,42 @@ struct Groups {
     last: u8,
 }
 
+// The groups at the front of bytes, where they are one or two, and two bytes are there: so it is with most numbers.
+#[inline(always)]
+fn few_groups(bytes: &[u8]) -> Option<Groups>
+    ensures { (start : ℕ) → IfSome result (λ g. AreFirst bytes.now g (groups_at start 10 bytes.now)) }
+{
+    if bytes.len() < 2 {
+        return None;
+    }
+    let first = bytes[0];
+    let second = bytes[1];
+    if first < 128 {
+        return Some(Groups {
+            value: first as u128,
+            scale: 128,
+            len: 1,
+            last: first,
+        });
+    }
+    if second < 128 {
+        return Some(Groups {
+            value: (first % 128) as u128 + 128 * second as u128,
+            scale: 16384,
+            len: 2,
+            last: second,
+        });
+    }
+    None
+}
+
 // The groups at the front of bytes that begin at `start`.
 fn groups_of(start: usize, bytes: &[u8]) -> Result<Groups, ByteErr>
     ensures { FindsGroups bytes.now result (groups_at start 10 bytes.now) }
 {
+    if let Some(groups) = few_groups(bytes) {
+        return Ok(groups);
+    }
     let mut value: u128 = 0;
     let mut scale: u128 = 1;
     for i in 0..10 {

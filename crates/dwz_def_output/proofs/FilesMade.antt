@@ -30,7 +30,8 @@ use Rattle.dwz_def_output.specs.Refusals.{FileFault, FirstNarrow, IsLargeFile, I
 use Rattle.dwz_def_reading.specs.FirstOf.{OfFirst, OrElse}
 use Rattle.dwz_def_output.specs.Contents.{listed}
 use Rattle.dwz_def_output.proofs.FreeLemmas.{Nothing, is_short, not_first, not_then}
-use Rattle.dwz_def_output.proofs.GivenSections.{can_give, can_give_other, none_if_none, other_is, reads_sound, some_bytes}
+use Rattle.dwz_def_reading.proofs.SoundFiles.{reads_sound}
+use Rattle.dwz_def_output.proofs.GivenSections.{can_give, can_give_other, none_if_none, other_is, some_bytes}
 use Rattle.dwz_def_output.proofs.Orders.{is_order}
 use Rattle.dwz_def_output.proofs.SlotsMade.{no_offsets, no_strs, offsets_made}
 use Rattle.dwz_def_output.proofs.SectionsMade.{lists_len, lists_made, ranges_len, ranges_made}

@@ -1,39 +1,19 @@
 -- New sections can be given to a file that reads: those with bytes are there, and one that isn't has no other bytes.
-use Rattle.std.proofs.Common.{◌≡◌, ℕ, ◌<◌, Bool, true, false, cond, List, [], ◌∷◌, ◌++◌, length, take, drop, Option, Some, None, unwrap_or, Ok, refl, sym, ap, ◌∙◌, arith}
+use Rattle.std.proofs.Common.{◌≡◌, ℕ, ◌<◌, Bool, true, false, cond, List, [], ◌∷◌, ◌++◌, length, take, drop, Option, Some, None, unwrap_or, refl, sym, ap, ◌∙◌, arith}
 use Rattle.std.proofs.lemmas.List.{length-append, length-take}
-use Rattle.dwz_model.specs.declared.fault.Fault.{Fault}
-use Rattle.dwz_model.specs.declared.fault.Reason.TheVariants.{FileSize}
 use Rattle.dwz_def_reading.proofs.PaddedLemmas.{some_groups}
 use Rattle.dwz_def_reading.specs.Abbrevs.{Declaration, EndsTable, IsDeclared}
-use Rattle.dwz_def_reading.specs.ElfFaults.{file_fault}
 use Rattle.dwz_def_reading.specs.ElfNames.{sections_in}
-use Rattle.dwz_def_reading.specs.ElfReading.{bytes_in, elf_fault, section_range}
-use Rattle.dwz_def_reading.specs.Entries.{Mode, unless_so}
+use Rattle.dwz_def_reading.specs.ElfReading.{bytes_in, section_range}
+use Rattle.dwz_def_reading.specs.Entries.{Mode}
 use Rattle.dwz_def_reading.specs.Items.{SpellsItems}
 use Rattle.dwz_def_reading.specs.Units.{RawUnit, SpellsUnits}
-use Rattle.dwz_def_reading.proofs.PartLemmas.{bind_ok}
 use Rattle.dwz_def_reading.proofs.UnitListLemmas.{some_unit}
-use Rattle.dwz_def_reading.specs.Documents.{Doc}
-use Rattle.dwz_def_reading.specs.Files.{Limits, Reads, ends_at, file_meaning_by, is_too_long, section_of}
-use Rattle.dwz_def_reading.proofs.FileLemmas.{file_agrees}
+use Rattle.dwz_def_reading.specs.Files.{section_of}
 use Rattle.dwz_def_tops.specs.Spots.{same_numbers}
 use Rattle.dwz_def_tops.proofs.SpotLemmas.{numbers_same, numbers_true}
 use Rattle.dwz_def_output.specs.Changed.{CanGive}
 use Rattle.dwz_def_output.specs.Contents.{if_other}
-
--- ---- a file that reads has no fault
-
-no_fault_at : (o : Option Fault) (u : Unit {0}) → ends_at o ≡ Ok u → o ≡ None
-no_fault_at None u e = refl
-no_fault_at (Some f) u e = absurd cc
-
-pub reads_sound : (l : Limits) (input : List ℕ) (raw : List RawUnit) (doc : Doc ℕ) → Reads l input raw doc → elf_fault input ≡ None
-unfolding file_meaning_by
-reads_sound l input raw doc reads =
-    let e = ((file_agrees l input).ok (raw, doc)).1 reads in
-    let a = bind_ok (unless_so (is_too_long l input) (file_fault FileSize 0)) _ (raw, doc) e in
-    let b = bind_ok (ends_at (elf_fault input)) _ (raw, doc) a.2 in
-    no_fault_at (elf_fault input) b.0 b.1
 
 -- ---- where there are units, both sections have bytes
 

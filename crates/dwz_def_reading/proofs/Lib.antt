@@ -30,6 +30,7 @@ pub mod UnitTreeLemmas
 pub mod HeaderLemmas
 pub mod UnitLemmas
 pub mod UnitListLemmas
+pub mod RoomLemmas
 pub mod UnitReads
 mod UnitRows
 pub mod FitLemmas
@@ -64,6 +65,7 @@ pub mod NamedLemmas
 pub mod WidthLemmas
 mod ElfFirst
 pub mod FileLemmas
+pub mod SoundFiles
 pub mod FinishedLemmas
 pub mod CutLemmas
 pub mod StandLemmas

@@ -21,7 +21,7 @@ unfolding firsts
 firsts_append [] ys = refl
 firsts_append (x ∷ xs) ys = ap (λ (w : List ℕ). x.0 ∷ w) (firsts_append xs ys)
 
-in_firsts : (x : ℕ × EntryName) (xs : List (ℕ × EntryName)) → In x xs → In x.0 (firsts xs)
+pub in_firsts : (x : ℕ × EntryName) (xs : List (ℕ × EntryName)) → In x xs → In x.0 (firsts xs)
 unfolding firsts
 in_firsts x [] h = absurd h
 in_firsts x (y ∷ xs) (inl e) = inl (ap (λ (w : ℕ × EntryName). w.0) e)

@@ -8,7 +8,7 @@ ghost use Rattle.dwz_unit.specs.Rows.{rows_of, units_of};
 ghost use Rattle.dwz_encode_texts.specs.Texts;
 
 use dwz_codes::{Class, DW_AT_SIBLING, class_of};
-use dwz_model::{NoMemory, Pair, Pairs};
+use dwz_model::{NoMemory, Pair};
 use dwz_unit::{Declarations, Units};
 use std::alloc::Global;
 use std::marker::Model;
@@ -41,13 +41,14 @@ fn texts_end(pairs: &[Pair]) -> usize
 }
 
 // The same of each of these declarations.
-fn ends_of(alloc: Global, declarations: &[Pairs]) -> Result<Vec<usize>, NoMemory>
-    ensures { IfOk result (λ v. v.items ≡ map Texts.texts_end declarations.now) }
+fn ends_of(alloc: Global, declarations: &Declarations) -> Result<Vec<usize>, NoMemory>
+    ensures { IfOk result (λ v. v.items ≡ map Texts.texts_end declarations.now.pairs) }
 {
-    declarations
-        .iter()
-        .map(|pairs| texts_end(pairs.as_slice()))
-        .collect(alloc)
+    let mut ends = Vec::with_capacity(alloc, declarations.len())?;
+    for number in 0..declarations.len() {
+        ends.push(texts_end(declarations.pairs(number)))?;
+    }
+    Ok(ends)
 }
 
 /// Of the entries of a file, by their declarations (DWARF 5, 7.5.3), how many values stand up to the last text.
@@ -75,7 +76,7 @@ impl<'u> TextEnds<'u> {
         ensures { IfOk result (λ e. AreOf (rows_of (units_of units.now)) e) }
     {
         let declarations = units.declarations();
-        let ends = ends_of(alloc, declarations.pairs())?;
+        let ends = ends_of(alloc, &declarations)?;
         Ok(TextEnds { declarations, ends })
     }
 

@@ -2,3 +2,4 @@ pub mod FormSets
 pub mod RawValues
 pub mod Numbers
 pub mod Sizes
+pub mod FixedSizes

@@ -132,11 +132,10 @@ module _ (rule : ReadingRule ℕ) where
     by (Ok units) = middle units (sets_said bytes raw)
     by (Err f) = refl
 
-  pub named_fail : (e : ReadErr) (l : Limits) (bytes info abbrevs : List ℕ) (around : Around ℕ) (aranges : List ℕ) (raw : List RawUnit) → IsGood rule l bytes → info ≡ debug_info bytes
-      → abbrevs ≡ debug_abbrev bytes → around ≡ rule.around bytes raw → aranges ≡ debug_aranges bytes
-      → units_at abbrevs (rule.mode l.entries) 0 (input info 0) ≡ Ok raw → Fails e (map_ok units_refs (said around raw aranges)) → Fails e (file_meaning_by rule l bytes)
-  named_fail e l bytes info abbrevs around aranges raw g i a s r is bad =
-      subst (λ (q : Result (List RawUnit × Doc ℕ) Fault). Fails e q) (sym (units_read rule l bytes info abbrevs raw g i a is ∙ said_same bytes raw))
+  pub named_fail : (e : ReadErr) (l : Limits) (bytes : List ℕ) (around : Around ℕ) (aranges : List ℕ) (raw : List RawUnit) → file_meaning_by rule l bytes ≡ units_said rule bytes raw
+      → around ≡ rule.around bytes raw → aranges ≡ debug_aranges bytes → Fails e (map_ok units_refs (said around raw aranges)) → Fails e (file_meaning_by rule l bytes)
+  named_fail e l bytes around aranges raw is s r bad =
+      subst (λ (q : Result (List RawUnit × Doc ℕ) Fault). Fails e q) (sym (is ∙ said_same bytes raw))
       (map_fails e bytes raw (said_of bytes raw)
       (subst (λ (x : List ℕ). Fails e (map_ok units_refs (said (rule.around bytes raw) raw x))) r
       (subst (λ (x : Around ℕ). Fails e (map_ok units_refs (said x raw aranges))) s bad)))
@@ -147,12 +146,11 @@ module _ (rule : ReadingRule ℕ) where
     pub means : file_meaning_by rule l bytes ≡ Ok (raw, doc)
     pub refs : units_refs doc.units ≡ named
 
-  pub has_doc : (l : Limits) (bytes info abbrevs : List ℕ) (around : Around ℕ) (aranges : List ℕ) (raw : List RawUnit) (named : List ℕ) → IsGood rule l bytes → info ≡ debug_info bytes
-      → abbrevs ≡ debug_abbrev bytes → around ≡ rule.around bytes raw → aranges ≡ debug_aranges bytes
-      → units_at abbrevs (rule.mode l.entries) 0 (input info 0) ≡ Ok raw → map_ok units_refs (said around raw aranges) ≡ Ok named → HasDoc l bytes raw named
-  has_doc l bytes info abbrevs around aranges raw named g i a s r is good =
+  pub has_doc : (l : Limits) (bytes : List ℕ) (around : Around ℕ) (aranges : List ℕ) (raw : List RawUnit) (named : List ℕ) → file_meaning_by rule l bytes ≡ units_said rule bytes raw
+      → around ≡ rule.around bytes raw → aranges ≡ debug_aranges bytes → map_ok units_refs (said around raw aranges) ≡ Ok named → HasDoc l bytes raw named
+  has_doc l bytes around aranges raw named is s r good =
       let d = doc_there bytes raw named (said_of bytes raw) ((λ k. map_ok units_refs (said (sym s k) raw (sym r k))) ∙ good) in
-      record { doc = d.0; means = units_read rule l bytes info abbrevs raw g i a is ∙ said_same bytes raw ∙ d.1; refs = d.2 }
+      record { doc = d.0; means = is ∙ said_same bytes raw ∙ d.1; refs = d.2 }
 
 pub same_rows : (bytes : List ℕ) (sources : Sources) (raw : List RawUnit) (rows : List ListOperand) → sources ≡ sources_of bytes → AreRows (lists_of_units (alone sources raw) raw) rows
     → AreRows (lists_of_units (around_of bytes raw) raw) rows

@@ -71,3 +71,7 @@ pub mod ChainLemmas
 pub mod RowUnits
 pub mod IndexRoom
 pub mod IndexSteps
+pub mod StopSteps
+pub mod JoinLemmas
+pub mod StretchLemmas
+mod OpenedLemmas

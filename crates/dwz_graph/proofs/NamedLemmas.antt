@@ -1,7 +1,7 @@
 -- Entry by entry the same is named as in the units that are meant.
 use Rattle.std.proofs.Common.{◌≡◌, ℕ, Bool, true, false, List, [], ◌∷◌, ◌++◌, Result, Ok, Err, refl, sym, ap, ◌∙◌}
 use Rattle.std.specs.Prelude.{◌==◌, if◌then◌else◌}
-use Rattle.std.proofs.lemmas.List.{append_assoc}
+use Rattle.std.proofs.lemmas.List.{append-nil, append_assoc}
 use Rattle.dwz_model.specs.declared.fault.Fault.{Fault}
 use Rattle.dwz_def_reading.specs.Reading.{◌>>=◌}
 use Rattle.dwz_def_reading.specs.Documents.{Attr, DwUnit, Entries, Kind, Node, Value}
@@ -26,6 +26,10 @@ joined_assoc (Ok a) (Ok b) (Ok c) = (λ i. Ok (found (append_assoc a.refs b.refs
 pub none_joined : (r : Result Found Fault) → joined (Ok nothing_found) r ≡ r
 none_joined (Ok a) = refl
 none_joined (Err e) = refl
+
+pub joined_none : (r : Result Found Fault) → joined r (Ok nothing_found) ≡ r
+joined_none (Err e) = refl
+joined_none (Ok a) = (λ i. Ok (found (append-nil a.refs i) (append-nil a.lists i)))
 
 pub collect_append : {X : Type 0} (f : X → Result Found Fault) (xs ys : List X) → collect f (xs ++ ys) ≡ joined (collect f xs) (collect f ys)
 unfolding collect

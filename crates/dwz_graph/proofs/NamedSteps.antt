@@ -18,7 +18,7 @@ use Rattle.dwz_graph.specs.Named.{Found, collect, found, found_in, joined, map_o
 use Rattle.dwz_graph.specs.Resolved.{Adds, Goes, NamesEntry, place_at}
 use Rattle.dwz_graph.specs.Surroundings.{entries_among, place_among}
 use Rattle.dwz_def_reading.specs.Lists.{Each}
-use Rattle.dwz_graph.proofs.NamedLemmas.{collect_append, none_joined}
+use Rattle.dwz_graph.proofs.NamedLemmas.{collect_append, joined_none, none_joined}
 use Rattle.dwz_graph.proofs.RowLemmas.{take_here}
 use Rattle.dwz_graph.proofs.SurroundingLemmas.{common_place, own_place, own_within}
 
@@ -108,13 +108,9 @@ module _ (common : Option (Common ℕ)) (raw : List RawUnit) where
   unfolding collect
   adds_none K f xs before old new same k = added_none K before old new same k
 
-  joined_last : (r : Result Found Fault) → joined r (Ok nothing_found) ≡ r
-  joined_last (Err e) = refl
-  joined_last (Ok a) = (λ i. Ok (found (append-nil a.refs i) (append-nil a.lists i)))
-
   collect_one : {X : Type 0} (f : X → Result Found Fault) (x : X) → collect f (x ∷ []) ≡ f x
   unfolding collect
-  collect_one f x = joined_last (f x)
+  collect_one f x = joined_none (f x)
 
   pub collect_more : {X : Type 0} (f : X → Result Found Fault) (xs : List X) (k : ℕ) (x : X) → slice_get xs k ≡ Some x → collect f (take (k + 1) xs) ≡ joined (collect f (take k xs)) (f x)
   collect_more f xs k x e = ap (collect f) (take_here xs k x e) ∙ collect_append f (take k xs) (x ∷ []) ∙ ap (joined (collect f (take k xs))) (collect_one f x)

@@ -1,9 +1,9 @@
 -- The references of one more entry stand behind those of the entries before it.
-use Rattle.std.proofs.Common.{◌≡◌, ℕ, zero, suc, ◌+◌, ◌-◌, ◌<◌, ◌≤◌, List, [], ◌∷◌, ◌++◌, length, map, take, get_or, Option, Some, Result, Ok, Err, slice_get, refl, sym, ap, subst, ◌∙◌, inl, inr}
+use Rattle.std.proofs.Common.{◌≡◌, ℕ, zero, suc, ◌+◌, ◌-◌, ◌<◌, ◌≤◌, ◌^◌, List, [], ◌∷◌, ◌++◌, length, map, take, drop, get_or, Option, Some, Result, Ok, Err, slice_get, refl, sym, ap, subst, ◌∙◌, inl, inr}
 use Rattle.std.proofs.Common.{arith}
 use Rattle.std.specs.Prelude.{slice_range}
 use Rattle.std.proofs.lemmas.Bool.{cases_lt}
-use Rattle.std.proofs.lemmas.List.{get_or_append_left, get_or-append-add, length-append, take_all}
+use Rattle.std.proofs.lemmas.List.{append-nil, append_assoc, get_or_append_left, get_or-append-add, length-append, map-append, take_all}
 use Rattle.std.proofs.Math.Seq.{drop-append_seam}
 use Rattle.dwz_model.specs.declared.fault.Fault.{Fault}
 use Rattle.dwz_model.proofs.PartFacts.{range_grown}
@@ -15,7 +15,7 @@ use Rattle.dwz_def_reading.specs.Meanings.{Around, scope_of}
 use Rattle.dwz_def_reading.specs.Meant.{node_meaning}
 use Rattle.dwz_def_reading.specs.Shared.{NamedList}
 use Rattle.dwz_graph.specs.Named.{Found, attrs_refs, entry_named, found, map_ok}
-use Rattle.dwz_graph.specs.Parts.{AreParted, IsParted, KnowLines}
+use Rattle.dwz_graph.specs.Parts.{AreParted, GoesOn, IsParted, KnowLines}
 use Rattle.dwz_graph.specs.Surroundings.{around_in, place_among}
 use Rattle.dwz_def_reading.specs.Lists.{Each}
 use Rattle.dwz_graph.specs.declared.parts.Parts.{Parts}
@@ -187,11 +187,43 @@ entry_more around raw n u i row more lists is low high there named = λ row' u' 
     let same : u ≡ u' = cc in
     (lists, (λ k. entry_named (scope_of around (sym same k)) (entry_of (sym one k))) ∙ named))
 
+-- ---- put behind those of the entries before
+
+pub goes_on_more : (around : Around ℕ) (raw : List RawUnit) (from k : ℕ) (refs new starts more : List ℕ) → new ≡ refs ++ more → NamesMore around raw k more → GoesOn around raw from k refs starts
+    → GoesOn around raw from (k + 1) new (starts ++ length new ∷ [])
+goes_on_more around raw from k refs new starts more longer names g = λ before ends parted small.
+    let f : ℕ → ℕ = λ j. length before + j in
+    let wide : length (before ++ new) ≡ length before + length new = length-append before new in
+    let few : length (before ++ refs) < 2 ^ 32 = omega (arith, small, wide, length-append before refs, ap (λ (w : List ℕ). length w) longer, length-append refs more) in
+    let longer' : before ++ new ≡ (before ++ refs) ++ more = ap (λ w. before ++ w) longer ∙ sym (append_assoc before refs more) in
+    let p = parted_more around raw k (before ++ refs) (before ++ new) (ends ++ map f starts) more longer' (g before ends parted few) names in
+    let same : (ends ++ map f starts) ++ length (before ++ new) ∷ [] ≡ ends ++ map f (starts ++ length new ∷ []) =
+    ap (λ (n : ℕ). (ends ++ map f starts) ++ n ∷ []) wide ∙ append_assoc ends (map f starts) (f (length new) ∷ []) ∙ ap (λ w. ends ++ w) (sym (map-append f starts (length new ∷ []))) in
+    subst (λ (w : List ℕ). AreParted around raw (k + 1) (before ++ new) w) same p
+
+goes_on_none : (around : Around ℕ) (raw : List RawUnit) (from : ℕ) → GoesOn around raw from from [] (0 ∷ [])
+goes_on_none around raw from = λ before ends parted small.
+    let last : length before ≡ length before + 0 = omega arith in
+    subst (λ (w : List ℕ). AreParted around raw from w (ends ++ (length before + 0) ∷ [])) (sym (append-nil before))
+    (subst (λ (n : ℕ). AreParted around raw from before (ends ++ n ∷ [])) last parted)
+
 -- no entry and no unit
-pub none_parted : (s : Surroundings) (raw : List RawUnit) (st : State) (parts : Parts) → st.refs.items ≡ [] → parts.starts.items ≡ 0 ∷ [] → parts.lines.items ≡ [] → IsParted s raw 0 st parts
-unfolding entries_in
-none_parted s raw st parts refs starts lines = record {
-  starts = λ small. subst (λ (w : List ℕ). AreParted (around_in s raw) raw 0 w parts.starts.items) (sym refs)
-      (subst (λ (w : List ℕ). AreParted (around_in s raw) raw 0 [] w) (sym starts) (parted_none (around_in s raw) raw));
-  lines = subst (λ (w : List (Option ℕ)). KnowLines (around_in s raw) raw 0 st.files w) (sym lines) (no_lines (around_in s raw) raw st.files);
-}
+pub none_parted : (s : Surroundings) (raw : List RawUnit) (first : ℕ) (st : State) (parts : Parts) → st.refs.items ≡ [] → parts.starts.items ≡ 0 ∷ [] → parts.lines.items ≡ []
+    → IsParted s raw first first st parts
+none_parted s raw first st parts refs starts lines =
+    let a = around_in s raw in
+    let from = entries_in (take first raw) in
+    let none : 0 ≡ first - first = omega arith in
+    record {
+      starts = subst (λ (w : List ℕ). GoesOn a raw from from w parts.starts.items) (sym refs) (subst (λ (w : List ℕ). GoesOn a raw from from [] w) (sym starts) (goes_on_none a raw from));
+      lines = subst (λ (w : List (Option ℕ)). KnowLines a (drop first raw) (first - first) st.files w) (sym lines)
+          (subst (λ (n : ℕ). KnowLines a (drop first raw) n st.files []) none (no_lines a (drop first raw) st.files));
+    }
+
+-- those of all entries
+pub all_parted : (around : Around ℕ) (raw : List RawUnit) (refs starts : List ℕ) → length refs < 2 ^ 32 → GoesOn around raw 0 (entries_in raw) refs starts
+    → AreParted around raw (entries_in raw) refs starts
+all_parted around raw refs starts small g = subst (λ (w : List ℕ). AreParted around raw (entries_in raw) refs w) (raised_none starts) (g [] [] (parted_none around raw) small) where
+  raised_none : (xs : List ℕ) → map (λ k. 0 + k) xs ≡ xs
+  raised_none [] = refl
+  raised_none (x ∷ xs) = let e : 0 + x ≡ x = omega arith in (λ i. e i ∷ raised_none xs i)

@@ -33,9 +33,9 @@ pub unit_ends : (raw : List RawUnit) (around : Around ℕ) (u : RawUnit) (n : �
     → IsBehind raw around (n + 1) named st
 unit_ends raw around u n named st is k = record { shows = k.shows; tables = k.tables; marks = λ place number e. (let r = k.marks place number e in let le : r.0.unit ≤ n = r.2.1 in (r.0, r.1, (r.2.0, omega arith))) }
 
-pub none_behind : (raw : List RawUnit) (around : Around ℕ) (st : State) → st.lists.rows.items ≡ [] → st.lists.operands.items ≡ [] → st.lists.slots.items ≡ []
-    → st.lists.marks.items ≡ [] → KnowTables around.sources st.files → IsBehind raw around 0 [] st
-none_behind raw around st rows operands slots marks tables =
+pub none_behind : (raw : List RawUnit) (around : Around ℕ) (n : ℕ) (st : State) → st.lists.rows.items ≡ [] → st.lists.operands.items ≡ [] → st.lists.slots.items ≡ []
+    → st.lists.marks.items ≡ [] → KnowTables around.sources st.files → IsBehind raw around n [] st
+none_behind raw around n st rows operands slots marks tables =
     let no_row : (w : ListRow) → In w st.lists.rows.items → ⊥ = λ w is. subst (λ (xs : List ListRow). In w xs) rows is in
     let no_operand : (o : ListOperand) → In o st.lists.operands.items → ⊥ = λ o is. subst (λ (xs : List ListOperand). In o xs) operands is in
     let no_slot : (n : ℕ) → In n st.lists.slots.items → ⊥ = λ n is. subst (λ (xs : List ℕ). In n xs) slots is in

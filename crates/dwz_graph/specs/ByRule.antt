@@ -1,12 +1,12 @@
 -- Files that are read by a rule, where numbers stand for places.
-use Rattle.std.specs.Prelude.{◌≡◌, ℕ, suc, ◌^◌, ◌≤◌, Bool, true, false, List, [], ◌∷◌, length, map, Option, Some, None, Result, Ok, Err}
+use Rattle.std.specs.Prelude.{◌≡◌, ℕ, suc, ◌^◌, ◌<◌, ◌≤◌, Bool, true, false, List, [], ◌∷◌, length, map, Option, Some, None, Result, Ok, Err}
 use Rattle.dwz_model.specs.declared.fault.ReadErr.{ReadErr}
 use Rattle.dwz_def_reading.specs.Documents.{Doc, unit_map}
 use Rattle.dwz_def_reading.specs.ElfFaults.{read_back}
 use Rattle.dwz_def_reading.specs.ElfReading.{elf_of}
 use Rattle.dwz_def_reading.specs.Entries.{of_common}
 use Rattle.dwz_def_reading.specs.Faults.{Fails}
-use Rattle.dwz_def_reading.specs.Files.{Limits, debug_aranges, debug_info, file_meaning_by, given_rule, limits_after, sources_of}
+use Rattle.dwz_def_reading.specs.Files.{Limits, debug_aranges, debug_info, file_meaning_by, given_rule, limits_after, sources_of, units_said}
 use Rattle.dwz_def_reading.specs.Finished.{common_sup_fault, file_sup_fault, sum_of}
 use Rattle.dwz_def_reading.specs.Meanings.{Around, Common, all_places}
 use Rattle.dwz_def_reading.specs.Modes.{of_back}
@@ -17,13 +17,14 @@ use Rattle.dwz_def_reading.specs.Shared.{AreRows}
 use Rattle.dwz_def_reading.specs.Units.{RawUnit, entries_in}
 use Rattle.dwz_graph.specs.ListRows.{AreOfFile, operand_view}
 use Rattle.dwz_graph.specs.declared.file.File.{File}
+use Rattle.dwz_graph.specs.declared.file.Opened.{Opened}
 use Rattle.dwz_graph.specs.declared.rule.Beside.{Beside}
 use Rattle.dwz_graph.specs.declared.rule.Rule.{Rule}
 use Rattle.dwz_graph.specs.declared.rule.Rule.TheVariants.{Given, Common as CommonFile, Back}
 use Rattle.dwz_graph.specs.Named.{units_refs}
 use Rattle.dwz_graph.specs.Parts.{AreParted, HaveLines}
 use Rattle.dwz_graph.specs.Resolved.{sources_view}
-use Rattle.dwz_graph.specs.Surroundings.{AreAmong, common_view, place_among}
+use Rattle.dwz_graph.specs.Surroundings.{AreAmong, around_in, common_view, entries_among, place_among}
 use Rattle.dwz_unit.specs.declared.mode.FileKind.{FileKind}
 use Rattle.dwz_unit.specs.declared.mode.FileKind.TheVariants.{Given as OfGiven, Common as OfCommon, Back as OfBack}
 use Rattle.dwz_unit.specs.Rows.{units_of}
@@ -104,6 +105,17 @@ pub record IsReadBy (rule : ReadingRule ℕ) (read_as : FileKind) (l : Limits) (
   pub info : f.units.info ≡ debug_info bytes
   pub sections : sources_view f.sections ≡ sources_of bytes
   pub aranges : f.sections.aranges.now ≡ debug_aranges bytes
+
+-- The file was opened by the rule: what it says is what its units say, with what surrounds them.
+pub record IsOpened (rule : Rule) (l : Limits) (bytes : List ℕ) (o : Opened) : Type 0 where
+  pub says : file_meaning_by (rule_view rule) l bytes ≡ units_said (rule_view rule) bytes (units_of o.units)
+  pub around : around_in o.around (units_of o.units) ≡ (rule_view rule).around bytes (units_of o.units)
+  pub room : entries_among (common_view o.around.common) (units_of o.units) < 2 ^ 32
+  pub elf : o.elf ≡ elf_of bytes
+  pub kind : o.units.kind ≡ kind_of rule
+  pub info : o.units.info ≡ debug_info bytes
+  pub sections : sources_view o.around.sections ≡ sources_of bytes
+  pub aranges : o.around.sections.aranges.now ≡ debug_aranges bytes
 
 abbrev pub ReadsFileBy : Rule → Limits → ℕ → List ℕ → Result File ReadErr → Type 0
 ReadsFileBy rule l number bytes (Ok f) = IsReadBy (rule_view rule) (kind_of rule) l number bytes f

@@ -28,3 +28,4 @@ pub mod Tops
 pub mod Chains
 pub mod IndexLaws
 pub mod Indexed
+pub mod Stretches

@@ -44,6 +44,10 @@ operand_view raw o = record {
 
 -- ---- lists
 
+-- the row of a list whose operands stand behind so many others
+abbrev pub raised : ℕ → ListRow → ListRow
+raised n w = record w { first = n + w.first; last = n + w.last }
+
 -- the own operands of a list that is kept
 abbrev pub own_rows : List OperandOfCode → ListRow → List OperandOfCode
 own_rows operands w = slice_range operands w.first w.last

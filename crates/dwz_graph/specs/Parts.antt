@@ -1,6 +1,6 @@
 -- The references of each entry, and the line table of each unit.
-use Rattle.std.specs.Prelude.{◌≡◌, ℕ, ◌+◌, ◌<◌, ◌≤◌, ◌^◌, Bool, true, false, List, length, map, Option, Some, None, Ok, ◌&&◌, slice_get}
-use Rattle.std.specs.Prelude.{slice_index, slice_range, take}
+use Rattle.std.specs.Prelude.{◌≡◌, ℕ, ◌+◌, ◌-◌, ◌<◌, ◌≤◌, ◌^◌, Bool, true, false, List, [], ◌∷◌, ◌++◌, length, map, Option, Some, None, Ok, ◌&&◌}
+use Rattle.std.specs.Prelude.{drop, slice_get, slice_index, slice_range, take}
 use Rattle.dwz_def_reading.specs.Entries.{RawAttr, RawEntry}
 use Rattle.dwz_def_reading.specs.Lists.{In}
 use Rattle.dwz_def_reading.specs.Units.{RawUnit, entries_in}
@@ -73,8 +73,13 @@ pub record KnowLines (around : Around ℕ) (raw : List RawUnit) (count : ℕ) (f
   pub line : (n : ℕ) (u : RawUnit) (number : Option ℕ) → slice_get raw n ≡ Some u → slice_get lines n ≡ Some number
       → KnowsLine around files u number
 
--- Behind the units before the n-th: of the entries and units before, as long as there are fewer than 2^32 references.
-pub record IsParted (s : Surroundings) (raw : List RawUnit) (n : ℕ) (st : State) (parts : Parts) : Type 0 where
-  pub starts : length st.refs.items < 2 ^ 32 → AreParted (around_in s raw) raw (entries_in (take n raw)) st.refs.items
-      parts.starts.items
-  pub lines : KnowLines (around_in s raw) raw n st.files parts.lines.items
+-- References of entries and their starts, counted from the first of these: put behind those of the entries before number `from`, they are
+-- those of the entries before number `to`, as long as there are fewer than 2^32.
+abbrev pub GoesOn : Around ℕ → List RawUnit → ℕ → ℕ → List ℕ → List ℕ → Type 0
+GoesOn around raw from to refs starts = (before ends : List ℕ) → AreParted around raw from before (ends ++ length before ∷ [])
+    → length (before ++ refs) < 2 ^ 32 → AreParted around raw to (before ++ refs) (ends ++ map (λ k. length before + k) starts)
+
+-- Behind the units before the n-th: of the units from number `first` to there, and of their entries.
+pub record IsParted (s : Surroundings) (raw : List RawUnit) (first n : ℕ) (st : State) (parts : Parts) : Type 0 where
+  pub starts : GoesOn (around_in s raw) raw (entries_in (take first raw)) (entries_in (take n raw)) st.refs.items parts.starts.items
+  pub lines : KnowLines (around_in s raw) (drop first raw) (n - first) st.files parts.lines.items

@@ -4,6 +4,7 @@
 //! depend on that where enough is left. One for which too little is left, or that is refused, is read again in its turn, so that each fault
 //! is that of its turn: only bad input is read twice.
 
+ghost use Rattle.std.specs.Thread.{IsSync};
 ghost use Rattle.std.specs.Prelude.{◌≡◌, ℕ, ◌<◌, ◌^◌, true, All, IfOk, IfSome, length, map};
 ghost use Rattle.dwz_def_reading.specs.ElfReading.{elf_of};
 ghost use Rattle.dwz_graph.specs.Ahead.{AreAhead, IsAhead, IsEnough, IsFound};
@@ -94,8 +95,14 @@ fn jobs_of(alloc: Global, files: &[Vec<u8>]) -> Result<Vec<Job>, NoMemory>
     Ok(jobs)
 }
 
-// Reads a file as if it were for any machine, and all entries were left to it.
-fn read_job<'a>(alloc: Global, files: &'a [Vec<u8>], job: &Job) -> Result<Found<'a>, ReadErr>
+// Reads a file as if it were for any machine, and all entries were left to it, by so many workers.
+fn read_job<'a, R: Threads + Sync>(
+    rt: &R,
+    alloc: Global,
+    files: &'a [Vec<u8>],
+    job: &Job,
+    inside: u32,
+) -> Result<Found<'a>, ReadErr>
     requires { job.now.number < length files.now }
     ensures { IfOk result (IsFound (map (λ v. v.items) files.now)) }
 {
@@ -105,16 +112,25 @@ fn read_job<'a>(alloc: Global, files: &'a [Vec<u8>], job: &Job) -> Result<Found<
         entries: MOST_ENTRIES,
         machine: None,
     };
-    let file = read_file(alloc, number, files[number as usize].as_slice(), &left)?;
+    let file = read_file(
+        rt,
+        alloc,
+        number,
+        files[number as usize].as_slice(),
+        &left,
+        inside,
+    )?;
     Ok(Found { number, file })
 }
 
 // Reads files until none is left to be drawn. One that is refused ends that, since no run goes past it.
-fn read_drawn<'a>(
+fn read_drawn<'a, R: Threads + Sync>(
+    rt: &R,
     alloc: Global,
     files: &'a [Vec<u8>],
     jobs: &[Job],
     progress: &Progress,
+    inside: u32,
 ) -> Vec<Found<'a>>
     requires { All (λ job. job.number < length files.now) jobs.now }
     ensures { All (IsFound (map (λ v. v.items) files.now)) result.items }
@@ -124,7 +140,7 @@ fn read_drawn<'a>(
         let Some(at) = progress.draw(jobs.len()) else {
             break;
         };
-        let Ok(one) = read_job(alloc, files, &jobs[at]) else {
+        let Ok(one) = read_job(rt, alloc, files, &jobs[at], inside) else {
             progress.end();
             break;
         };
@@ -136,22 +152,23 @@ fn read_drawn<'a>(
     found
 }
 
-// What each of so many workers reads.
+// What each of so many workers reads, by so many others inside a file.
 fn read_by<'a, R: Threads + Sync>(
     rt: &R,
     alloc: Global,
     files: &'a [Vec<u8>],
     jobs: &[Job],
     workers: usize,
+    inside: u32,
 ) -> Result<Vec<Vec<Found<'a>>>, NoMemory>
     requires { All (λ job. job.number < length files.now) jobs.now }
     ensures { IfOk result (λ found. All (λ some. All (IsFound (map (λ v. v.items) files.now)) some.items) found.items) }
 {
     let progress = Progress::new();
     let each = |_worker: usize| -> Vec<Found>
-        requires { All (λ job. job.number < length files.now) jobs.now }
+        requires { IsSync R.row × All (λ job. job.number < length files.now) jobs.now }
         ensures { All (IsFound (map (λ v. v.items) files.entry.now)) result.items }
-    { read_drawn(alloc, files, jobs, &progress) };
+    { read_drawn(rt, alloc, files, jobs, &progress, inside) };
     thread::map_indices(rt, alloc, workers, &each)
 }
 
@@ -180,12 +197,14 @@ fn put_all<'a>(files: &[Vec<u8>], mut found: Vec<Found<'a>>, ahead: &mut [Option
     }
 }
 
-/// What is read ahead of files, each at its place, by so many workers. It need not be all of them: one worker reads none.
+/// What is read ahead of files, each at its place, by so many workers, with so many inside each file. It need not be all of them: one worker
+/// reads none.
 pub(crate) fn read_ahead<'a, R: Threads + Sync>(
     rt: &R,
     alloc: Global,
     files: &'a [Vec<u8>],
     workers: u32,
+    inside: u32,
 ) -> Result<Vec<Option<File<'a>>>, NoMemory>
     requires { length files.now < 2 ^ 32 }
     ensures len { IfOk result (λ ahead. length ahead.items ≡ length files.now) }
@@ -197,7 +216,7 @@ pub(crate) fn read_ahead<'a, R: Threads + Sync>(
         return Ok(ahead);
     }
     let jobs = jobs_of(alloc, files)?;
-    let mut found = read_by(rt, alloc, files, &jobs, workers)?;
+    let mut found = read_by(rt, alloc, files, &jobs, workers, inside)?;
     while let Some(some) = found.pop() {
         put_all(files, some, &mut ahead);
     }
@@ -218,13 +237,15 @@ fn is_enough(left: &Budget, bytes: &[u8], file: &File<'_>) -> bool
 }
 
 /// The file with a number, behind others: what was read of it ahead where what they leave is enough for that, and else it is read
-/// now. Refused with its first fault.
-pub(crate) fn file_behind<'a>(
+/// now, by so many workers. Refused with its first fault.
+pub(crate) fn file_behind<'a, R: Threads + Sync>(
+    rt: &R,
     alloc: Global,
     number: u32,
     bytes: &'a [u8],
     left: &Budget,
     ahead: Option<File<'a>>,
+    workers: u32,
 ) -> Result<File<'a>, ReadErr>
     requires { IfSome ahead (IsAhead number bytes.now) }
     ensures { ReadsFile (limits_view left.now) number bytes.now result }
@@ -234,5 +255,5 @@ pub(crate) fn file_behind<'a>(
             return Ok(file);
         }
     }
-    read_file(alloc, number, bytes, left)
+    read_file(rt, alloc, number, bytes, left, workers)
 }

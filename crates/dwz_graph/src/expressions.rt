@@ -107,6 +107,7 @@ fn bytes_of<'a>(raw: &Raw<'a>) -> &'a [u8]
 }
 
 /// Adds what the expression names that a value is. Refused at the first operator that isn't read, or whose operand names no entry.
+#[inline(never)]
 pub(crate) fn add_expression(
     units: &Units,
     around: &Surroundings,

@@ -1,15 +1,16 @@
 //! One file of several.
 
-ghost use Rattle.std.specs.Prelude.{◌≡◌, ◌<◌, ◌^◌, length};
+ghost use Rattle.std.specs.Prelude.{◌≡◌, ◌<◌, ◌^◌, IfErr, IfOk, length};
+ghost use Rattle.dwz_def_reading.specs.Faults.{Fails};
 ghost use Rattle.dwz_def_reading.specs.ElfFaults.{file_fault};
 ghost use Rattle.dwz_def_reading.specs.Files;
 ghost use Rattle.dwz_def_reading.specs.ElfReading.{elf_of};
 ghost use Rattle.dwz_graph.specs.Resolved.{sources_view};
-ghost use Rattle.dwz_graph.specs.ByRule.{IsGoodRule, ReadsFileBy};
+ghost use Rattle.dwz_graph.specs.ByRule.{IsGoodRule, IsOpened, ReadsFileBy, rule_view};
 ghost use Rattle.dwz_graph.specs.Files.{ReadsFile, limits_view};
 ghost use Rattle.dwz_model.specs.declared.fault.ReadErr.TheVariants.{Refused};
 
-use crate::resolving::resolve;
+use crate::resolving::{resolve, resolve_by};
 use crate::rule::Rule;
 use crate::surroundings::Surroundings;
 use crate::{InputSections, Resolved, TextSection};
@@ -20,6 +21,7 @@ use dwz_model::{
 };
 use dwz_unit::Units;
 use std::alloc::Global;
+use std::thread::Threads;
 
 /// A file that was read.
 #[derive(Drop)]
@@ -50,6 +52,14 @@ pub(crate) const LONGEST_FILES: usize = 1 << 29;
 
 /// No files together may have more entries.
 pub(crate) const MOST_ENTRIES: u32 = 1 << 24;
+
+// A file of which the units were read, and what their values speak of.
+#[derive(Drop)]
+struct Opened<'a, 'c> {
+    elf: Elf,
+    units: Units<'a>,
+    around: Surroundings<'a, 'c>,
+}
 
 // Where e_machine stands.
 const MACHINE_AT: u64 = 18;
@@ -110,16 +120,16 @@ fn sections_of<'a>(elf: &Elf, bytes: &'a [u8]) -> InputSections<'a>
     }
 }
 
-/// Reads the file with a number by a rule, behind others. Refused with its first fault.
-pub(crate) fn read_by<'a>(
+// Reads the units of a file by a rule, behind others. Refused with its first fault, if that comes before those of what values mean.
+fn open_by<'a, 'c>(
     alloc: Global,
-    number: u32,
     bytes: &'a [u8],
     left: &Budget,
-    rule: &Rule<'_>,
-) -> Result<File<'a>, ReadErr>
+    rule: &'c Rule<'_>,
+) -> Result<Opened<'a, 'c>, ReadErr>
     requires { IsGoodRule rule.now }
-    ensures { ReadsFileBy rule.now (limits_view left.now) number bytes.now result }
+    ensures ok { IfOk result (IsOpened rule.now (limits_view left.now) bytes.now) }
+    ensures err { IfErr result (λ e. Fails e (Files.file_meaning_by (rule_view rule.now) (limits_view left.now) bytes.now)) }
 {
     if is_too_long(left, bytes) {
         return Err(fault(0, Reason::FileSize));
@@ -138,6 +148,21 @@ pub(crate) fn read_by<'a>(
         sections: sections_of(&elf, bytes),
         common: rule.common(),
     };
+    Ok(Opened { elf, units, around })
+}
+
+/// Reads the file with a number by a rule, behind others. Refused with its first fault.
+pub(crate) fn read_by<'a>(
+    alloc: Global,
+    number: u32,
+    bytes: &'a [u8],
+    left: &Budget,
+    rule: &Rule<'_>,
+) -> Result<File<'a>, ReadErr>
+    requires { IsGoodRule rule.now }
+    ensures { ReadsFileBy rule.now (limits_view left.now) number bytes.now result }
+{
+    let Opened { elf, units, around } = open_by(alloc, bytes, left, rule)?;
     let resolved = resolve(alloc, number, &units, &around)?;
     let sections = around.sections;
     Ok(File {
@@ -148,14 +173,25 @@ pub(crate) fn read_by<'a>(
     })
 }
 
-/// Reads the file with a number by itself, behind others. Refused with its first fault.
-pub(crate) fn read_file<'a>(
+/// Reads the file with a number by itself, behind others, by so many workers. Refused with its first fault.
+pub(crate) fn read_file<'a, R: Threads + Sync>(
+    rt: &R,
     alloc: Global,
     number: u32,
     bytes: &'a [u8],
     left: &Budget,
+    workers: u32,
 ) -> Result<File<'a>, ReadErr>
     ensures { ReadsFile (limits_view left.now) number bytes.now result }
 {
-    read_by(alloc, number, bytes, left, &Rule::Given)
+    let rule = Rule::Given;
+    let Opened { elf, units, around } = open_by(alloc, bytes, left, &rule)?;
+    let resolved = resolve_by(rt, alloc, number, &units, &around, workers)?;
+    let sections = around.sections;
+    Ok(File {
+        elf,
+        sections,
+        units,
+        resolved,
+    })
 }

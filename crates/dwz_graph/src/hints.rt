@@ -4,7 +4,7 @@ use dwz_model::NoMemory;
 use std::alloc::Global;
 
 // How many are kept.
-const HINTS: usize = 4096;
+const HINTS: usize = 1 << 16;
 
 /// Numbers of entries that were found, each kept by the place where its entry begins. No clause speaks of them: whether an entry begins at
 /// a place is seen of the entry.

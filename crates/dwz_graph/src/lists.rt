@@ -254,6 +254,7 @@ fn add_list(
 }
 
 /// Adds the list that an offset names, if it is one's.
+#[inline(never)]
 pub(crate) fn add_offset(
     units: &Units,
     around: &Surroundings,
@@ -300,6 +301,7 @@ fn slot_at(section: &[u8], base: u128, index: u128) -> Option<ListSlot>
 }
 
 /// Adds the list that an index names.
+#[inline(never)]
 pub(crate) fn add_indexed(
     units: &Units,
     around: &Surroundings,

@@ -1,6 +1,6 @@
 //! What the values of entries name, or the first fault.
 
-ghost use Rattle.std.specs.Prelude.{◌≡◌, ℕ, ◌+◌, ◌^◌, ◌<◌, ◌≤◌, List, [], IfOk, Some, length, slice_get};
+ghost use Rattle.std.specs.Prelude.{◌≡◌, ℕ, ◌+◌, ◌^◌, ◌<◌, ◌≤◌, List, [], IfOk, Some, length, slice_get, slice_range};
 ghost use Rattle.std.specs.List.{list_any};
 ghost use Rattle.dwz_def_reading.specs.Faults.{info_fault};
 ghost use Rattle.dwz_def_reading.specs.Units.{RawUnit, entries_in};
@@ -31,7 +31,7 @@ use crate::surroundings::Surroundings;
 use dwz_codes::{Class, DW_AT_SIBLING, class_of};
 use dwz_forms::Raw;
 use dwz_model::{DEBUG_INFO, Fault, Pair, ReadErr, Reason};
-use dwz_unit::{Units, Values, known_value};
+use dwz_unit::{Stops, Units, known_value, pass_bytes};
 
 // No such form is read.
 fn unread_form(at: u64, form: u64) -> ReadErr
@@ -176,8 +176,14 @@ fn add_values<'a>(
         → Goes (common_view around.now.common) (units_of units.now) (StateIn around.now (units_of units.now) u here.now) before state.old state.new result
         (entry_named (scope_within around.now (units_of units.now) u) row.entry) }
 {
-    let Values { pairs, mut cursor } = units.values(i);
-    for pair in pairs {
+    let Stops {
+        stops,
+        pairs,
+        mut cursor,
+    } = units.stops(i);
+    for stop in stops {
+        pass_bytes(&mut cursor, stop.skip);
+        let pair = &pairs[stop.number];
         let at = cursor.at() as u64;
         let raw = known_value(&mut cursor, pair);
         let end = cursor.at() as u64;
@@ -197,9 +203,9 @@ fn add_unit<'a>(
     requires unit { n < length (units_of units.now) }
     requires room { entries_among (common_view around.now.common) (units_of units.now) < 2 ^ 32 }
     ensures file { state.new.file ≡ state.old.file }
-    ensures parts { (before : List NamedList) → StateAt around.now (units_of units.now) n before state.old
-        → IsParted around.now (units_of units.now) n state.old parts.old
-        → IfOk result (λ y. IsParted around.now (units_of units.now) (n + 1) state.new parts.new) }
+    ensures parts { (first : ℕ) (before : List NamedList) → first ≤ n → StateAt around.now (units_of units.now) n before state.old
+        → IsParted around.now (units_of units.now) first n state.old parts.old
+        → IfOk result (λ y. IsParted around.now (units_of units.now) first (n + 1) state.new parts.new) }
     ensures goes { (u : RawUnit) (before : List NamedList) → slice_get (units_of units.now) n ≡ Some u
         → StateAt around.now (units_of units.now) n before state.old
         → Goes (common_view around.now.common) (units_of units.now) (StateAt around.now (units_of units.now) (n + 1)) before state.old state.new result
@@ -216,23 +222,26 @@ fn add_unit<'a>(
     Ok(())
 }
 
-/// Adds what the entries of all units name; or fails with the first fault of what values mean.
+/// Adds what the entries of the units from one number to before another name; or fails with the first fault of what values mean.
 pub(crate) fn add_units<'a>(
     units: &Units,
     around: &Surroundings<'a, '_>,
+    first: u32,
+    end: u32,
     state: &mut State<'a>,
     parts: &mut Parts,
 ) -> Result<(), ReadErr>
+    requires units { (first ≤ end) × (end ≤ length (units_of units.now)) }
     requires room { entries_among (common_view around.now.common) (units_of units.now) < 2 ^ 32 }
     ensures file { state.new.file ≡ state.old.file }
-    ensures parts { StateAt around.now (units_of units.now) 0 [] state.old
-        → IsParted around.now (units_of units.now) 0 state.old parts.old
-        → IfOk result (λ y. IsParted around.now (units_of units.now) (length (units_of units.now)) state.new parts.new) }
-    ensures goes { StateAt around.now (units_of units.now) 0 [] state.old
-        → Goes (common_view around.now.common) (units_of units.now) (StateAt around.now (units_of units.now) (length (units_of units.now))) [] state.old state.new result
-        (units_named (around_in around.now (units_of units.now)) (units_of units.now)) }
+    ensures parts { StateAt around.now (units_of units.now) first [] state.old
+        → IsParted around.now (units_of units.now) first first state.old parts.old
+        → IfOk result (λ y. IsParted around.now (units_of units.now) first end state.new parts.new) }
+    ensures goes { StateAt around.now (units_of units.now) first [] state.old
+        → Goes (common_view around.now.common) (units_of units.now) (StateAt around.now (units_of units.now) end) [] state.old state.new result
+        (units_named (around_in around.now (units_of units.now)) (slice_range (units_of units.now) first end)) }
 {
-    for n in 0..units.len() {
+    for n in first..end {
         add_unit(units, around, n, state, parts)?;
     }
     Ok(())

@@ -56,12 +56,21 @@ pub(crate) fn given_files<'a, R: Threads + Sync>(
     ensures { HoldsOrFails (λ kept. AreReadFrom (limits_view all.now) (map (λ v. v.items) files.now) kept.items) result
         (files_meaning (limits_view all.now) 0 (map (λ v. v.items) files.now)) }
 {
-    let mut ahead = read_ahead(rt, alloc, files, workers)?;
+    let inside = workers / files.len().max(1).min(64) as u32;
+    let mut ahead = read_ahead(rt, alloc, files, workers, inside)?;
     let mut left = *all;
     let mut kept = Vec::new(alloc);
     for (number, content) in files.iter().enumerate() {
         let done = ahead[number].take();
-        match file_behind(alloc, number as u32, content.as_slice(), &left, done) {
+        match file_behind(
+            rt,
+            alloc,
+            number as u32,
+            content.as_slice(),
+            &left,
+            done,
+            inside,
+        ) {
             Ok(file) => {
                 left = behind(&left, content.as_slice(), &file);
                 kept.push(file)?;

@@ -54,6 +54,7 @@ pub(crate) fn add_entry(
 }
 
 /// Adds the entry of the common file that begins at a place. Its number stands behind those of the file's own entries.
+#[inline(never)]
 pub(crate) fn add_common(
     units: &Units,
     common: Option<CommonPart>,

@@ -9,7 +9,6 @@ use Rattle.std.proofs.lemmas.Bool.{false≢true}
 use Rattle.std.proofs.lemmas.List.{append-nil, drop-map, drop_all}
 use Rattle.std.proofs.lemmas.Slice.Eq.{bytes_eq-Decides}
 use Rattle.dwz_def_readback.specs.Prunable.{HasSection, IsPrunable}
-use Rattle.dwz_def_reading.specs.Reading.{◌>>=◌}
 use Rattle.dwz_def_reading.specs.declared.elf.Header.{Header}
 use Rattle.dwz_def_reading.specs.ElfHeaders.{headers_in, is_there}
 use Rattle.dwz_def_reading.specs.ElfNames.{name_at, name_table}
@@ -40,7 +39,7 @@ use Rattle.dwz_def_reading.proofs.LineTableLemmas.{file_table_agrees}
 use Rattle.dwz_def_reading.proofs.MeaningUnits.{units_agree}
 use Rattle.dwz_def_reading.proofs.UnitMeans.{no_files}
 use Rattle.dwz_def_output.specs.Written.{ArePrunable}
-use Rattle.dwz_def_output.proofs.GivenSections.{reads_sound}
+use Rattle.dwz_def_reading.proofs.SoundFiles.{no_elf_fault}
 use Rattle.dwz_graph_pruning.proofs.RowLemmas.{both_pass}
 use Rattle.dwz_unit.specs.Rows.{units_of}
 use Rattle.dwz_def_encoding.specs.Pruned.{UnitStays}
@@ -142,7 +141,7 @@ module _ (l : Limits) (number : ℕ) (bytes : List ℕ) (f : File) (is : IsRead 
   sources = sources_of bytes
 
   pub no_fault : elf_fault bytes ≡ None
-  no_fault = reads_sound l bytes raw doc (((file_agrees l bytes).ok (raw, doc)).0 is.means)
+  no_fault = no_elf_fault l bytes raw doc is.means
 
   pub offsets_are : f.sections.offsets.now ≡ sources.offsets
   offsets_are = ap (λ (s : Sources). s.offsets) is.sections

@@ -9,7 +9,7 @@ ghost use Rattle.dwz_unit.specs.Declarations.{AreOf};
 ghost use Rattle.dwz_unit.specs.Rows.{rows_of, units_of};
 
 use crate::values::asks;
-use dwz_model::{NoMemory, Pair, Pairs};
+use dwz_model::{NoMemory, Pair};
 use dwz_unit::{Declarations, Units};
 use std::alloc::Global;
 use std::marker::Model;
@@ -23,13 +23,14 @@ pub(crate) fn any_asks(strp: bool, pairs: &[Pair]) -> bool
 }
 
 // Of each of these declarations whether it has to be asked of one of its values, where no format of the line table has the form strp.
-fn asked_by(alloc: Global, declarations: &[Pairs]) -> Result<Vec<bool>, NoMemory>
-    ensures { IfOk result (λ v. v.items ≡ map (list_any (Stays.asks false)) declarations.now) }
+fn asked_by(alloc: Global, declarations: &Declarations) -> Result<Vec<bool>, NoMemory>
+    ensures { IfOk result (λ v. v.items ≡ map (list_any (Stays.asks false)) declarations.now.pairs) }
 {
-    declarations
-        .iter()
-        .map(|pairs| any_asks(false, pairs.as_slice()))
-        .collect(alloc)
+    let mut asked = Vec::with_capacity(alloc, declarations.len())?;
+    for number in 0..declarations.len() {
+        asked.push(any_asks(false, declarations.pairs(number)))?;
+    }
+    Ok(asked)
 }
 
 /// The entries of a file, by their declarations (DWARF 5, 7.5.3), of which a value has to be asked where no format of the line table has the
@@ -59,7 +60,7 @@ impl<'u> AskedEntries<'u> {
         ensures { IfOk result (λ e. AreOf (rows_of (units_of units.now)) e) }
     {
         let declarations = units.declarations();
-        let asked = asked_by(alloc, declarations.pairs())?;
+        let asked = asked_by(alloc, &declarations)?;
         Ok(AskedEntries {
             declarations,
             asked,

@@ -1,17 +1,10 @@
 -- The section of a file that is kept.
-use Rattle.std.proofs.Common.{◌≡◌, ℕ, ◌<◌, List, length, map, take, drop, Option, Some, None, Ok, slice_get, get_or, refl, sym, ap, ◌∙◌, arith}
+use Rattle.std.proofs.Common.{◌≡◌, ℕ, ◌<◌, List, length, map, take, drop, Some, None, slice_get, get_or, sym, ap, ◌∙◌, arith}
 use Rattle.std.specs.Option.{option_and_then, option_map}
 use Rattle.std.proofs.lemmas.List.{length-map}
-use Rattle.dwz_model.specs.declared.fault.Fault.{Fault}
-use Rattle.dwz_model.specs.declared.fault.Reason.TheVariants.{FileSize, Machine}
-use Rattle.dwz_def_reading.specs.ElfFaults.{file_fault}
 use Rattle.dwz_def_reading.specs.ElfNames.{sections_in}
-use Rattle.dwz_def_reading.specs.Entries.{given, unless_so}
-use Rattle.dwz_def_reading.specs.Files.{Limits, debug_abbrev, debug_info, ends_at, file_meaning_by, given_rule, is_other_machine, is_too_long, machine_at, machine_of, units_said}
-use Rattle.dwz_def_reading.specs.Input.{input}
-use Rattle.dwz_def_reading.specs.Reading.{◌>>=◌}
-use Rattle.dwz_def_reading.specs.Units.{units_at}
-use Rattle.dwz_def_reading.proofs.PartLemmas.{bind_ok}
+use Rattle.dwz_def_reading.specs.Files.{Limits}
+use Rattle.dwz_def_reading.proofs.SoundFiles.{no_elf_fault}
 use Rattle.dwz_unit.specs.Rows.{units_of}
 use Rattle.dwz_def_reading.specs.ElfReading.{ElfView, bytes_in, elf_fault, elf_of, section_range}
 use Rattle.dwz_def_reading.proofs.ListFacts.{got_map, item_got}
@@ -50,16 +43,5 @@ module _ (contents : List (List ℕ)) (k code : ℕ) (bytes : List ℕ) (f : Fil
 
 -- ---- a file that was read has no fault of its sections
 
-no_fault_at : (o : Option Fault) (x : Unit {0}) → ends_at o ≡ Ok x → o ≡ None
-no_fault_at None x e = refl
-no_fault_at (Some f) x e = absurd cc
-
 pub no_fault : (l : Limits) (number : ℕ) (bytes : List ℕ) (f : File) → IsRead l number bytes f → elf_fault bytes ≡ None
-unfolding file_meaning_by
-no_fault l number bytes f is =
-    let a = bind_ok (unless_so (is_too_long l bytes) (file_fault FileSize 0))
-    (λ size. ends_at (elf_fault bytes) >>= λ elf. unless_so (is_other_machine l.machine (machine_of bytes)) (file_fault Machine machine_at) >>= λ machine. units_at (debug_abbrev bytes)
-    (given l.entries) 0 (input (debug_info bytes) 0) >>= units_said given_rule bytes) (units_of f.units, is.doc) is.means in
-    let b = bind_ok (ends_at (elf_fault bytes)) (λ elf. unless_so (is_other_machine l.machine (machine_of bytes)) (file_fault Machine machine_at) >>= λ machine. units_at (debug_abbrev bytes)
-    (given l.entries) 0 (input (debug_info bytes) 0) >>= units_said given_rule bytes) (units_of f.units, is.doc) a.2 in
-    no_fault_at (elf_fault bytes) b.0 b.1
+no_fault l number bytes f is = no_elf_fault l bytes (units_of f.units) is.doc is.means

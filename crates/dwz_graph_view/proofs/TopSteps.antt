@@ -11,7 +11,7 @@ use Rattle.dwz_def_reading.proofs.ListFacts.{in_cases, in_left, in_right}
 use Rattle.dwz_def_tops.specs.Shown.{keys}
 use Rattle.dwz_def_tops.specs.Spots.{EntryName, RootOf, UnitOf, Within, below_spots, spot_in, top_count, tops_among}
 use Rattle.dwz_def_tops.specs.Spots.{spots_from as names_of_units}
-use Rattle.dwz_def_tops.proofs.NameLists.{below_firsts, firsts}
+use Rattle.dwz_def_tops.proofs.NameLists.{below_firsts, in_firsts}
 use Rattle.dwz_def_images.specs.After.{at_file, name_from, name_of_place}
 use Rattle.dwz_graph.specs.declared.file.File.{File}
 use Rattle.dwz_graph.specs.Files.{AreKept, docs_of}
@@ -30,12 +30,6 @@ use Rattle.dwz_graph_view.specs.TopPaths.{IsNamedBy, path_from_top}
 use Rattle.dwz_graph_view.proofs.EntrySteps.{no_entry, no_file}
 
 -- ---- a place with the name of an entry in a top is that of an entry
-
-in_firsts : (x : ℕ × EntryName) (xs : List (ℕ × EntryName)) → In x xs → In x.0 (firsts xs)
-unfolding firsts
-in_firsts x [] h = absurd h
-in_firsts x (y ∷ xs) (inl e) = inl (ap (λ (w : ℕ × EntryName). w.0) e)
-in_firsts x (y ∷ xs) (inr r) = inr (in_firsts x xs r)
 
 below_key : (unit top : ℕ) (k : Kind ℕ) (f : Entries ℕ) (x : ℕ × EntryName) → In x (below_spots unit top k f) → In x.0 (keys f)
 below_key unit top Compile f x h = subst (In x.0) (below_firsts unit top Compile f (λ no. no)) (in_firsts x (below_spots unit top Compile f) h)

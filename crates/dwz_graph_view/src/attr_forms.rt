@@ -9,9 +9,9 @@ ghost use Rattle.dwz_graph_view.specs.AttrViews.{attr_at, form_view};
 ghost use Rattle.dwz_unit.specs.Rows.{EntryRow, attr_count, rows_of, units_of};
 
 use crate::entry_views::number_at;
-use crate::numbers::number_of;
 use dwz_codes::DW_AT_SIBLING;
 use dwz_graph::Graph;
+use dwz_label_entries::number_of;
 use dwz_model::Place;
 use dwz_unit::{Units, Values};
 

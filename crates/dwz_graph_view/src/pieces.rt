@@ -23,6 +23,7 @@ use crate::setting::Setting;
 use crate::value_views::ValueView;
 use dwz_expr::{Operand, Ops, read_into};
 use dwz_graph::slot;
+use dwz_label_entries::{behind, front};
 use dwz_lists::{walk, walk_into};
 use dwz_model::{Base, Blob, DEBUG_INFO, Exprs, NoMemory, Piece, Pieces, Place, ReadErr};
 use std::alloc::{AllocError, Global};
@@ -44,28 +45,6 @@ pub(crate) fn place_of(setting: &Setting, base: Base, number: u128) -> Option<Pl
         file: setting.file,
         offset: offset as u32,
     })
-}
-
-// The first bytes, as many as there are.
-fn front(bytes: &[u8], count: u128) -> &[u8]
-    ensures { result.now ≡ take count bytes.now }
-{
-    if count < bytes.len() as u128 {
-        &bytes[..count as usize]
-    } else {
-        bytes
-    }
-}
-
-// The bytes behind the first ones.
-fn behind(bytes: &[u8], count: u128) -> &[u8]
-    ensures { result.now ≡ drop count bytes.now }
-{
-    if count < bytes.len() as u128 {
-        &bytes[count as usize..]
-    } else {
-        &[]
-    }
 }
 
 // A piece of these bytes.

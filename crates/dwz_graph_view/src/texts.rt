@@ -16,6 +16,7 @@ ghost use Rattle.dwz_graph_view.specs.ValueViews.{Shows};
 use crate::setting::Setting;
 use crate::value_views::ValueView;
 use dwz_graph::{slot, text_in};
+use dwz_label_entries::row_of;
 use dwz_model::{Blob, NoMemory};
 
 /// The text at an offset of a section.
@@ -35,16 +36,6 @@ pub(crate) fn text_by_slot<'a>(setting: &Setting<'_, 'a>, index: u128) -> Option
     let base = setting.here.offsets?;
     let offset = slot(sections.offsets, base as u128, index)?;
     text_view(sections.strs.bytes, offset as u128)
-}
-
-// A number that may be one of a row; no table has as many rows as 2^63.
-fn row_of(number: i128) -> u64
-    ensures { (n : ℕ) → number ≡ pos n → n < 2 ^ 63 → result ≡ n }
-{
-    if number < 0 || number > u64::MAX as i128 {
-        return u64::MAX;
-    }
-    number as u64
 }
 
 // The file with a number in the line table of a unit, by its path.

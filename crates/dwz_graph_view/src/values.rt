@@ -13,13 +13,14 @@ ghost use Rattle.dwz_unit.specs.Rows.{attr_view};
 ghost use Rattle.dwz_graph_view.specs.Settings.{KnowsSetting};
 ghost use Rattle.dwz_graph_view.specs.ValueViews.{Shows};
 
-use crate::numbers::{bytes_of, is_set, narrow, number_of, width_of};
+use crate::numbers::narrow;
 use crate::pieces::{expr_view, list_by_slot, list_view, place_of};
 use crate::setting::Setting;
 use crate::texts::{file_view, text_by_slot, text_view};
 use crate::value_views::ValueView;
 use dwz_codes::{Class, class_of, names_file, names_list};
 use dwz_graph::offset_of;
+use dwz_label_entries::{bytes_of, is_set, number_of, width_of};
 use dwz_model::{Base, NoMemory};
 use dwz_unit::RawAttr;
 

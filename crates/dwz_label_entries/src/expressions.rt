@@ -17,9 +17,9 @@ use dwz_label::{put_expression, put_number, put_operand, put_same};
 use dwz_model::{DEBUG_INFO, NoMemory, ReadErr};
 use std::alloc::AllocError;
 
-// The first bytes, as many as there are.
+/// The first bytes, as many as there are.
 #[inline(always)]
-fn front(bytes: &[u8], count: u128) -> &[u8]
+pub fn front(bytes: &[u8], count: u128) -> &[u8]
     ensures { result.now ≡ take count bytes.now }
 {
     if count < bytes.len() as u128 {
@@ -29,9 +29,9 @@ fn front(bytes: &[u8], count: u128) -> &[u8]
     }
 }
 
-// The bytes behind the first ones.
+/// The bytes behind the first ones.
 #[inline(always)]
-fn behind(bytes: &[u8], count: u128) -> &[u8]
+pub fn behind(bytes: &[u8], count: u128) -> &[u8]
     ensures { result.now ≡ drop count bytes.now }
 {
     if count < bytes.len() as u128 {

@@ -2,7 +2,8 @@
 //!
 //! `put_top` appends language, name list and entries of a top of a file (`Source`) to a label; `put_rows`, `put_plain` and `put_target` do
 //! so for entries, for what a value says besides the entries that it names, and for the path of such an entry in its top. `Scratch` has
-//! rows that are used again from one top to the next. `language_of` is the language of a unit.
+//! rows that are used again from one top to the next. `language_of` is the language of a unit. `number_of`, `bytes_of`, `width_of`, `is_set`
+//! and `row_of` say what a value stores; `front` and `behind` are parts of bytes.
 //!
 //! A new class of values is an arm of `plain` here and a first byte of its own in `dwz_label`.
 //!
@@ -26,9 +27,12 @@ mod top;
 mod values;
 
 pub use entries::put_rows;
+pub use expressions::{behind, front};
 pub use language::language_of;
 pub use named::Named;
+pub use numbers::{bytes_of, is_set, number_of, width_of};
 pub use plain::put_plain;
 pub use source::{Scratch, Source};
 pub use targets::put_target;
+pub use texts::row_of;
 pub use top::put_top;

@@ -16,7 +16,7 @@ use dwz_forms::Raw;
 
 /// The number that a value stores; 0 where it stores bytes.
 #[inline(always)]
-pub(crate) fn number_of(raw: &Raw) -> i128
+pub fn number_of(raw: &Raw) -> i128
     ensures { result ≡ Meanings.number_of (raw_view raw.now) }
 {
     match raw {
@@ -27,7 +27,7 @@ pub(crate) fn number_of(raw: &Raw) -> i128
 
 /// The bytes that a value stores; none where it stores a number.
 #[inline(always)]
-pub(crate) fn bytes_of<'a>(raw: &Raw<'a>) -> &'a [u8]
+pub fn bytes_of<'a>(raw: &Raw<'a>) -> &'a [u8]
     ensures { result.now ≡ Meanings.bytes_of (raw_view raw.now) }
 {
     match raw {
@@ -68,7 +68,7 @@ fn width_above(width: u8, top: u128, name: u16, number: u128) -> u8
 /// How many bytes a number keeps: none, unless its form doesn't say whether it is signed (DWARF 5, 7.5.5, class constant) and its top bit
 /// is set.
 #[inline(always)]
-pub(crate) fn width_of(name: u16, form: u64, number: u128) -> u8
+pub fn width_of(name: u16, form: u64, number: u128) -> u8
     ensures { result ≡ kept_width name form number }
 {
     match form {
@@ -82,7 +82,7 @@ pub(crate) fn width_of(name: u16, form: u64, number: u128) -> u8
 
 /// Whether a flag is set.
 #[inline(always)]
-pub(crate) fn is_set(form: u64, number: u128) -> bool
+pub fn is_set(form: u64, number: u128) -> bool
     ensures { result ≡ (form == 0x19 || not (number == 0)) }
 {
     form == DW_FORM_FLAG_PRESENT || number != 0

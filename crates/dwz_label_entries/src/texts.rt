@@ -52,9 +52,9 @@ pub(crate) fn put_text_by_slot(
     put_text_at(out, sections.strs.bytes, offset as u128)
 }
 
-// A number that may be one of a row; no table has as many rows as 2^63.
+/// A number that may be one of a row; no table has as many rows as 2^63.
 #[inline(always)]
-fn row_of(number: i128) -> u64
+pub fn row_of(number: i128) -> u64
     ensures { (n : ℕ) → number ≡ pos n → n < 2 ^ 63 → result ≡ n }
 {
     if number < 0 || number > u64::MAX as i128 {

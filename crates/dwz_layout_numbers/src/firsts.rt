@@ -85,11 +85,11 @@ fn counts_of(pairs: &[Pair]) -> PairCounts
 fn counts_of_each(alloc: Global, declarations: &Declarations) -> Result<Vec<PairCounts>, NoMemory>
     ensures { IfOk result (λ v. v.items ≡ map Specs.counts_of declarations.now.pairs) }
 {
-    declarations
-        .pairs()
-        .iter()
-        .map(|pairs| counts_of(pairs.as_slice()))
-        .collect(alloc)
+    let mut counts = Vec::with_capacity(alloc, declarations.len())?;
+    for number in 0..declarations.len() {
+        counts.push(counts_of(declarations.pairs(number)))?;
+    }
+    Ok(counts)
 }
 
 /// For each entry of a file how many texts and numbers of files come before those that it names, in preorder.

@@ -20,28 +20,18 @@ ghost use Rattle.dwz_unit.specs.Known.{pairs_of};
 ghost use Rattle.dwz_unit.specs.Named.{named_count};
 ghost use Rattle.dwz_unit.specs.Rows.{EntryRow, units_of};
 
-use crate::values::{is_entry, read_expression};
-use dwz_codes::{Class, DW_AT_SIBLING, DW_TAG_IMPORTED_UNIT, class_of};
+use crate::values::read_expression;
+use dwz_codes::{DW_AT_SIBLING, DW_TAG_IMPORTED_UNIT, class_of};
 use dwz_expr::Operand;
 use dwz_forms::{Raw, is_binding};
 use dwz_model::{NoMemory, Pair, at_or};
-use dwz_unit::{Units, Values, known_value};
+use dwz_unit::{Units, Values, is_entry, is_expression, known_value};
 
 /// The tops of a unit, by their numbers: from the first to before the end.
 #[derive(Clone, Copy, Debug, PartialEq, Eq)]
 pub struct TopRange {
     pub first: u32,
     pub end: u32,
-}
-
-#[inline(always)]
-pub(crate) fn is_expression(class: Class) -> bool
-    ensures { result ≡ Bound.is_expression class }
-{
-    match class {
-        Class::Expression => true,
-        _ => false,
-    }
 }
 
 // Whether a reference into that top, or into none, leaves the unit of these tops.

@@ -5,7 +5,8 @@ ghost use Rattle.dwz_move.specs.Weights;
 
 use crate::weight::{add_weights, set_weight};
 use dwz_codes::{Class, DW_AT_SIBLING, Shape, class_of, form_shape, names_file};
-use dwz_model::{NoMemory, Pair, Pairs};
+use dwz_model::{NoMemory, Pair};
+use dwz_unit::Declarations;
 use std::alloc::Global;
 
 // How many bytes a number of a shape has, whichever it is.
@@ -70,12 +71,13 @@ fn pairs_weight(pairs: &[Pair]) -> Option<u64>
 /// The same of each of these declarations.
 pub(crate) fn declared_weights(
     alloc: Global,
-    declarations: &[Pairs],
+    declarations: &Declarations,
 ) -> Result<Vec<Option<u64>>, NoMemory>
-    ensures { IfOk result (λ v. v.items ≡ map Weights.pairs_weight declarations.now) }
+    ensures { IfOk result (λ v. v.items ≡ map Weights.pairs_weight declarations.now.pairs) }
 {
-    declarations
-        .iter()
-        .map(|pairs| pairs_weight(pairs.as_slice()))
-        .collect(alloc)
+    let mut weights = Vec::with_capacity(alloc, declarations.len())?;
+    for number in 0..declarations.len() {
+        weights.push(pairs_weight(declarations.pairs(number)))?;
+    }
+    Ok(weights)
 }

@@ -22,14 +22,13 @@ ghost use Rattle.dwz_move.specs.Marked;
 ghost use Rattle.dwz_move.specs.Marked.{Marks, MarksIf, asked_tops, expression_names, expression_pins, if_asked};
 ghost use Rattle.dwz_unit.specs.Rows.{EntryRow, units_of};
 
-use crate::bind::is_expression;
 use crate::tops::from_entry;
-use crate::values::{is_entry, read_expression};
+use crate::values::read_expression;
 use dwz_codes::{DW_AT_SIBLING, class_of};
 use dwz_expr::Operand;
 use dwz_forms::Raw;
 use dwz_model::{NoMemory, Pair, at_or};
-use dwz_unit::{Units, Values, known_value};
+use dwz_unit::{Units, Values, is_entry, is_expression, known_value};
 
 /// For each top whether an operand names an entry of it; and whether one that is a ULEB128 number does.
 #[derive(Drop)]

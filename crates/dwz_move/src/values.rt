@@ -5,9 +5,7 @@ ghost use Rattle.dwz_forms.specs.RawValues.{raw_view};
 ghost use Rattle.dwz_def_reading.specs.Exprs.{Expression, expr_at};
 ghost use Rattle.dwz_def_reading.specs.Meanings;
 ghost use Rattle.dwz_def_reading.specs.Meanings.{MeaningContext, expr_context};
-ghost use Rattle.dwz_move.specs.Values;
 
-use dwz_codes::Class;
 use dwz_expr::{Operand, read_into};
 use dwz_forms::Raw;
 use dwz_model::{DEBUG_INFO, NoMemory, ReadErr};
@@ -21,19 +19,6 @@ pub(crate) fn bytes_of<'a>(raw: &Raw<'a>) -> &'a [u8]
     match raw {
         Raw::Bytes(bytes) => bytes,
         Raw::Number(_) => &[],
-    }
-}
-
-/// Whether a value of that class is an entry.
-#[inline(always)]
-pub(crate) fn is_entry(class: Class) -> bool
-    ensures { result ≡ Values.is_entry class }
-{
-    match class {
-        Class::UnitEntry => true,
-        Class::InfoEntry => true,
-        Class::CommonEntry => true,
-        _ => false,
     }
 }
 

@@ -48,7 +48,7 @@ impl<'u, 'a> EntryWeights<'u, 'a> {
         ensures { IfOk result (λ w. w ≡ units.now) }
     {
         let declarations = units.declarations();
-        let declared = declared_weights(alloc, declarations.pairs())?;
+        let declared = declared_weights(alloc, &declarations)?;
         Ok(EntryWeights {
             units,
             declarations,

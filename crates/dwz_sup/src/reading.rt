@@ -1,16 +1,16 @@
 //! What `.debug_sup` says (DWARF 5, 7.3.6).
 
-ghost use Rattle.std.specs.Prelude.{◌≡◌, ◌+◌, ◌<◌, IfSome, length, take};
+ghost use Rattle.std.specs.Prelude.{◌≡◌, ◌+◌};
 ghost use Rattle.std.specs.Option.{option_map};
 ghost use Rattle.dwz_bytes.specs.Reading.{Gives, uleb_at};
 ghost use Rattle.dwz_def_reading.specs.Supplementary.{flag_read, name_read, read_sup, sum_read};
-ghost use Rattle.dwz_def_reading.specs.Texts.{text_in, zero_ended_at};
+ghost use Rattle.dwz_def_reading.specs.Texts.{zero_ended_at};
 ghost use Rattle.dwz_sup.specs.Readings.{ReadsSup, sup_seen};
 
 use dwz_bytes::{ByteErr, Cursor};
 use dwz_def_reading::Sup;
 use dwz_model::{Blob, DEBUG_SUP, Fault, ReadErr, Reason};
-use memchr::memchr;
+use dwz_strs::text_at;
 use std::alloc::Global;
 
 // The version of `.debug_sup`.
@@ -27,25 +27,16 @@ pub struct SupRef<'a> {
     pub sum: &'a [u8],
 }
 
-// How many bytes stand before the first zero byte.
-fn text_len(bytes: &[u8]) -> Option<usize>
-    ensures text { option_map (λ len. take len bytes.now) result ≡ text_in bytes.now }
-    ensures within { IfSome result (λ len. len < length bytes.now) }
-{
-    memchr(0, bytes)
-}
-
 // The text at the cursor, which is left behind the zero byte.
 fn text<'a>(cursor: &mut Cursor<'a>) -> Result<&'a [u8], ByteErr>
     ensures { Gives (λ t. t.now) cursor.old cursor.new result (zero_ended_at cursor.old) }
 {
     let at = cursor.at();
-    let rest = &cursor.bytes()[at..];
-    match text_len(rest) {
+    match text_at(cursor.bytes(), at as u64) {
         None => Err(ByteErr::Short { at }),
-        Some(len) => {
-            cursor.take(len + 1)?;
-            Ok(&rest[..len])
+        Some(text) => {
+            cursor.take(text.len() + 1)?;
+            Ok(text)
         }
     }
 }

@@ -1,7 +1,7 @@
 //! Tables spelled by hand, by the standard's section 7.5.3.
 
 use crate::expect::{bytes_of, number_of, prints_as, same, split_bar};
-use dwz_abbrev::Table;
+use dwz_abbrev::{ReadTable, Table};
 
 // A table, behind so many bytes that are none of it, how many declarations are passed over, a code; and the first declaration with that
 // code behind those, if there is one. The tables have a compile unit with a name and a base type with a constant; four declarations with
@@ -37,10 +37,15 @@ fn finds_declarations(rt: HostRuntime) {
         let (skip, row) = split_bar(&rt, row);
         let (code, decl) = split_bar(&rt, row);
         let section = bytes_of(&rt, alloc, section);
-        let table = Table::read(alloc, &section, number_of(&rt, at)).expect(&rt, "a table");
+        let at = number_of(&rt, at);
+        let table = Table::read(alloc, &section, at).expect(&rt, "a table");
+        let mut pairs = Vec::new(alloc);
+        let read = ReadTable::read_up_to(alloc, &section, at, &[], &mut pairs).expect(
+            &rt, "a table",
+        );
         let skip = number_of(&rt, skip) as usize;
         let code = u64::from(number_of(&rt, code));
-        let found = match table.place_behind(skip, code) {
+        let found = match read.rows.place_behind(skip, code) {
             Some(place) => table.decls().get(place),
             None => None,
         };
@@ -54,29 +59,52 @@ fn finds_declarations(rt: HostRuntime) {
 // Three declarations with the codes 133, 2 and 1, at 0, 7 and 15; the first code is padded.
 const UNSORTED: &[u8] = b"\x85\x81\0\x34\0\0\0\x02\x34\0\x3e\x21\x7f\0\0\x01\x34\0\0\0\0";
 
-// Stops, where the declarations before the first of them begin, the stop, and these declarations by ascending code.
-const BEGUN: [(&[&[usize]], &[usize], Option<usize>, &[u8]); 2] = [
+// Stops, where the declarations before the first of them begin, the stop, and these declarations. The first name stands at 0 in the row.
+const BEGUN: [(&[&[usize]], &[usize], Option<usize>, &str); 2] = [
     (
         &[],
         &[0, 7, 15],
         None,
-        b"\x01\x34\0\0\0\x02\x34\0\x3e\x21\x7f\0\0\x85\x01\x34\0\0\0\0",
+        "[ReadDecl { code: 133, first: 0, count: 0, tag: 52, children: false }, \
+ReadDecl { code: 2, first: 0, count: 1, tag: 52, children: false }, \
+ReadDecl { code: 1, first: 1, count: 0, tag: 52, children: false }]",
     ),
     (
         &[&[2, 9], &[3, 15, 21]],
         &[0, 7],
         Some(15),
-        b"\x02\x34\0\x3e\x21\x7f\0\0\x85\x01\x34\0\0\0\0",
+        "[ReadDecl { code: 133, first: 0, count: 0, tag: 52, children: false }, \
+ReadDecl { code: 2, first: 0, count: 1, tag: 52, children: false }]",
     ),
 ];
 
 #[test]
-fn reads_up_to_a_stop_and_writes_by_ascending_code(rt: HostRuntime) {
-    for (stops, starts, stop, written) in BEGUN {
-        let read = Table::read_up_to(rt.alloc(), UNSORTED, 0, stops).expect(&rt, "a table");
+fn reads_up_to_a_stop(rt: HostRuntime) {
+    let alloc = rt.alloc();
+    for (stops, starts, stop, decls) in BEGUN {
+        let mut row = Vec::new(alloc);
+        let read = ReadTable::read_up_to(alloc, UNSORTED, 0, stops, &mut row).expect(
+            &rt, "a table",
+        );
         same(&rt, &(read.starts.as_slice(), read.stop), &(starts, stop));
-        let mut out = Vec::new(rt.alloc());
-        read.table.write(&mut out).expect(&rt, "no memory");
-        same(&rt, &out.as_slice(), &written);
+        prints_as(&rt, alloc, "declarations", &read.rows.as_slice(), decls);
+        prints_as(
+            &rt,
+            alloc,
+            "the row",
+            &row,
+            "[Pair { name: 62, form: 33, constant: -1 }]",
+        );
     }
+}
+
+// The table by ascending code.
+const SORTED: &[u8] = b"\x01\x34\0\0\0\x02\x34\0\x3e\x21\x7f\0\0\x85\x01\x34\0\0\0\0";
+
+#[test]
+fn writes_by_ascending_code(rt: HostRuntime) {
+    let table = Table::read(rt.alloc(), UNSORTED, 0).expect(&rt, "a table");
+    let mut out = Vec::new(rt.alloc());
+    table.write(&mut out).expect(&rt, "no memory");
+    same(&rt, &out.as_slice(), &SORTED);
 }

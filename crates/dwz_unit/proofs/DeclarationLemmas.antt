@@ -2,7 +2,7 @@
 use Rattle.std.proofs.Common.{◌≡◌, ℕ, ◌<◌, List, length, map, get_or, Option, Some, sym, ap, ◌∙◌}
 use Rattle.std.specs.List.{All, slice_get}
 use Rattle.std.proofs.lemmas.List.{get_or_default, length-map}
-use Rattle.std.proofs.lemmas.Option.{get_or_from_slice_get, slice_get-map}
+use Rattle.std.proofs.lemmas.Option.{get_or_from_slice_get, same_Some, slice_get-map}
 use Rattle.std.proofs.lemmas.Simd.{map-map}
 use Rattle.std.specs.Option.{option_map}
 use Rattle.dwz_model.specs.declared.place.Pair.{Pair}
@@ -14,6 +14,8 @@ use Rattle.dwz_unit.specs.Declarations.{AreOf, Declarations}
 use Rattle.dwz_unit.specs.Kept.{AreKept, source_of}
 use Rattle.dwz_unit.specs.Known.{KnownRow, known_row, pairs_of, row_view}
 use Rattle.dwz_unit.specs.Named.{named_count}
+use Rattle.dwz_unit.specs.declared.stops.Stop.{Stop}
+use Rattle.dwz_unit.specs.Stops.{stops_of}
 use Rattle.dwz_unit.specs.Rows.{EntryRow, Source, rows_of, units_of}
 use Rattle.dwz_unit.proofs.ShownLemmas.{rows_are, rows_from-length}
 use Rattle.dwz_unit.proofs.ThereLemmas.{EntryThere, decl_within, entry_there}
@@ -64,3 +66,14 @@ named_is info decls source i x there named count are is row found =
     let got : slice_get named x.decl ≡ Some (named_count (pairs_of there.row.entry)) =
     ap (λ (w : List (Option ℕ)). slice_get w x.decl) are ∙ slice_get-map named_count decls x.decl ∙ ap (λ (o : Option (List Pair)). option_map named_count o) pairs in
     is ∙ get_or_from_slice_get named x.decl (named_count (pairs_of there.row.entry)) count got ∙ ap (λ (r : EntryRow). named_count (pairs_of r.entry)) one
+
+-- ---- stops
+
+-- those of the declaration of the i-th entry are those of its values
+pub stops_are : (info : List ℕ) (decls : List (List Pair)) (source : Source) (i : ℕ) (x : Row) → EntryThere info decls source i x → (all : List (List Stop)) (stops : List Stop) (pairs : List Pair) → all ≡ map stops_of decls
+    → slice_get all x.decl ≡ Some stops → ((row : EntryRow) → slice_get (rows_of (units_of source)) i ≡ Some row → pairs ≡ pairs_of row.entry) → stops ≡ stops_of pairs
+stops_are info decls source i x there all stops pairs are found is =
+    let known : slice_get decls x.decl ≡ Some (pairs_of there.row.entry) = ap (λ (w : KnownRow). w.pairs) there.known in
+    let got : slice_get all x.decl ≡ Some (stops_of (pairs_of there.row.entry)) =
+    ap (λ (w : List (List Stop)). slice_get w x.decl) are ∙ slice_get-map stops_of decls x.decl ∙ ap (λ (o : Option (List Pair)). option_map stops_of o) known in
+    same_Some stops (stops_of (pairs_of there.row.entry)) (sym found ∙ got) ∙ ap stops_of (sym (is there.row there.row_is))

@@ -8,7 +8,7 @@ use Rattle.std.specs.Prelude.{slice_get, slice_index_or}
 use Rattle.dwz_def_reading.specs.Abbrevs.{Declaration, find_decl}
 use Rattle.dwz_def_reading.proofs.FindLemmas.{found_behind, still_found}
 use Rattle.dwz_def_reading.proofs.ListFacts.{same_got}
-use Rattle.dwz_unit.specs.declared.joined_table.JoinedTable.{JoinedTable}
+use Rattle.dwz_unit.specs.TableViews.{TableView}
 use Rattle.dwz_unit.specs.declared.tail.Tail.{Tail}
 use Rattle.dwz_unit.specs.Tails.{AreLinked, StartsIn, end_in, tail_in, whole_in}
 
@@ -28,7 +28,7 @@ found_first own rest code None is none = found_behind own rest code is ∙ none
 found_first own rest code (Some d) is none = still_found own rest code d is
 
 -- the declaration of the end of a table behind the first so many: one of its own, or one of what follows them
-module _ (reads : List JoinedTable) (tables : List (List Declaration)) (linked : AreLinked reads tables) (base : ℕ) (r : JoinedTable) (at : slice_get reads base ≡ Some r) (n code : ℕ) where
+module _ (reads : List TableView) (tables : List (List Declaration)) (linked : AreLinked reads tables) (base : ℕ) (r : TableView) (at : slice_get reads base ≡ Some r) (n code : ℕ) where
   abbrev sought : Option Declaration
   sought = find_decl (drop n (slice_index_or tables base [])) code
 
@@ -64,12 +64,12 @@ sum_cut own skip past n small is = go (ltb (2 ^ 64 - 1) (skip + past)) refl wher
       let same : n ≡ skip + past = omega (arith, is, ltb-false (2 ^ 64 - 1) (skip + past) le) in
       ap (λ (k : ℕ). drop k own) same
 
-module _ (reads : List JoinedTable) (tables : List (List Declaration)) (linked : AreLinked reads tables) (t : Tail) (r : JoinedTable) (at : slice_get reads t.base ≡ Some r) (within : StartsIn reads t) (past code n : ℕ) (small : length r.table < 2 ^ 63) (cut : n ≡ min (t.skip + past) (2 ^ 64 - 1)) where
+module _ (reads : List TableView) (tables : List (List Declaration)) (linked : AreLinked reads tables) (t : Tail) (r : TableView) (at : slice_get reads t.base ≡ Some r) (within : StartsIn reads t) (past code n : ℕ) (small : length r.table < 2 ^ 63) (cut : n ≡ min (t.skip + past) (2 ^ 64 - 1)) where
   one_table : within.read ≡ r
   one_table = same_got reads t.base within.read r within.base at
 
   pub skip_within : t.skip ≤ length r.table
-  skip_within = subst (λ (s : JoinedTable). t.skip ≤ length s.table) one_table within.skip
+  skip_within = subst (λ (s : TableView). t.skip ≤ length s.table) one_table within.skip
 
   both_drops : drop past (tail_in tables t) ≡ drop (t.skip + past) (slice_index_or tables t.base [])
   both_drops = drop-drop past t.skip (slice_index_or tables t.base [])

@@ -2,8 +2,9 @@
 
 ghost use Rattle.std.specs.Prelude.{◌≡◌, ◌<◌, Some, length, slice_get};
 
+use crate::flat_rows::PairRows;
 use crate::rows::Row;
-use dwz_model::Pairs;
+use dwz_model::Pair;
 use std::marker::Model;
 
 /// The declarations of all entries (DWARF 5, 7.5.3). They are far fewer than entries, so what follows from names and forms alone is found
@@ -11,7 +12,7 @@ use std::marker::Model;
 #[derive(Drop)]
 pub struct Declarations<'u> {
     pub(crate) entries: &'u [Row],
-    pub(crate) pairs: &'u [Pairs],
+    pub(crate) pairs: &'u PairRows,
 }
 
 impl<'u> Model for Declarations<'u> {
@@ -26,11 +27,19 @@ impl<'u> Model for Declarations<'u> {
 }
 
 impl<'u> Declarations<'u> {
-    /// The names and forms of each, by its number.
-    pub fn pairs(&self) -> &'u [Pairs]
-        ensures { result.now ≡ self.now.pairs }
+    /// How many there are.
+    pub fn len(&self) -> usize
+        ensures { result ≡ length self.now.pairs }
     {
-        self.pairs
+        self.pairs.len()
+    }
+
+    /// The names and forms of the one with a number.
+    pub fn pairs(&self, number: usize) -> &'u [Pair]
+        requires { number < length self.now.pairs }
+        ensures { slice_get self.now.pairs number ≡ Some result.now }
+    {
+        self.pairs.get(number)
     }
 
     /// The number of the declaration of the entry with that number.

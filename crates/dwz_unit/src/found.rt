@@ -2,9 +2,10 @@
 
 ghost use Rattle.std.specs.Prelude.{drop};
 ghost use Rattle.dwz_unit.specs.Found.{StandsIn};
+ghost use Rattle.dwz_unit.specs.RowViews.{in_row};
 ghost use Rattle.dwz_unit.specs.Tails.{FindsFirst, tail_in};
 
-use crate::joined_table::JoinedTable;
+use crate::joined_table::TableInRow;
 use crate::joined_tables::JoinedTables;
 use crate::numbered::Numbered;
 use crate::tail::Tail;
@@ -15,9 +16,9 @@ pub(crate) struct TableTail<'t> {
     pub joined: &'t JoinedTables<'t>,
     pub tail: Tail,
     /// The table with its own declarations. They hold most codes that are looked up, so they are at hand.
-    pub own: &'t JoinedTable,
-    ghost first: { FindsFirst (drop tail.skip own.now.table) (tail_in joined.now.tables tail) },
-    ghost stands: { StandsIn joined.now.decls own.now },
+    pub own: TableInRow<'t>,
+    ghost first: { FindsFirst (drop tail.skip (in_row own).table) (tail_in joined.now.tables tail) },
+    ghost stands: { StandsIn joined.now.decls (in_row own) },
 }
 
 impl<'t> TableTail<'t> {

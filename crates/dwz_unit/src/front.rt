@@ -106,9 +106,8 @@ pub(crate) fn pass_front(
     if before >= context.mode.room as usize {
         return Err(info_fault(at, Reason::TooMany));
     }
-    let pairs = decl.pairs.as_slice();
     let forms = context.mode.forms(context.root_tag, depth);
-    pass_values(forms, at, pairs, cursor)?;
+    pass_values(forms, at, found.pairs, cursor)?;
     Ok(Some(Front {
         at,
         tag: decl.tag,

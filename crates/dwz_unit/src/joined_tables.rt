@@ -1,18 +1,19 @@
 //! Abbreviation tables that were read, and the ends of them that are others.
 
-ghost use Rattle.std.specs.Prelude.{◌≡◌, ◌<◌, ◌++◌, [], IfOk, IfSome, OnOk, drop, length};
+ghost use Rattle.std.specs.Prelude.{◌≡◌, ◌<◌, ◌++◌, [], IfOk, IfSome, OnOk, drop, length, map};
 ghost use Rattle.dwz_def_reading.specs.Abbrevs.{find_decl};
-ghost use Rattle.dwz_abbrev.specs.Views.{views};
-ghost use Rattle.dwz_unit.specs.Found.{Finds, StandsIn, each_pairs};
+ghost use Rattle.dwz_unit.specs.Found.{Finds, StandsIn};
+ghost use Rattle.dwz_unit.specs.RowViews.{in_row, spans_of};
 ghost use Rattle.dwz_unit.specs.Tails.{FindsFirst, FindsTail, HasTail, tail_in};
 
+use crate::flat_rows::{FlatRows, PairRows, Span};
 use crate::joined::{find_past, tail_among};
-use crate::joined_table::JoinedTable;
+use crate::joined_table::{JoinedTable, TableInRow};
 use crate::joins::{close_before, read_joined};
 use crate::numbered::Numbered;
 use crate::tail::Tail;
-use dwz_abbrev::Decl;
-use dwz_model::{NoMemory, Pairs, ReadErr};
+use dwz_abbrev::ReadDecl;
+use dwz_model::{NoMemory, Pair, ReadErr};
 use std::alloc::Global;
 use std::collections::BTreeMap;
 use std::marker::Model;
@@ -23,6 +24,8 @@ use std::marker::Model;
 pub(crate) struct JoinedTables<'a> {
     section: &'a [u8],
     reads: Vec<JoinedTable>,
+    // The names and forms of their declarations.
+    row: Vec<Pair>,
     // The numbers of those whose last own declaration may begin at the last offset that was asked for, or behind it.
     open: Vec<usize>,
     // The end of a table that begins at an offset.
@@ -31,12 +34,15 @@ pub(crate) struct JoinedTables<'a> {
     count: u32,
 }
 
-// Appends the names and forms of each declaration.
-fn put_pairs(decls: Vec<Decl>, all: &mut Vec<Pairs>) -> Result<(), NoMemory>
-    ensures { OnOk result (all.new.items ≡ all.old.items ++ each_pairs (views decls.items)) }
+// Appends where the names and forms of each declaration are in the row.
+fn put_spans(decls: &[ReadDecl], spans: &mut Vec<Span>) -> Result<(), NoMemory>
+    ensures { OnOk result (spans.new.items ≡ spans.old.items ++ spans_of decls.now) }
 {
     for decl in decls {
-        all.push(decl.pairs)?;
+        spans.push(Span {
+            first: decl.first,
+            count: decl.count,
+        })?;
     }
     Ok(())
 }
@@ -46,11 +52,12 @@ impl<'a> Model for JoinedTables<'a> {
 
     ghost Value = { Stored };
 
+    ghost use Rattle.dwz_unit.specs.TableViews.{HaveRow, table_views};
     ghost use Rattle.dwz_unit.specs.Tails.{AreJoinedTables, read_from};
 
-    ghost view = { λ b. read_from b.section.now b.reads.items };
+    ghost view = { λ b. read_from b.section.now (table_views b.row.items b.reads.items) };
 
-    ghost invariant = { λ b. AreJoinedTables b.section.now b.reads.items b.tails b.count };
+    ghost invariant = { λ b. AreJoinedTables b.section.now (table_views b.row.items b.reads.items) b.tails b.count × HaveRow b.row.items b.reads.items };
 }
 
 impl<'a> JoinedTables<'a> {
@@ -61,6 +68,7 @@ impl<'a> JoinedTables<'a> {
         JoinedTables {
             section,
             reads: Vec::new(alloc),
+            row: Vec::new(alloc),
             open: Vec::new(alloc),
             tails: BTreeMap::new(alloc),
             count: 0,
@@ -84,9 +92,10 @@ impl<'a> JoinedTables<'a> {
         if let Some(tail) = tail_among(reads, open, offset as usize) {
             return Ok(tail);
         }
-        let read = read_joined(alloc, self.section, offset, reads, open, self.count)?;
+        let row = &mut self.row;
+        let read = read_joined(alloc, self.section, offset, reads, open, self.count, row)?;
         let base = self.reads.len();
-        let count = self.count + read.table.len() as u32;
+        let count = self.count + read.rows.len() as u32;
         self.reads.push(read)?;
         self.count = count;
         self.open.push(base)?;
@@ -110,12 +119,15 @@ impl<'a> JoinedTables<'a> {
 
     /// The table of which that is an end. Its own declarations that aren't passed over are found first in the end.
     #[inline(always)]
-    pub fn own(&self, tail: Tail) -> &JoinedTable
+    pub fn own(&self, tail: Tail) -> TableInRow<'_>
         requires { tail.base < length self.now.tables }
-        ensures first { FindsFirst (drop tail.skip result.now.table) (tail_in self.now.tables tail) }
-        ensures stands { StandsIn self.now.decls result.now }
+        ensures first { FindsFirst (drop tail.skip (in_row result).table) (tail_in self.now.tables tail) }
+        ensures stands { StandsIn self.now.decls (in_row result) }
     {
-        &self.reads[tail.base]
+        TableInRow {
+            read: &self.reads[tail.base],
+            row: self.row.as_slice(),
+        }
     }
 
     /// The declaration with a code of the end of one of these tables. None exactly where it has none.
@@ -124,22 +136,24 @@ impl<'a> JoinedTables<'a> {
         ensures { Finds self.now.decls (find_decl (tail_in self.now.tables tail) code) result }
     {
         let read = self.reads.get(tail.base)?;
-        if let Some(found) = read.own(tail.skip, code) {
+        let row = self.row.as_slice();
+        let table = TableInRow { read, row };
+        if let Some(found) = table.own(tail.skip, code) {
             return Some(found);
         }
-        let past = tail.skip.saturating_sub(read.table.len());
-        find_past(self.reads.as_slice(), read.next?, past, code)
+        let past = tail.skip.saturating_sub(read.rows.len());
+        find_past(self.reads.as_slice(), row, read.next?, past, code)
     }
 
     /// The names and forms of all declarations, by their numbers.
-    pub fn into_pairs(self, alloc: Global) -> Result<Vec<Pairs>, NoMemory>
-        ensures { IfOk result (λ all. all.items ≡ self.entry.decls) }
+    pub fn into_pairs(self, alloc: Global) -> Result<PairRows, NoMemory>
+        ensures { IfOk result (λ pairs. pairs ≡ self.entry.decls) }
     {
-        let JoinedTables { reads, .. } = self;
-        let mut all = Vec::new(alloc);
-        for read in reads {
-            put_pairs(read.table.into_decls(), &mut all)?;
+        let JoinedTables { reads, row, .. } = self;
+        let mut spans = Vec::new(alloc);
+        for read in reads.as_slice() {
+            put_spans(read.rows.as_slice(), &mut spans)?;
         }
-        Ok(all)
+        Ok(FlatRows::from_parts(row, spans))
     }
 }

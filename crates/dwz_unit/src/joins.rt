@@ -7,13 +7,17 @@
 
 ghost use Rattle.std.specs.Prelude.{◌≡◌, IfErr, IfOk};
 ghost use Rattle.dwz_model.specs.declared.fault.ReadErr.TheVariants.{NoMemory};
-ghost use Rattle.dwz_unit.specs.Tails.{AreReadTables, FindsJoined, whole_tables};
+ghost use Rattle.dwz_abbrev.specs.Written.{Begins};
+ghost use Rattle.dwz_def_reading.specs.Abbrevs.{table_at};
+ghost use Rattle.dwz_def_reading.specs.Faults.{Fails};
+ghost use Rattle.dwz_unit.specs.TableViews.{HasRow, HaveRow, table_views};
+ghost use Rattle.dwz_unit.specs.Tails.{AreReadTables, FindsJoined, IsWhole, whole_tables};
 
 use crate::joined::{are_apart, tail_among};
 use crate::joined_table::JoinedTable;
 use crate::tail::Tail;
-use dwz_abbrev::{ReadTable, Table};
-use dwz_model::{NoMemory, ReadErr};
+use dwz_abbrev::{ReadRows, ReadTable};
+use dwz_model::{NoMemory, Pair, ReadErr};
 use std::alloc::Global;
 
 // Whether the last declaration of a table's own begins at a place or behind it.
@@ -49,28 +53,49 @@ fn starts_of<'t>(
 
 // A table that was read, whose declarations have the numbers from that one on, if these fit 32 bits.
 fn joined(
-    table: Table,
+    rows: ReadRows,
     starts: Vec<usize>,
     next: Option<Tail>,
     first: u32,
 ) -> Result<JoinedTable, ReadErr>
-    ensures ok { IfOk result (λ r. (r.table ≡ table) × (r.starts.items ≡ starts.items) × (r.next ≡ next) × (r.first ≡ first)) }
+    ensures ok { IfOk result (λ r. (r.rows ≡ rows) × (r.starts.items ≡ starts.items) × (r.next ≡ next) × (r.first ≡ first)) }
     ensures err { IfErr result (λ e. e ≡ NoMemory) }
 {
-    if table.len() > (u32::MAX - first) as usize {
+    if rows.len() > (u32::MAX - first) as usize {
         return Err(ReadErr::NoMemory);
     }
     Ok(JoinedTable {
-        table,
+        rows,
         starts,
         next,
         first,
     })
 }
 
+// Reads the whole table at an offset, whose declarations have the numbers from that one on.
+fn read_whole(
+    alloc: Global,
+    section: &[u8],
+    offset: u32,
+    first: u32,
+    row: &mut Vec<Pair>,
+) -> Result<JoinedTable, ReadErr>
+    ensures read { IfOk result (λ r. IsWhole section.now row.new.items offset r) }
+    ensures fault { IfErr result (λ e. Fails e (table_at section.now offset)) }
+    ensures first { IfOk result (λ r. r.first ≡ first) }
+    ensures within { IfOk result (HasRow row.new.items) }
+    ensures begins { Begins row.old.items row.new.items }
+{
+    let ReadTable { rows, stop, .. } = ReadTable::read_up_to(alloc, section, offset, &[], row)?;
+    if stop.is_some() {
+        unreachable!()
+    }
+    joined(rows, Vec::new(alloc), None, first)
+}
+
 /// Reads the table at an offset, up to the first of its declarations that begins where one does of the open tables. A code that
 /// stands again behind that place is a fault of the table, which is found by reading it whole. Its declarations have the numbers from
-/// `first` on; NoMemory is answered too where they don't fit 32 bits.
+/// `first` on; NoMemory is answered too where they don't fit 32 bits. Names and forms are appended to the row.
 pub(crate) fn read_joined(
     alloc: Global,
     section: &[u8],
@@ -78,30 +103,37 @@ pub(crate) fn read_joined(
     reads: &[JoinedTable],
     open: &[usize],
     first: u32,
+    row: &mut Vec<Pair>,
 ) -> Result<JoinedTable, ReadErr>
-    requires { AreReadTables section.now reads.now (whole_tables reads.now) }
-    ensures read { FindsJoined section.now reads.now offset result }
+    requires known { AreReadTables section.now (table_views row.old.items reads.now) (whole_tables (table_views row.old.items reads.now)) }
+    requires row { HaveRow row.old.items reads.now }
+    ensures read { FindsJoined section.now row.new.items reads.now offset result }
     ensures first { IfOk result (λ r. r.first ≡ first) }
+    ensures within { IfOk result (HasRow row.new.items) }
+    ensures begins { Begins row.old.items row.new.items }
 {
     let stops = starts_of(alloc, reads, open)?;
-    let ReadTable {
-        table,
-        starts,
-        stop,
-    } = Table::read_up_to(alloc, section, offset, stops.as_slice())?;
+    let len = row.len();
+    let ReadTable { rows, starts, stop } = ReadTable::read_up_to(
+        alloc,
+        section,
+        offset,
+        stops.as_slice(),
+        row,
+    )?;
     let next = match stop {
         Some(place) => tail_among(reads, open, place),
         None => {
-            return joined(table, starts, None, first);
+            return joined(rows, starts, None, first);
         }
     };
     match next {
-        Some(tail) if are_apart(reads, table.decls(), tail) => joined(table, starts, next, first),
-        _ => joined(
-            Table::read(alloc, section, offset)?,
-            Vec::new(alloc),
-            None,
-            first,
-        ),
+        Some(tail) if are_apart(reads, row.as_slice(), rows.as_slice(), tail) => {
+            joined(rows, starts, next, first)
+        }
+        _ => {
+            row.truncate(len);
+            read_whole(alloc, section, offset, first, row)
+        }
     }
 }

@@ -6,11 +6,14 @@ ghost use Rattle.dwz_def_reading.specs.Classes;
 ghost use Rattle.dwz_unit.specs.Named as Specs;
 ghost use Rattle.dwz_unit.specs.Named.{names_entry};
 
+use crate::flat_rows::PairRows;
 use dwz_codes::{Class, DW_AT_SIBLING, class_of};
-use dwz_model::{NoMemory, Pair, Pairs};
+use dwz_model::{NoMemory, Pair};
 use std::alloc::Global;
 
-fn is_entry(class: Class) -> bool
+/// Whether a value of the class is an entry.
+#[inline(always)]
+pub fn is_entry(class: Class) -> bool
     ensures { result ≡ Specs.is_entry class }
 {
     match class {
@@ -21,7 +24,9 @@ fn is_entry(class: Class) -> bool
     }
 }
 
-fn is_expression(class: Class) -> bool
+/// Whether a value of the class is an expression.
+#[inline(always)]
+pub fn is_expression(class: Class) -> bool
     ensures { result ≡ Specs.is_expression class }
 {
     match class {
@@ -59,11 +64,12 @@ fn named_count(pairs: &[Pair]) -> Option<usize>
 }
 
 /// The same of each of these declarations.
-pub(crate) fn named_counts(alloc: Global, decls: &[Pairs]) -> Result<Vec<Option<usize>>, NoMemory>
+pub(crate) fn named_counts(alloc: Global, decls: &PairRows) -> Result<Vec<Option<usize>>, NoMemory>
     ensures { IfOk result (λ v. v.items ≡ map Specs.named_count decls.now) }
 {
-    decls
-        .iter()
-        .map(|pairs| named_count(pairs.as_slice()))
-        .collect(alloc)
+    let mut counts = Vec::with_capacity(alloc, decls.len())?;
+    for number in 0..decls.len() {
+        counts.push(named_count(decls.get(number)))?;
+    }
+    Ok(counts)
 }

@@ -1,9 +1,11 @@
-use Rattle.std.proofs.Common.{◌≡◌, [], length}
+use Rattle.std.proofs.Common.{◌≡◌, [], drop, length}
 use Rattle.dwz_def_reading.specs.Abbrevs.{pairs_at}
+use Rattle.dwz_abbrev.specs.Written.{Begins}
 use Rattle.dwz_abbrev.proofs.reading.pairs.Given as goal
 
-abbrev pub invariant-loop-pairs : goal.invariant-loop-pairs
-invariant-loop-pairs l = pairs_at l.start l.pairs.items l.cursor ≡ pairs_at l.start [] l.fn.cursor
+abbrev pub invariant-loop-pair : goal.invariant-loop-pair
+invariant-loop-pair l =
+    Begins l.initial.row.items l.row.items × (pairs_at l.start (drop (length l.initial.row.items) l.row.items) l.cursor ≡ pairs_at l.start [] l.initial.cursor)
 
-abbrev pub decreases-loop-pairs : goal.decreases-loop-pairs
-decreases-loop-pairs l = length l.cursor.rest
+abbrev pub decreases-loop-pair : goal.decreases-loop-pair
+decreases-loop-pair l = length l.cursor.rest

@@ -7,7 +7,7 @@ use Rattle.dwz_graph.proofs.AheadLemmas.{read_behind}
 use Rattle.dwz_graph.proofs.ahead.file_behind.Goals as goal
 
 pub returns-then-is_enough : goal.returns-then-is_enough
-returns-then-is_enough c =
+returns-then-is_enough g c =
     let number = c.args.number in
     let bytes = c.args.bytes.now in
     let h : IsAhead number bytes c.in-Some.file = subst (λ (o : Option File). IfSome o (IsAhead number bytes)) c.in-Some.is c.requires in

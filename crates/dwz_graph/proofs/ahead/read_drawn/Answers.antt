@@ -7,7 +7,7 @@ use Rattle.dwz_graph.specs.declared.ahead.Found.{Found}
 use Rattle.dwz_graph.proofs.ahead.read_drawn.Goals as goal
 
 pub loop-draw-preserved : goal.loop-draw-preserved
-loop-draw-preserved c =
+loop-draw-preserved g c =
     let contents : List (List ℕ) = map (λ v. v.items) c.args.files.now in
     let old : List Found = c.loop-draw.found.items in
     let one = c.in-Ok.one in

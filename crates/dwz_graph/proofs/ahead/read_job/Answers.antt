@@ -10,7 +10,7 @@ abbrev content : Vec ℕ Global → List ℕ
 content v = v.items
 
 pub returns : goal.returns
-returns c =
+returns g c =
     let files : List (Vec ℕ Global) = c.args.files.now in
     let n = c.args.job.now.number in
     let v = c.index-files-number.result in

@@ -76,6 +76,8 @@ file_behind-requires g c =
     let x = c.index-files-number.result in
     let slots : List (Option File) = c.loop-number.ahead.items in
     let len = c.loop-number.invariant.len in
-    let is = slice_get-map content files i ∙ ap (option_map content) (item_got files i x (omega arith) c.index-files-number.is) in
-    subst (λ (b : List ℕ). IfSome c.take-done.result (IsAhead i b)) (sym c.as_slice.ensures.value)
-    (here (map content files) slots i x.items c.take-done.result _ (omega arith) (c.take-done.ensures.value ∙ c.index_mut.ensures.value) is c.loop-number.invariant.ahead)
+    let is = slice_get-map content files i ∙ ap (option_map content) (item_got files i x (omega arith) c.index-files-number.is) in (
+      c.type_bounds.sync-R,
+      subst (λ (b : List ℕ). IfSome c.take-done.result (IsAhead i b)) (sym c.as_slice.ensures.value)
+          (here (map content files) slots i x.items c.take-done.result _ (omega arith) (c.take-done.ensures.value ∙ c.index_mut.ensures.value) is c.loop-number.invariant.ahead),
+    )

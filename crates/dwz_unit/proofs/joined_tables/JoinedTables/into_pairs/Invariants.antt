@@ -1,6 +1,12 @@
-use Rattle.std.proofs.Common.{◌≡◌, ◌++◌}
+use Rattle.std.proofs.Common.{◌≡◌, length, map, take}
+use Rattle.std.specs.Prelude.{All}
 use Rattle.dwz_unit.specs.Found.{all_pairs}
+use Rattle.dwz_unit.specs.Spans.{IsWithin, part_of}
+use Rattle.dwz_unit.specs.TableViews.{table_views}
 use Rattle.dwz_unit.proofs.joined_tables.JoinedTables.into_pairs.Given as goal
 
 abbrev pub invariant-loop-read : goal.invariant-loop-read
-invariant-loop-read l = l.all.items ++ all_pairs l.read-iterator.rest.items ≡ l.fn.self.decls
+invariant-loop-read l = record {
+  pairs : map (part_of l.row.items) l.spans.items ≡ all_pairs (table_views l.row.items (take l.read-index l.read-items));
+  within : All (IsWithin (length l.row.items)) l.spans.items;
+}

@@ -2,18 +2,18 @@ use Rattle.std.proofs.Common.{ap, sym, ◌∙◌, arith}
 use Rattle.dwz_bytes.specs.Input.{Input}
 use Rattle.dwz_bytes.specs.Reading.{uleb_at}
 use Rattle.dwz_unit.proofs.ShownLemmas.{entries_are}
-use Rattle.dwz_unit.proofs.ThereLemmas.{EntryThere, code_is, decl_within, entry_there, plain_are, short_there, values_are}
+use Rattle.dwz_unit.proofs.ThereLemmas.{EntryThere, code_is, decl_within, entry_there, got_is, pairs_by_row, plain_are, short_there, values_are}
 use Rattle.dwz_unit.proofs.units.Units.known_values.Goals as goal
 use Rattle.dwz_unit.proofs.units.Units.known_values.Goals.{After-index-row}
 
 -- the entry, and what is kept of it
-there : (c : After-index-row) → EntryThere c.self.inside.info.now c.self.inside.decls.items c.args.self.now c.args.i c.index-row.result.now
-there c = entry_there c.self.inside.info.now c.self.inside.abbrevs.now c.self.inside.mode c.self.inside.units.items c.self.inside.entries.items c.self.inside.decls.items c.args.self.now c.self.invariant.0 c.self.view_is c.args.i c.index-row.result.now
-    (omega (arith, entries_are c.self.inside.info.now c.self.inside.abbrevs.now c.self.inside.mode c.self.inside.units.items c.self.inside.entries.items c.self.inside.decls.items c.args.self.now c.self.invariant.0 c.self.view_is, c.requires)) c.index-row.ensures
+there : (c : After-index-row) → EntryThere c.self.inside.info.now c.self.inside.decls c.args.self.now c.args.i c.index-row.result.now
+there c = entry_there c.self.inside.info.now c.self.inside.abbrevs.now c.self.inside.mode c.self.inside.units.items c.self.inside.entries.items c.self.inside.decls c.args.self.now c.self.invariant.0 c.self.view_is c.args.i c.index-row.result.now
+    (omega (arith, entries_are c.self.inside.info.now c.self.inside.abbrevs.now c.self.inside.mode c.self.inside.units.items c.self.inside.entries.items c.self.inside.decls c.args.self.now c.self.invariant.0 c.self.view_is, c.requires)) c.index-row.ensures
 
 pub index-row-requires : goal.index-row-requires
 index-row-requires c =
-    let are = entries_are c.self.inside.info.now c.self.inside.abbrevs.now c.self.inside.mode c.self.inside.units.items c.self.inside.entries.items c.self.inside.decls.items c.args.self.now c.self.invariant.0 c.self.view_is in
+    let are = entries_are c.self.inside.info.now c.self.inside.abbrevs.now c.self.inside.mode c.self.inside.units.items c.self.inside.entries.items c.self.inside.decls c.args.self.now c.self.invariant.0 c.self.view_is in
     omega (arith, are, c.requires, c.self.inside.entries.ok.0)
 
 pub new-cursor-requires : goal.new-cursor-requires
@@ -25,26 +25,31 @@ new-cursor-requires c =
 pub unreachable-requires : goal.unreachable-requires
 unreachable-requires c =
     let e = there (goal.at.unreachable-requires c).After-index-row in
-    code_is c.self.inside.info.now c.self.inside.decls.items c.args.self.now c.args.i c.index-row.result.now e c.in_default.field-0 (ap (λ (q : Input). uleb_at q) (sym c.new-cursor.ensures) ∙ c.in_default.ensures.0)
+    code_is c.self.inside.info.now c.self.inside.decls c.args.self.now c.args.i c.index-row.result.now e c.in_default.field-0 (ap (λ (q : Input). uleb_at q) (sym c.new-cursor.ensures) ∙ c.in_default.ensures.0)
 
-pub index-requires : goal.index-requires
-index-requires c =
-    let e = there (goal.at.index-requires c).After-index-row in
-    omega (arith, decl_within c.self.inside.info.now c.self.inside.decls.items c.args.self.now c.args.i c.index-row.result.now e, c.self.inside.decls.ok.0)
+pub get-requires : goal.get-requires
+get-requires c =
+    let e = there (goal.at.get-requires c).After-index-row in
+    decl_within c.self.inside.info.now c.self.inside.decls c.args.self.now c.args.i c.index-row.result.now e
 
 pub returns-clause-read : goal.returns-clause-read
 returns-clause-read c =
     let e = there (goal.at.returns-clause-read c).After-index-row in
-    values_are c.self.inside.info.now c.self.inside.decls.items c.args.self.now c.args.i c.index-row.result.now e c.in-Ok._code c.uleb.new.self c.as_slice.result.now
-    (ap (λ (q : Input). uleb_at q) (sym c.new-cursor.ensures) ∙ c.in-Ok.ensures) (rw c.as_slice.ensures c.index.ensures)
+    values_are c.self.inside.info.now c.self.inside.decls c.args.self.now c.args.i c.index-row.result.now e c.in-Ok._code c.uleb.new.self c.get.result.now
+    (ap (λ (q : Input). uleb_at q) (sym c.new-cursor.ensures) ∙ c.in-Ok.ensures) (got_is c.self.inside.info.now c.self.inside.decls c.args.self.now c.args.i c.index-row.result.now e c.get.result.now c.get.ensures)
+
+pub returns-clause-pairs : goal.returns-clause-pairs
+returns-clause-pairs c =
+    let e = there (goal.at.returns-clause-pairs c).After-index-row in
+    pairs_by_row c.self.inside.info.now c.self.inside.decls c.args.self.now c.args.i c.index-row.result.now e c.get.result.now c.get.ensures
 
 pub returns-clause-plain : goal.returns-clause-plain
 returns-clause-plain c =
     let e = there (goal.at.returns-clause-plain c).After-index-row in
-    plain_are c.self.inside.info.now c.self.inside.decls.items c.args.self.now c.args.i c.index-row.result.now e c.as_slice.result.now (rw c.as_slice.ensures c.index.ensures)
+    plain_are c.self.inside.info.now c.self.inside.decls c.args.self.now c.args.i c.index-row.result.now e c.get.result.now (got_is c.self.inside.info.now c.self.inside.decls c.args.self.now c.args.i c.index-row.result.now e c.get.result.now c.get.ensures)
 
 pub returns-clause-short : goal.returns-clause-short
 returns-clause-short c =
     let e = there (goal.at.returns-clause-short c).After-index-row in
-    short_there c.self.inside.info.now c.self.inside.decls.items c.args.self.now c.args.i c.index-row.result.now e c.in-Ok._code c.uleb.new.self
+    short_there c.self.inside.info.now c.self.inside.decls c.args.self.now c.args.i c.index-row.result.now e c.in-Ok._code c.uleb.new.self
     (ap (λ (q : Input). uleb_at q) (sym c.new-cursor.ensures) ∙ c.in-Ok.ensures) c.self.invariant.0.short

@@ -1,0 +1,28 @@
+use Rattle.std.proofs.Common.{◌≡◌, ◌+◌, ◌++◌, ◌∷◌, [], List, take, Some, sym, ap, ◌∙◌}
+use Rattle.std.specs.Prelude.{slice_get}
+use Rattle.std.proofs.lemmas.List.{take_more}
+use Rattle.std.proofs.lemmas.Option.{slice_get-get_or}
+use Rattle.dwz_abbrev.specs.declared.read_decl.ReadDecl.{ReadDecl}
+use Rattle.dwz_unit.specs.declared.joined_table.JoinedTable.{JoinedTable}
+use Rattle.dwz_unit.specs.RowViews.{spans_of}
+use Rattle.dwz_unit.proofs.TableRowLemmas.{has_at, spans_more, spans_within}
+use Rattle.dwz_unit.proofs.joined_tables.JoinedTables.into_pairs.Goals as goal
+
+pub loop-read-preserved : goal.loop-read-preserved
+loop-read-preserved c =
+    let row = c.self.inside.row.items in
+    let reads = c.as_slice-read-items.result.now in
+    let i = c.loop-read.read-index in
+    let r = c.read-item.result in
+    let spans = c.loop-read.spans.items in
+    let new = c.put_spans.new.spans.items in
+    let more : take (i + 1) reads ≡ take i reads ++ r ∷ [] = take_more reads i r c.loop-read-test.true ∙ ap (λ (e : JoinedTable). take i reads ++ e ∷ []) (sym c.read-item.is) in
+    let is : new ≡ spans ++ spans_of r.rows = c.in_ok-put_spans.ensures ∙ ap (λ (ds : List ReadDecl). spans ++ spans_of ds) c.as_slice.ensures in
+    let at : slice_get c.self.inside.reads.items i ≡ Some r =
+    ap (λ (w : List JoinedTable). slice_get w i) (sym c.as_slice-read-items.ensures.value)
+    ∙ slice_get-get_or reads i r c.loop-read-test.true
+    ∙ ap (λ (e : JoinedTable). Some e) (sym c.read-item.is) in
+    record {
+      pairs = spans_more row reads i r spans new more c.loop-read.invariant.pairs is;
+      within = spans_within row r spans new (has_at row c.self.inside.reads.items i r c.self.invariant.1 at) c.loop-read.invariant.within is;
+    }

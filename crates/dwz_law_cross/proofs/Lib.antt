@@ -1,0 +1,11 @@
+pub mod NamePairs
+pub mod PairLemmas
+pub mod BesideLemmas
+pub mod MeetLemmas
+pub mod RenumberLemmas
+pub mod CheckLemmas
+pub mod ReadLemmas
+pub mod StandLemmas
+pub mod SupLemmas
+pub mod FinishedLemmas
+pub mod StayLemmas

@@ -1,0 +1,6 @@
+pub mod PairLaws
+pub mod BesideLaws
+pub mod CheckLaws
+pub mod ReadLaws
+pub mod SupLaws
+pub mod FinishedLaws

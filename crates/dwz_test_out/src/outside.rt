@@ -53,6 +53,8 @@ const FOLDERS: &[Folder] = &[
             ("by another name", "/./a", Puts(b"lost", false)),
             ("still there", "/a", Got(Some(b"old"))),
             ("by its name", "/a", Puts(b"new", true)),
+            ("replaced, by another name", "/./a", Puts(b"newer", true)),
+            ("put there", "/a", Got(Some(b"newer"))),
             ("a long name", LONG, Puts(b"long", true)),
             ("which is there", LONG, Got(Some(b"long"))),
         ],

@@ -3,16 +3,18 @@
 readers know.
 
     tools/gnu_forms.py COMMON FILE... --into FOLDER
+    tools/gnu_forms.py COMMON FILE... --in-place
 
-In FOLDER each file gets a copy of the same name: DW_FORM_ref_sup4 and DW_FORM_strp_sup become DW_FORM_GNU_ref_alt and
-DW_FORM_GNU_strp_alt, and `.debug_sup` becomes `.gnu_debugaltlink`. COMMON's `.debug_sup` becomes a build ID of the first 20 bytes of
-the checksum, by which the two are matched. Nothing else changes but where `.debug_abbrev` stands: gdb 13 and readelf 2.40 can then be
-asked what they read. It is a helper of `tools/compare_real.py`, and no part of the program. It takes files as the program writes
-them: ELF64, little-endian, 32-bit DWARF 5, tables of abbreviations one behind the other.
+DW_FORM_ref_sup4 and DW_FORM_strp_sup become DW_FORM_GNU_ref_alt and DW_FORM_GNU_strp_alt, and `.debug_sup` becomes
+`.gnu_debugaltlink`. COMMON's `.debug_sup` becomes a build ID of the first 20 bytes of the checksum, by which the two are matched. In
+FOLDER each file gets a copy of the same name; with --in-place the files themselves are replaced. All have the permissions that they
+had. Loaded bytes stay where they are; sections behind them stand one behind the other. It takes files as the program writes them:
+ELF64, little-endian, 32-bit DWARF 5, tables of abbreviations one behind the other; one that names no supplementary file stays.
 """
 
 import argparse
 import os
+import stat
 import struct
 
 REF_SUP4, STRP_SUP, IMPLICIT_CONST = 0x1c, 0x1d, 0x21
@@ -20,7 +22,7 @@ REF_SUP4, STRP_SUP, IMPLICIT_CONST = 0x1c, 0x1d, 0x21
 # the forms before, as they are spelled
 OLD_FORMS = {REF_SUP4: bytes.fromhex("a03e"), STRP_SUP: bytes.fromhex("a13e")}
 
-NOTE = 7
+NULL, NOTE, NOBITS, LOADED = 0, 7, 8, 2
 
 HEADER = struct.Struct("<IIQQQQIIQQ")
 
@@ -81,17 +83,21 @@ def checksum_of(sup):
 
 
 class File:
-    """An ELF64 file, whose sections may be replaced: what is new stands at the end."""
+    """An ELF64 file, whose sections may be replaced."""
 
     def __init__(self, data):
-        self.data = bytearray(data)
-        self.headers_at, = struct.unpack_from("<Q", data, 40)
+        self.data = data
+        headers_at, = struct.unpack_from("<Q", data, 40)
         count, self.names = struct.unpack_from("<HH", data, 60)
-        self.headers = [list(HEADER.unpack_from(data, self.headers_at + 64 * n)) for n in range(count)]
+        self.headers = [list(HEADER.unpack_from(data, headers_at + 64 * n)) for n in range(count)]
+        self.contents = [self.stored(n) for n in range(count)]
+
+    def stored(self, number):
+        _, kind, _, _, at, size, *_ = self.headers[number]
+        return b"" if kind in (NULL, NOBITS) else self.data[at:at + size]
 
     def content(self, number):
-        _, _, _, _, at, size, *_ = self.headers[number]
-        return bytes(self.data[at:at + size])
+        return self.contents[number]
 
     def number(self, name):
         names = self.content(self.names)
@@ -101,22 +107,48 @@ class File:
         return None
 
     def replace(self, number, content, kind=None, align=1):
-        self.data += bytes(-len(self.data) % 8)
         header = self.headers[number]
         header[1] = header[1] if kind is None else kind
-        header[4:6] = [len(self.data), len(content)]
         header[8] = align
-        self.data += content
+        self.contents[number] = content
 
     def rename(self, number, name):
         names = self.content(self.names)
         self.headers[number][0] = len(names)
         self.replace(self.names, names + name + b"\0")
 
+    def kept_end(self):
+        """The place behind all that is loaded: it stays."""
+        segments_at, = struct.unpack_from("<Q", self.data, 32)
+        size, count = struct.unpack_from("<HH", self.data, 54)
+        end = max(64, segments_at + size * count if count else 0)
+        for at in range(segments_at, segments_at + size * count, size or 1):
+            offset, = struct.unpack_from("<Q", self.data, at + 8)
+            length, = struct.unpack_from("<Q", self.data, at + 32)
+            end = max(end, offset + length)
+        for _, kind, flags, _, at, length, *_ in self.headers:
+            if flags & LOADED and kind not in (NULL, NOBITS):
+                end = max(end, at + length)
+        return end
+
     def finish(self):
-        for number, header in enumerate(self.headers):
-            HEADER.pack_into(self.data, self.headers_at + 64 * number, *header)
-        return bytes(self.data)
+        end = self.kept_end()
+        out = bytearray(self.data[:end])
+        order = sorted(range(len(self.headers)), key=lambda n: self.headers[n][4])
+        for number in order:
+            header = self.headers[number]
+            if header[1] in (NULL, NOBITS) or header[2] & LOADED:
+                continue
+            if header[4] < end:
+                raise SystemExit("a section that isn't loaded stands among loaded bytes")
+            out += bytes(-len(out) % max(header[8], 1))
+            header[4:6] = [len(out), len(self.contents[number])]
+            out += self.contents[number]
+        out += bytes(-len(out) % 8)
+        struct.pack_into("<Q", out, 40, len(out))
+        for header in self.headers:
+            out += HEADER.pack(*header)
+        return bytes(out)
 
 
 def rewritten(data):
@@ -140,17 +172,32 @@ def rewritten(data):
     return file.finish()
 
 
+def put(path, like, data):
+    """Writes a file, with the permissions of another, and gives it its name once it is whole."""
+    new = path + ".gnu-tmp"
+    with open(new, "xb") as file:
+        file.write(data)
+    os.chmod(new, stat.S_IMODE(os.stat(like).st_mode))
+    os.replace(new, path)
+
+
 def main():
     parser = argparse.ArgumentParser(description=__doc__, formatter_class=argparse.RawDescriptionHelpFormatter)
     parser.add_argument("files", nargs="+")
-    parser.add_argument("--into", required=True)
+    where = parser.add_mutually_exclusive_group(required=True)
+    where.add_argument("--into")
+    where.add_argument("--in-place", action="store_true")
     options = parser.parse_args()
-    os.makedirs(options.into, exist_ok=True)
+    if options.into:
+        os.makedirs(options.into, exist_ok=True)
     for path in options.files:
         with open(path, "rb") as file:
             data = file.read()
-        with open(os.path.join(options.into, os.path.basename(path)), "wb") as file:
-            file.write(rewritten(data))
+        new = rewritten(data)
+        if options.into:
+            put(os.path.join(options.into, os.path.basename(path)), path, new)
+        elif new != data:
+            put(path, path, new)
 
 
 if __name__ == "__main__":

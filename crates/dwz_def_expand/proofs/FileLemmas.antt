@@ -6,13 +6,11 @@ use Rattle.dwz_model.specs.Lists.{In, NoneTwice}
 use Rattle.dwz_model.specs.declared.fault.Refusal.{Refusal}
 use Rattle.dwz_model.proofs.Members.{in_map_from}
 use Rattle.dwz_model.proofs.OnceLemmas.{none_append, none_map}
-use Rattle.dwz_def_reading.specs.Documents.{Doc, DwUnit, Entries}
-use Rattle.dwz_def_reading.specs.Entries.{RawEntry}
+use Rattle.dwz_def_reading.specs.Documents.{Doc, DwUnit}
 use Rattle.dwz_def_reading.specs.Files.{Limits, ReadsBy, debug_abbrev, debug_info}
-use Rattle.dwz_def_reading.specs.Meanings.{Around, MeanEntries, MeanUnits, MeaningContext, places_in, scope_of}
+use Rattle.dwz_def_reading.specs.Meanings.{Around, MeanUnits, places_in, scope_of}
 use Rattle.dwz_def_reading.specs.Places.{Place, at_file}
 use Rattle.dwz_def_reading.specs.Rules.{ReadingRule}
-use Rattle.dwz_def_reading.specs.Trees.{End, Entry, Forest}
 use Rattle.dwz_def_reading.specs.Units.{RawUnit}
 use Rattle.dwz_def_reading.proofs.PlacesRise.{all_raw_keys, rise_none, units_rise}
 use Rattle.dwz_def_tops.specs.Shown.{keys, unit_keys, units_keys}
@@ -22,6 +20,8 @@ use Rattle.dwz_def_expand.specs.Output.{ExpandRefusal, forms}
 use Rattle.dwz_def_expand.proofs.ChosenLemmas.{expanded_kinds}
 use Rattle.dwz_def_expand.proofs.RefusalLemmas.{all_copied}
 use Rattle.dwz_def_expand.proofs.WholeLemmas.{names_apart, names_closed}
+use Rattle.dwz_def_images.proofs.ApartOwn.{keys_joined}
+use Rattle.dwz_def_encoding.proofs.ReadAgain.{keys_read}
 
 -- ---- a test of places
 
@@ -36,22 +36,11 @@ test = record {
 
 -- ---- the places of what is read
 
-entries_keys : {P : Type 0} (s : MeaningContext P) (f : Forest RawEntry) (g : Entries P) → MeanEntries s f g → keys g ≡ map s.around.place (places_in f)
-unfolding keys places_in
-entries_keys s End End h = refl
-entries_keys {P} s (Entry e f k) (Entry d g l) h =
-    ap (λ (w : P). w ∷ keys g ++ keys l) h.0.place
-    ∙ ap (λ (w : List P). s.around.place e.at ∷ w)
-    (ap (λ (w : List P). w ++ keys l) (entries_keys s f g h.1) ∙ ap (λ (w : List P). map s.around.place (places_in f) ++ w) (entries_keys s k l h.2)
-    ∙ sym (map-append s.around.place (places_in f) (places_in k)))
-entries_keys s End (Entry d g l) h = absurd h
-entries_keys s (Entry e f k) End h = absurd h
-
 means_keys : {P : Type 0} (around : Around P) (raw : List RawUnit) (units : List (DwUnit P)) → MeanUnits around raw units → units_keys units ≡ map around.place (all_raw_keys raw)
 unfolding unit_keys units_keys all_raw_keys
 means_keys around [] [] h = refl
 means_keys {P} around (u ∷ raw) (v ∷ units) h =
-    let below = entries_keys (scope_of around u) u.below v.below h.0.below in
+    let below = keys_read (scope_of around u) u.below v.below h.0.below in
     ap (λ (w : P). w ∷ v.root.at ∷ (keys v.below ++ units_keys units)) h.0.place
     ∙ ap (λ (w : P). around.place u.at ∷ w ∷ (keys v.below ++ units_keys units)) h.0.root.place
     ∙ ap (λ (w : List P). around.place u.at ∷ around.place u.root.at ∷ w)
@@ -77,14 +66,6 @@ read_keys rule number l bytes raw doc place reads =
       file = λ p is. (let o = in_map_from (at_file number) p (all_raw_keys raw) (subst (λ (w : List Place). In p w) are is) in sym (ap (λ (q : Place). q.file) o.is));
     }
 
-joined_keys : {P : Type 0} (us vs : List (DwUnit P)) → units_keys (us ++ vs) ≡ units_keys us ++ units_keys vs
-unfolding units_keys
-joined_keys [] vs = refl
-joined_keys {P} (u ∷ us) vs = ap (λ (w : List P). unit_keys u ++ w) (joined_keys us vs) ∙ sym (assoc (unit_keys u) (units_keys us) (units_keys vs)) where
-  assoc : (xs ys zs : List P) → (xs ++ ys) ++ zs ≡ xs ++ (ys ++ zs)
-  assoc [] ys zs = refl
-  assoc (x ∷ xs) ys zs = ap (λ (w : List P). x ∷ w) (assoc xs ys zs)
-
 own_place : (common : Option FileRead) (file : FileRead) → ((rule_for (record { file = file; common = common }) 0).around file.bytes file.raw).place ≡ at_file 0
 own_place None file = refl
 own_place (Some c) file = refl
@@ -98,7 +79,7 @@ places_apart : (f : OneFile) → ReadsOne f → NoneTwice (units_keys (f.file.do
 places_apart f reads =
     let own = read_keys (rule_for f 0) 0 _ f.file.bytes f.file.raw f.file.doc (own_place f.common f.file) reads.file in
     let other = common_keys f.common reads.common in
-    subst NoneTwice (sym (joined_keys f.file.doc.units (units_read f.common)))
+    subst NoneTwice (sym (keys_joined f.file.doc.units (units_read f.common)))
     (none_append (units_keys f.file.doc.units) (units_keys (units_read f.common)) own.once other.once
     (λ p a b. (let zero = own.file p a in let one = other.file p b in omega arith)))
 

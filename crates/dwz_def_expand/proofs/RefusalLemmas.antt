@@ -7,7 +7,7 @@ use Rattle.dwz_def_reading.specs.Lists.{Each}
 use Rattle.dwz_model.proofs.Members.{each_more}
 use Rattle.dwz_def_output.specs.Changed.{changes_by}
 use Rattle.dwz_def_output.specs.Refusals.{InFile, IsLargeSection, narrow_at}
-use Rattle.dwz_def_output.proofs.OneRefusal.{AtMostOne, or_else_one}
+use Rattle.dwz_def_output.proofs.OneRefusal.{AtMostOne, of_first_one, or_else_one}
 use Rattle.dwz_def_expand.specs.Chosen.{Choice}
 use Rattle.dwz_def_expand.specs.OneFile.{OneFile, said_by_file, same_place, stored_where}
 use Rattle.dwz_def_expand.specs.Output.{ExpandRefusal, FirstTooNarrow, LargeRefusal, NarrowIn, NarrowInLists, SiteRefusal, Spoken, forms, in_lists, new_sections, spoken_in}
@@ -15,10 +15,6 @@ use Rattle.dwz_def_expand.specs.Refusals.{AllCopied, CanCopy, IsLost, LostFault,
 use Rattle.dwz_def_expand.specs.Source.{source_places}
 
 -- ---- one at most
-
-of_first_one : {X Y : Type 0} (Has : Y → X → Type 0) → ((y : Y) → AtMostOne (Has y)) → (ys : List Y) → AtMostOne (OfFirst Has ys)
-of_first_one Has one [] = λ x z a b. absurd a
-of_first_one Has one (y ∷ ys) = or_else_one (Has y) (OfFirst Has ys) (one y) (of_first_one Has one ys)
 
 in_file_one : (Has : ℕ → Fault → Type 0) (file : ℕ) → AtMostOne (Has file) → AtMostOne (InFile Has file)
 in_file_one Has file one p q a b = a.2 ∙ ap (λ (f : Fault). record { file = file; section = f.section; at = f.at; reason = f.reason }) (one a.0 b.0 a.1 b.1) ∙ sym b.2

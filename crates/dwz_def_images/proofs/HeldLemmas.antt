@@ -54,7 +54,7 @@ line_none units part = go (names_path part) where
   go true = (in_home part.home, tt)
   go false = tt
 
-root_none : (units : List (FileUnit EntryName)) (o : Option PartialUnit) → NameNone (map named_value (root_in_part units o))
+pub root_none : (units : List (FileUnit EntryName)) (o : Option PartialUnit) → NameNone (map named_value (root_in_part units o))
 root_none units None = tt
 root_none units (Some part) = line_none units part
 

@@ -21,7 +21,7 @@ use Rattle.dwz_def_images.specs.After.{AreOld, ArePlaced, IsNamedUnit, Place, at
 use Rattle.dwz_def_images.specs.Images.{units_in}
 use Rattle.dwz_def_images.proofs.OldNames.{tops_labelled, units_named_at}
 
-nth_cases : {X : Type 0} (s : ℕ) (xs ys : List X) (i : ℕ) (x : X) → Nth s (xs ++ ys) i x → Nth s xs i x ⊎ Nth (s + length xs) ys i x
+pub nth_cases : {X : Type 0} (s : ℕ) (xs ys : List X) (i : ℕ) (x : X) → Nth s (xs ++ ys) i x → Nth s xs i x ⊎ Nth (s + length xs) ys i x
 nth_cases s [] ys i x h = (let e : s + 0 ≡ s = omega arith in inr (rw e h))
 nth_cases s (y ∷ xs) ys i x (inl e) = inl (inl e)
 nth_cases {X} s (y ∷ xs) ys i x (inr r) = elim (nth_cases (suc s) xs ys i x r) [

@@ -19,7 +19,7 @@ or_else_one First Then one other x y (inl a) (inr b) = absurd (b.0 x a)
 or_else_one First Then one other x y (inr a) (inl b) = absurd (a.0 y b)
 or_else_one First Then one other x y (inr a) (inr b) = other x y a.1 b.1
 
-of_first_one : {X Y : Type 0} (Has : Y → X → Type 0) → ((y : Y) → AtMostOne (Has y)) → (ys : List Y) → AtMostOne (OfFirst Has ys)
+pub of_first_one : {X Y : Type 0} (Has : Y → X → Type 0) → ((y : Y) → AtMostOne (Has y)) → (ys : List Y) → AtMostOne (OfFirst Has ys)
 of_first_one Has one [] = λ x z a b. absurd a
 of_first_one Has one (y ∷ ys) = or_else_one (Has y) (OfFirst Has ys) (one y) (of_first_one Has one ys)
 

@@ -22,7 +22,7 @@ use Rattle.dwz_def_taken.specs.Over.{common_parts, move_over}
 use Rattle.dwz_def_taken.specs.Takes.{IsFixed, free_rule}
 use Rattle.dwz_def_taken.proofs.CommonParts.{common_nth}
 use Rattle.dwz_def_taken.proofs.CommonUnits.{not_shared}
-use Rattle.dwz_def_taken.proofs.PlaceLemmas.{nth_cases}
+use Rattle.dwz_def_images.proofs.OldFiles.{nth_cases}
 
 module _ (m : Move) (units : List (FileUnit EntryName)) where
   file_in : (some : List ℕ) (file : ℕ) → In file some → (v : DwUnit EntryName) → In v (out_units m units file) → In v (file_units m units some)

@@ -1,9 +1,9 @@
 -- References of all that stands after over a finished common file name entries.
-use Rattle.std.proofs.Common.{◌≡◌, ℕ, ◌+◌, ◌≤◌, ◌||◌, Bool, true, false, List, [], ◌∷◌, ◌++◌, length, map, Option, Some, None, refl, sym, ap, subst, ◌∙◌, inl, inr, arith}
+use Rattle.std.proofs.Common.{◌≡◌, ℕ, ◌+◌, ◌≤◌, ◌||◌, true, List, [], ◌∷◌, ◌++◌, length, map, Option, Some, None, refl, sym, ap, subst, ◌∙◌, inl, inr, arith}
 use Rattle.std.specs.Prelude.{unwrap_or}
 use Rattle.std.specs.Option.{is_some, option_map}
 use Rattle.std.proofs.lemmas.Option.{slice_get_past}
-use Rattle.dwz_def_reading.specs.Documents.{language, Attr, Doc, DwUnit, Node, attr_map, first_named, unit_map}
+use Rattle.dwz_def_reading.specs.Documents.{language, Attr, Doc, DwUnit, Node, attr_map, unit_map}
 use Rattle.dwz_def_reading.specs.Lists.{In}
 use Rattle.dwz_def_reading.specs.Trees.{End}
 use Rattle.dwz_def_reading.proofs.ListFacts.{in_cases, in_left, in_map}
@@ -15,9 +15,9 @@ use Rattle.dwz_def_tops.proofs.ShownLemmas.{closed_shown, map_shown}
 use Rattle.dwz_def_tops.specs.Spots.{EntryName, FileUnit, LabelledTop, Row, Top, Within, file_numbers, name_list, rows_of_root, tops_of, in_file, named_files, named_in, spot_in}
 use Rattle.dwz_def_tops.proofs.RowLemmas.{unit_row}
 use Rattle.dwz_def_tops.proofs.Tops.{unit_of}
-use Rattle.dwz_def_plan.specs.Homes.{Common, Home, Local, Stay, moves}
+use Rattle.dwz_def_plan.specs.Homes.{moves}
 use Rattle.dwz_def_plan.specs.IsPlan.{IsPart}
-use Rattle.dwz_def_plan.specs.Moves.{Move, image_in, seen_top, line_attrs, line_in, line_of, names_path, part_at, root_in_part, root_of, row_in_part}
+use Rattle.dwz_def_plan.specs.Moves.{Move, image_in, seen_top, part_at, root_in_part, row_in_part}
 use Rattle.dwz_def_plan.specs.Plan.{PartialUnit, image_by, part_row, partials, stand_in}
 use Rattle.dwz_def_plan.proofs.PartRows.{part_is}
 use Rattle.dwz_def_plan.proofs.PlanLemmas.{are_parts, has_rep}
@@ -28,9 +28,9 @@ use Rattle.dwz_def_images.specs.Images.{units_in}
 use Rattle.dwz_def_images.specs.Units.{all_units, common_units, file_units, partial_unit, tree}
 use Rattle.dwz_def_images.proofs.ClosedLemmas.{none_seen}
 use Rattle.dwz_def_images.proofs.FileLemmas.{files_are}
-use Rattle.dwz_def_images.proofs.HeldLemmas.{part_found}
+use Rattle.dwz_def_images.proofs.HeldLemmas.{part_found, root_none}
 use Rattle.dwz_def_images.proofs.KindLemmas.{part_row_kinded, top_plain}
-use Rattle.dwz_def_images.proofs.OldFiles.{closed_append, filed_units, units_append}
+use Rattle.dwz_def_images.proofs.OldFiles.{closed_append, filed_units, nth_cases, units_append}
 use Rattle.dwz_def_images.proofs.TreeLemmas.{Behind, OfASpace, OfATop, TreeOrigin, seen_top_map, tree_origin, tree_seen}
 use Rattle.dwz_def_images.proofs.OldLemmas.{top_at}
 use Rattle.dwz_def_images.proofs.OldRows.{raw_seen, raw_top}
@@ -45,7 +45,7 @@ use Rattle.dwz_def_taken.proofs.CommonParts.{common_nth, length-common}
 use Rattle.dwz_def_taken.proofs.CommonUnits.{common_stands, stands_as}
 use Rattle.dwz_def_taken.proofs.NamesOver.{common_spots, named_over}
 use Rattle.dwz_def_taken.proofs.OverLemmas.{fair, free_none, free_two, image_is, moving_seen, stand, taken_seen}
-use Rattle.dwz_def_taken.proofs.PlaceLemmas.{nth_cases, nth_move, nth_right, part_nth}
+use Rattle.dwz_def_taken.proofs.PlaceLemmas.{nth_move, nth_right, part_nth}
 use Rattle.dwz_def_taken.proofs.StandingUnits.{standing}
 
 -- ---- what is seen of units
@@ -74,26 +74,6 @@ unfolding seen_roots seen_below
 none_closed = λ e a q is attr ref. absurd is
 
 -- ---- the roots of partial units of files name nothing
-
-line_none : (units : List (FileUnit EntryName)) (part : PartialUnit) → NameNone (map named_value (line_attrs units part))
-unfolding line_attrs
-line_none units part = go (names_path part) where
-  of_line : (o : Option (Attr EntryName)) → (line_of o).value.refs ≡ []
-  of_line None = refl
-  of_line (Some a) = refl
-
-  in_home : (h : Home) → (line_in units h part.tops).value.refs ≡ []
-  in_home Common = refl
-  in_home (Local file) = of_line (first_named 0x10 (root_of units _))
-  in_home Stay = refl
-
-  go : (b : Bool) → NameNone (map named_value (elim b as (λ _. List (Attr EntryName)) [ true ↦ line_in units part.home part.tops ∷ [] | false ↦ [] ]))
-  go true = (in_home part.home, tt)
-  go false = tt
-
-root_none : (units : List (FileUnit EntryName)) (o : Option PartialUnit) → NameNone (map named_value (root_in_part units o))
-root_none units None = tt
-root_none units (Some part) = line_none units part
 
 module _ (docs : List (Doc ℕ)) (common : Doc ℕ) (fixed : Fixed) (p : ArePlacedOver docs common) (fx : IsFixed (reused_of docs common) fixed) where
   abbrev r : Reused

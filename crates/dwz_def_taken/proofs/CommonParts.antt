@@ -16,7 +16,8 @@ use Rattle.dwz_def_taken.specs.Beside.{Reused}
 use Rattle.dwz_def_taken.specs.Laws.{TakersLaw}
 use Rattle.dwz_def_taken.specs.Over.{common_part, common_parts, takers}
 use Rattle.dwz_def_taken.specs.Takes.{IsFixed, Takes, free_rule, takes_of}
-use Rattle.dwz_def_taken.proofs.PlaceLemmas.{nth_cases}
+use Rattle.dwz_def_images.proofs.OldFiles.{nth_cases}
+
 
 pub has_in : (n : ℕ) (ms : List ℕ) → has n ms ≡ true → In n ms
 unfolding has

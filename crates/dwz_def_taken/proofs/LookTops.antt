@@ -15,6 +15,7 @@ use Rattle.dwz_def_tops.proofs.TopNumbers.{from_numbered, number_below, number_f
 use Rattle.dwz_def_tops.proofs.TopOrder.{later_unit}
 use Rattle.dwz_def_images.proofs.OldFiles.{counted, tops_length}
 use Rattle.dwz_def_taken.specs.Beside.{Reused, all_below, as_one, look_units, muted, own_tops, then_entries, together}
+use Rattle.dwz_def_images.proofs.StillLemmas.{tops_append}
 
 -- ---- tops that differ in their file, their unit and their language alone
 
@@ -85,18 +86,6 @@ module _ (file unit : ℕ) (tongue : Option ℤ) (file' unit' : ℕ) (tongue' : 
   like_in n f t is = like_rows [] n (row_in file unit tongue [] n f) (row_in file' unit' tongue' [] n f) f (row_is file unit tongue [] n f) (row_is file' unit' tongue' [] n f) t is
 
 -- ---- tops of units behind others
-
-pub tops_behind : (s n : ℕ) (us vs : List (FileUnit EntryName)) → tops_from s n (us ++ vs) ≡ tops_from s n us ++ tops_from (s + length us) (n + counted us) vs
-unfolding tops_from counted
-tops_behind s n [] vs = let p : s ≡ s + 0 = omega arith in let q : n ≡ n + 0 = omega arith in ap (λ (i : ℕ). tops_from i n vs) p ∙ ap (λ (i : ℕ). tops_from (s + 0) i vs) q
-tops_behind s n (f ∷ us) vs =
-    let m = n + top_count f.unit.kind f.unit.below in
-    let here = row_tops (row_below f.file s n f.unit f.unit.kind) in
-    let p : suc s + length us ≡ s + suc (length us) = omega arith in
-    let q : m + counted us ≡ n + (top_count f.unit.kind f.unit.below + counted us) = omega arith in
-    ap (λ (w : List Top). here ++ w) (tops_behind (suc s) m us vs ∙ ap (λ (i : ℕ). tops_from (suc s) m us ++ tops_from i (m + counted us) vs) p
-    ∙ ap (λ (i : ℕ). tops_from (suc s) m us ++ tops_from (s + suc (length us)) i vs) q)
-    ∙ sym (append_assoc here (tops_from (suc s) m us) (tops_from (s + suc (length us)) (n + (top_count f.unit.kind f.unit.below + counted us)) vs))
 
 -- ---- without languages
 
@@ -252,7 +241,7 @@ module _ (r : Reused) (whole : AreWhole r.commons) where
 
   pub together_tops : tops_of (together r) ≡ tops_of r.units ++ part_tops
   unfolding part_tops
-  together_tops = tops_behind 0 0 r.units r.commons ∙ ap (λ (i : ℕ). tops_of r.units ++ tops_from i (0 + counted r.units) r.commons) (let p : 0 + length r.units ≡ length r.units = omega arith in p)
+  together_tops = tops_append 0 0 r.units r.commons ∙ ap (λ (i : ℕ). tops_of r.units ++ tops_from i (0 + counted r.units) r.commons) (let p : 0 + length r.units ≡ length r.units = omega arith in p)
       ∙ ap (λ (i : ℕ). tops_of r.units ++ tops_from (length r.units) i r.commons) (let p : 0 + counted r.units ≡ own_tops r = omega (arith, own_counted) in p)
 
   abbrev one : FileUnit EntryName
@@ -270,7 +259,7 @@ module _ (r : Reused) (whole : AreWhole r.commons) where
   tops_one s n = nil_right (row_tops (row_in r.file s (language one.unit) [] n (all_below r.commons)))
 
   look_tops : tops_of (look_units r) ≡ tops_of (map muted r.units) ++ one_tops
-  look_tops = tops_behind 0 0 (map muted r.units) (one ∷ [])
+  look_tops = tops_append 0 0 (map muted r.units) (one ∷ [])
       ∙ ap (λ (w : List Top). tops_of (map muted r.units) ++ w) (tops_one (0 + length (map muted r.units)) (0 + counted (map muted r.units))
       ∙ ap (λ (i : ℕ). row_tops (row_in r.file i (language one.unit) [] (0 + counted (map muted r.units)) (all_below r.commons)))
       (let p : 0 + length (map muted r.units) ≡ length r.units = omega (arith, length_muted r.units) in p)

@@ -42,8 +42,9 @@ use Rattle.dwz_def_taken.proofs.LookTops.{own_number, own_together, part_number}
 use Rattle.dwz_def_taken.proofs.NamesOver.{named_over}
 use Rattle.dwz_def_taken.proofs.OnceUnits.{IsUnitOwn}
 use Rattle.dwz_def_taken.proofs.OverLemmas.{fair, free_none, free_two}
-use Rattle.dwz_def_taken.proofs.PlaceLemmas.{in_part, nth_cases, nth_move, nth_right, whole}
+use Rattle.dwz_def_taken.proofs.PlaceLemmas.{in_part, nth_move, nth_right, whole}
 use Rattle.dwz_def_taken.proofs.RowMaps.{item_map, kinded_map, map_has}
+use Rattle.dwz_def_images.proofs.OldFiles.{nth_cases}
 
 pub no_end : (k : EntryName) → In k (keys End) → ⊥
 unfolding keys

@@ -22,16 +22,9 @@ use Rattle.dwz_def_taken.specs.Beside.{Reused, look_units, together}
 use Rattle.dwz_def_taken.specs.Laws.{IsReused}
 use Rattle.dwz_def_taken.specs.Takes.{InPart, PartRefers, attr_goes_to, is_of_unit, unit_goes_to}
 use Rattle.dwz_def_taken.proofs.LookTops.{AreWhole, as_like, like_there, look_from, own_look, own_number, own_unit, part_look, part_number, part_tops, part_unit_from, together_cases, part_together}
+use Rattle.dwz_def_images.proofs.OldFiles.{nth_cases}
 
 -- ---- lists one behind the other
-
-pub nth_cases : {X : Type 0} (s : ℕ) (xs ys : List X) (n : ℕ) (x : X) → Nth s (xs ++ ys) n x → Nth s xs n x ⊎ Nth (s + length xs) ys n x
-nth_cases {X} s [] ys n x h = let p : s ≡ s + 0 = omega arith in inr (subst (λ (i : ℕ). Nth i ys n x) p h)
-nth_cases s (y ∷ xs) ys n x (inl e) = inl (inl e)
-nth_cases {X} s (y ∷ xs) ys n x (inr r) = elim (nth_cases (suc s) xs ys n x r) [
-  | inl a ↦ inl (inr a)
-  | inr b ↦ (let p : suc s + length xs ≡ s + suc (length xs) = omega arith in inr (subst (λ (i : ℕ). Nth i ys n x) p b))
-]
 
 pub nth_left : {X : Type 0} (s : ℕ) (xs ys : List X) (n : ℕ) (x : X) → Nth s xs n x → Nth s (xs ++ ys) n x
 nth_left s [] ys n x h = absurd h

@@ -41,8 +41,9 @@ use Rattle.dwz_def_taken.proofs.CommonLemmas.{alike_names}
 use Rattle.dwz_def_taken.proofs.CommonParts.{common_nth, in_takers, length-common, nth_common, taker}
 use Rattle.dwz_def_taken.proofs.LookTops.{own_look, part_look}
 use Rattle.dwz_def_taken.proofs.OverLemmas.{common_stand, fair, free_none, free_two, image_is, moving_seen, stand, stand_none, taken_seen, taken_stand}
-use Rattle.dwz_def_taken.proofs.PlaceLemmas.{PartTop, in_part, nth_cases, nth_left, nth_move, nth_right, part_inside, part_nth, whole}
+use Rattle.dwz_def_taken.proofs.PlaceLemmas.{PartTop, in_part, nth_left, nth_move, nth_right, part_inside, part_nth, whole}
 use Rattle.dwz_def_taken.proofs.RowMaps.{has_map, item_map, kinded_map, map_has, top_fixed}
+use Rattle.dwz_def_images.proofs.OldFiles.{nth_cases}
 
 -- ---- names at the end of a list
 

@@ -1,12 +1,11 @@
 -- The partial units of the common file in a move are its units as they stand.
-use Rattle.std.proofs.Common.{◌≡◌, ℕ, zero, suc, ◌+◌, ◌-◌, List, [], ◌∷◌, length, map, Option, Some, refl, sym, ap, ◌∙◌, inl, inr, arith}
+use Rattle.std.proofs.Common.{◌≡◌, ◌+◌, ◌-◌, List, [], ◌∷◌, length, map, Option, Some, refl, sym, ap, ◌∙◌, arith}
 use Rattle.std.specs.Prelude.{slice_get, unwrap_or}
 use Rattle.std.specs.Option.{option_map}
 use Rattle.dwz_def_reading.specs.Lists.{Each}
 use Rattle.dwz_def_reading.specs.Trees.{End, Entry}
 use Rattle.dwz_def_reading.specs.Documents.{Attr, Entries, Partial, attr_map, entries_map}
 use Rattle.dwz_def_tops.specs.Lists.{Nth}
-use Rattle.dwz_def_tops.proofs.Members.{nth_from}
 use Rattle.dwz_def_tops.specs.Spots.{ASpace, ATop, FileUnit, Nothing, PartialOf, PartialRoot, Row, EntryName, rows_of_root}
 use Rattle.dwz_def_tops.proofs.RowLemmas.{unit_row}
 use Rattle.dwz_def_plan.specs.Moves.{image_in}
@@ -18,6 +17,7 @@ use Rattle.dwz_def_taken.specs.MoveLaws.{SameOn}
 use Rattle.dwz_def_taken.specs.Over.{as_part, common_root, common_row, move_over, row_map}
 use Rattle.dwz_def_taken.proofs.MapsTwice.{entries_then, node_then}
 use Rattle.dwz_def_taken.proofs.PlaceLemmas.{nth_move, nth_right}
+use Rattle.dwz_model.proofs.Members.{nth_get}
 
 tree_map : (g h : EntryName → EntryName) (row : Row) (last : Entries EntryName) → tree g (row_map h row) last ≡ tree (λ s. g (h s)) row last
 unfolding tree row_map
@@ -48,13 +48,6 @@ entries_same g h (Entry d children next) e =
     λ i. Entry (record { at = at i; tag = d.tag; attrs = attrs i }) (b i) (c i)
 
 -- ---- the unit
-
-nth_get : {X : Type 0} (s : ℕ) (xs : List X) (n k : ℕ) (x : X) → Nth s xs n x → n ≡ s + k → slice_get xs k ≡ Some x
-nth_get s [] n k x h e = absurd h
-nth_get s (y ∷ ys) n zero x (inl h) e = ap Some h.1
-nth_get s (y ∷ ys) n (suc k) x (inl h) e = let at = h.0 in absurd (omega arith)
-nth_get s (y ∷ ys) n zero x (inr r) e = let low = nth_from (suc s) ys n x r in absurd (omega arith)
-nth_get s (y ∷ ys) n (suc k) x (inr r) e = nth_get (suc s) ys n k x r (omega arith)
 
 given_is : {X : Type 0} (o : Option X) (x y : X) → o ≡ Some y → unwrap_or o x ≡ y
 given_is o x y e = ap (λ (w : Option _). unwrap_or w x) e

@@ -3,14 +3,14 @@ use Rattle.std.proofs.Common.{◌≡◌, ◌≢◌, ◌⊎◌, ℕ, Bool, true, 
 use Rattle.std.proofs.lemmas.Bool.{ne_eqb}
 use Rattle.dwz_def_reading.specs.Lists.{Each, In}
 use Rattle.dwz_def_reading.specs.Trees.{End, Entry}
-use Rattle.dwz_model.proofs.ListFacts.{in_cases, in_right}
+use Rattle.dwz_model.proofs.ListFacts.{in_cases}
 use Rattle.dwz_def_reading.specs.Documents.{Compile, Doc, DwUnit, Entries, Kind, Node, OfType, Partial, entries_map, kind_map, node_map, unit_map}
 use Rattle.dwz_model.specs.Lists.{NoneTwice, Nth}
 use Rattle.dwz_def_tops.specs.Seen.{IsPartial, IsShown, Seen, all_seen, named_map, named_value, seen_map}
-use Rattle.dwz_def_tops.specs.Shown.{AreShown, OnePlace, UnitsShown, unit_keys, units_keys}
+use Rattle.dwz_def_tops.specs.Shown.{AreShown, OnePlace, UnitsShown, units_keys}
 use Rattle.dwz_def_tops.proofs.MainLemmas.{mains_map}
 use Rattle.dwz_model.proofs.Members.{each_in, in_map_from, nth_in}
-use Rattle.dwz_def_tops.proofs.ShownLemmas.{all_shown, closed_shown, map_shown, names_then}
+use Rattle.dwz_def_tops.proofs.ShownLemmas.{all_shown, closed_shown, map_shown, names_then, root_key}
 use Rattle.dwz_def_tops.proofs.SpaceLemmas.{node_shown}
 use Rattle.dwz_def_tops.specs.Alike.{IsAlike, TopScope}
 use Rattle.dwz_def_tops.specs.Spots.{EntryName, same_spot, units_of}
@@ -36,12 +36,6 @@ use Rattle.dwz_law_cross.proofs.BesideLemmas.{at, once, there}
 abbrev by_number : Bool → ℕ → ℕ → ℕ
 by_number true new common = common
 by_number false new common = new
-
-root_in : {P : Type 0} (units : List (DwUnit P)) (u : DwUnit P) → In u units → In u.root.at (units_keys units)
-unfolding units_keys unit_keys
-root_in [] u h = absurd h
-root_in {P} (v ∷ units) u (inl e) = inr (inl (ap (λ (w : DwUnit P). w.root.at) e))
-root_in (v ∷ units) u (inr h) = in_right u.root.at (unit_keys v) (units_keys units) (root_in units u h)
 
 -- ---- units with other places have the names that they had
 
@@ -135,7 +129,7 @@ module _ (scope : TopScope) (docs : List (Doc ℕ)) (rule : Rule) (placed : Each
     root_number : (u : DwUnit Place) → In u (shared_units r g) → u.root.at.file ≡ common
     root_number u h =
         let o = in_map_from (placed_unit (places r) g) u (common_fitted r) h in
-        sym (ap (λ (w : DwUnit Place). w.root.at.file) o.is) ∙ ap (λ (w : Place). w.file) (ok o.source.root.at (root_in (common_fitted r) o.source o.there))
+        sym (ap (λ (w : DwUnit Place). w.root.at.file) o.is) ∙ ap (λ (w : Place). w.file) (ok o.source.root.at (root_key (common_fitted r) o.source o.there))
 
     pub met_with : CrossSame (with_common olds (shared_units r g)) (with_common own (shared_units r g))
     met_with = meets scope docs rule placed is choice file g own (shared_units r g) are names (with_common olds (shared_units r g))

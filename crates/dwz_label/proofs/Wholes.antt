@@ -1,7 +1,8 @@
 -- Stretches in order are the whole; and what threads collect of calls that all succeed is what one thread gets.
 use Rattle.std.proofs.Common.{◌≡◌, ℕ, zero, suc, ◌+◌, ◌-◌, ◌*◌, ◌<◌, ◌≤◌, ◌++◌, List, [], ◌∷◌, Contains, map, ap, sym, subst, ◌∙◌, arith}
-use Rattle.std.specs.Prelude.{IfOk, MatchResult, Ok, Err, length, slice_index_or}
-use Rattle.std.proofs.lemmas.List.{get_or-map}
+use Rattle.std.specs.Prelude.{IfOk, MatchResult, Ok, Err, slice_index_or}
+use Rattle.std.proofs.lemmas.Result.{IfOk-weaker}
+use Rattle.std.proofs.lemmas.Slice.Zip.{AllZip-map}
 use Rattle.std.specs.List.{AllZip, range_with_len}
 use Rattle.std.specs.declared.result.Result.{Result}
 use Rattle.dwz_label.specs.Stretches.{before, front, stretch_of}
@@ -42,26 +43,31 @@ front_none label count len k is = let none : before count len k ≡ 0 = ap (λ (
 abbrev pub Gives : {X Y E : Type 0} → (X → Y) → X → Result Y E → Type 0
 Gives f x r = IfOk r (λ y. y ≡ f x)
 
--- all calls were Ok, so they gave the function's list
-all_ok : {X Y : Type 0} (E : Type 0) (f : X → Y) (xs : List X) (ys : List Y) → AllZip (Gives {E = E} f) xs (map Ok ys) → ys ≡ map f xs
-all_ok E f [] [] h = λ i. []
-all_ok E f [] (y ∷ ys) h = absurd h
-all_ok E f (x ∷ xs) [] h = absurd h
-all_ok E f (x ∷ xs) (y ∷ ys) h = λ i. h.0 i ∷ all_ok E f xs ys h.1 i
+-- all calls were Ok
+all_ok : {X Y : Type 0} (E : Type 0) (P : X → Y → Type 0) (xs : List X) (ys : List Y) → AllZip (λ x (z : Result Y E). IfOk z (P x)) xs (map Ok ys) → AllZip P xs ys
+all_ok E P [] [] h = tt
+all_ok E P [] (y ∷ ys) h = absurd h
+all_ok E P (x ∷ xs) [] h = absurd h
+all_ok E P (x ∷ xs) (y ∷ ys) h = (h.0, all_ok E P xs ys h.1)
 
--- what a chain collected of them is the function's list, or an error that one of them gave
+-- what a chain collected of them is as each call gave it, or an error that one of them gave
+pub collected_each : {X Y E V : Type 0} (items : V → List Y) (P : X → Y → Type 0) (xs : List X) (r : Result V E) (zs : List (Result Y E)) → AllZip (λ x z. IfOk z (P x)) xs zs
+    → MatchResult r (λ v. (ys : List Y) × (zs ≡ map Ok ys) × (items v ≡ ys)) (λ e. Contains zs (Err e))
+    → IfOk r (λ v. AllZip P xs (items v))
+collected_each items P xs (Ok v) zs h m = subst (λ ys. AllZip P xs ys) (sym m.2) (all_ok _ P xs m.0 (subst (λ l. AllZip (λ x z. IfOk z (P x)) xs l) m.1 h))
+collected_each items P xs (Err e) zs h m = tt
+
+-- the same of calls that gave a function's values: its list
 pub collected : {X Y E V : Type 0} (items : V → List Y) (f : X → Y) (xs : List X) (r : Result V E) (zs : List (Result Y E)) → AllZip (Gives f) xs zs
     → MatchResult r (λ v. (ys : List Y) × (zs ≡ map Ok ys) × (items v ≡ ys)) (λ e. Contains zs (Err e))
     → IfOk r (λ v. items v ≡ map f xs)
-collected items f xs (Ok v) zs h m = m.2 ∙ all_ok _ f xs m.0 (subst (λ l. AllZip (Gives f) xs l) m.1 h)
-collected items f xs (Err e) zs h m = tt
+collected items f xs r zs h m = IfOk-weaker r _ _ (λ v all. AllZip-map f xs (items v) all) (collected_each items (λ x y. y ≡ f x) xs r zs h m)
 
--- ---- results of calls that were taken out
-
--- what holds of each result that is Ok holds of what was taken out of it
-pub taken_each : {X E : Type 0} (P : ℕ → X → Type 0) (results : List (Result X E)) (taken : List X) (n : ℕ) → map Ok taken ≡ results → length taken ≡ n
-    → ((i : ℕ) (d : Result X E) → i < n → IfOk (slice_index_or results i d) (P i))
-    → (i : ℕ) (d : X) → i < n → P i (slice_index_or taken i d)
-taken_each P results taken n are many each i d low =
-    let here = get_or-map Ok taken i d (Ok d) (let m = many in omega arith) in
-    subst (λ r. IfOk r (P i)) (ap (λ rs. slice_index_or rs i (Ok d)) (sym are) ∙ here) (each i (Ok d) low)
+-- what holds of each number from one on and the item at its place
+pub numbered_each : {Y : Type 0} (P : ℕ → Y → Type 0) (a n : ℕ) (ys : List Y) → AllZip P (range_with_len a n) ys → (k : ℕ) (d : Y) → k < n → P (a + k) (slice_index_or ys k d)
+numbered_each P a zero ys h k d low = absurd (omega (arith, low))
+numbered_each P a (suc n) [] h k d low = absurd h
+numbered_each P a (suc n) (y ∷ ys) h zero d low = let here : a ≡ a + 0 = omega arith in subst (λ m. P m y) here h.0
+numbered_each P a (suc n) (y ∷ ys) h (suc k) d low =
+    let next : a + 1 + k ≡ a + suc k = omega arith in
+    subst (λ m. P m (slice_index_or ys k d)) next (numbered_each P (a + 1) n ys h.1 k d (omega (arith, low)))

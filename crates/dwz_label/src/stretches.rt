@@ -7,8 +7,8 @@ ghost use Rattle.dwz_label.specs.Stretches.{AreStretches, AreStretchesOf, front,
 use crate::labels::Labels;
 use crate::writer::LabelWriter;
 use dwz_model::NoMemory;
+use rayon::prelude::*;
 use std::alloc::Global;
-use std::thread;
 use std::thread::Threads;
 
 // How many stretches each worker writes. Tops differ much in size, and those of one kind stand together: so each worker takes its
@@ -65,20 +65,6 @@ fn own_stretches<W: LabelWriter>(
     Ok(parts)
 }
 
-// What stands in results, if all of them are `Ok`, and else an error.
-fn all_ok(
-    alloc: Global,
-    results: Vec<Result<Vec<Labels>, NoMemory>>,
-) -> Result<Vec<Vec<Labels>>, NoMemory>
-    ensures { IfOk result (λ parts. map Ok parts.items ≡ results.items) }
-{
-    let mut parts = Vec::with_capacity(alloc, results.len())?;
-    for result in results {
-        parts.push(result?)?;
-    }
-    Ok(parts)
-}
-
 // The labels of the stretches of each worker.
 fn all_stretches<R: Threads + Sync, W: LabelWriter + Sync>(
     rt: &R,
@@ -93,12 +79,17 @@ fn all_stretches<R: Threads + Sync, W: LabelWriter + Sync>(
     ensures many { IfOk result (λ parts. length parts.items ≡ workers) }
     ensures each { IfOk result (λ parts. AreStretches (W.label writer.now) count len parts.items) }
 {
-    let each = |worker: usize| -> Result<Vec<Labels>, NoMemory>
-        requires { (count ≤ W.count writer.now) × (worker < workers) × (workers ≤ 64) }
-        ensures { IfOk result (λ parts. AreStretchesOf (W.label writer.entry.now) count len workers worker parts.items) }
-    { own_stretches(alloc, writer, count, len, workers, worker) };
-    let results = thread::map_indices(rt, alloc, workers, &each)?;
-    all_ok(alloc, results)
+    let parts: Result<Vec<Vec<Labels>>, NoMemory> = (0..workers)
+        .into_par_iter()
+        .with_min_len(1)
+        .map(
+            |worker: usize| -> Result<Vec<Labels>, NoMemory>
+                requires { (count ≤ W.count writer.now) × (worker < workers) × (workers ≤ 64) }
+                ensures { IfOk result (λ parts. AreStretchesOf (W.label writer.entry.now) count len workers worker parts.items) }
+            { own_stretches(alloc, writer, count, len, workers, worker) },
+        )
+        .collect(rt, alloc)?;
+    parts
 }
 
 // How many bytes labels have together, where so many bytes can be.

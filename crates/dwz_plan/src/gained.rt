@@ -24,7 +24,7 @@ fn group_of(home: Home) -> Option<u32>
 pub(crate) fn groups_of(alloc: Global, homes: &[Home]) -> Result<Vec<Option<u32>>, NoMemory>
     ensures { IfOk result (λ groups. groups.items ≡ map group_of homes.now) }
 {
-    let mut groups = Vec::new(alloc);
+    let mut groups = Vec::with_capacity(alloc, homes.len())?;
     for home in homes {
         groups.push(group_of(*home))?;
     }
@@ -52,7 +52,7 @@ pub(crate) fn seeds(
     requires inside { All (λ part. All (λ t. t < length rows.now) part.tops) partials.now }
     ensures { IfOk result (λ seeds. seeds.items ≡ map (part_seed (weights_of rows.now)) partials.now) }
 {
-    let mut seeds = Vec::new(alloc);
+    let mut seeds = Vec::with_capacity(alloc, partials.len())?;
     for part in partials {
         seeds.push(seed(part, rows))?;
     }
@@ -65,7 +65,7 @@ fn numbers(alloc: Global, marks: &[bool]) -> Result<Vec<u32>, NoMemory>
     ensures len { IfOk result (λ numbers. length numbers.items ≡ length marks.now) }
     ensures each { IfOk result (λ numbers. (k : ℕ) → k < length marks.now → slice_index numbers.items k ≡ before marks.now k) }
 {
-    let mut numbers = Vec::new(alloc);
+    let mut numbers = Vec::with_capacity(alloc, marks.len())?;
     let mut count = 0;
     for mark in marks {
         numbers.push(count)?;
@@ -113,7 +113,7 @@ pub(crate) fn homes_after(
     ensures { IfOk result (λ after. after.items ≡ map (place_after marks.now) homes.now) }
 {
     let numbers = numbers(alloc, marks)?;
-    let mut after = Vec::new(alloc);
+    let mut after = Vec::with_capacity(alloc, homes.len())?;
     for home in homes {
         after.push(home_after(*home, marks, numbers.as_slice()))?;
     }

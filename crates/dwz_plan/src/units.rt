@@ -63,7 +63,7 @@ pub(crate) fn kept_of_units(
     ensures { IfOk result (λ kept. kept ≡ grouped units
         (staying_pairs true 0 rows.now homes.now ++ staying_pairs false 0 rows.now homes.now)) }
 {
-    let mut pairs = Vec::new(alloc);
+    let mut pairs = Vec::with_capacity(alloc, rows.len())?;
     push_staying(&mut pairs, rows, homes, true)?;
     push_staying(&mut pairs, rows, homes, false)?;
     group(alloc, units, pairs.as_slice())

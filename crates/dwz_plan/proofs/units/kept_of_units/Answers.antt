@@ -10,7 +10,7 @@ group-requires c =
     let P : Edge → Type 0 = λ p. p.key < c.args.units in
     let pinned : List Edge = staying_pairs true 0 c.args.rows.now c.args.homes.now in
     let others : List Edge = staying_pairs false 0 c.args.rows.now c.args.homes.now in
-    let first : c.push_staying.new.pairs.items ≡ pinned = c.in_ok-push_staying.ensures ∙ ap (λ (ps : List Edge). ps ++ pinned) c.new-pairs.ensures.items in
+    let first : c.push_staying.new.pairs.items ≡ pinned = c.in_ok-push_staying.ensures ∙ ap (λ (ps : List Edge). ps ++ pinned) c.in_ok-pairs.ensures.items in
     let both : c.as_slice.result.now ≡ pinned ++ others = c.as_slice.ensures.value ∙ (c.in_ok-push_staying-2.ensures ∙ ap (λ (ps : List Edge). ps ++ others) first) in
     subst (λ (ps : List Edge). All P ps) (sym both) (All-append P pinned others (staying_keys c.args.units true 0 c.args.rows.now c.args.homes.now c.requires.units)
     (staying_keys c.args.units false 0 c.args.rows.now c.args.homes.now c.requires.units))

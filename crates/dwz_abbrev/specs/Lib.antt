@@ -5,3 +5,4 @@ pub mod ReadPlaces
 pub mod Ranges
 pub mod Starts
 pub mod Written
+pub mod ReadParts

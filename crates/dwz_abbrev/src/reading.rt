@@ -1,90 +1,36 @@
 //! Tables that are read.
 
-ghost use Rattle.std.specs.Prelude.{◌≡◌, [], All, IfErr, IfOk, IfSome, OnErr, drop, length, true};
+ghost use Rattle.std.specs.Prelude.{◌≡◌, All, IfErr, IfOk, IfSome, OnErr, true};
 ghost use Rattle.std.specs.Option.{option_map};
-ghost use Rattle.dwz_def_reading.specs.Abbrevs.{FitsTable, constant_at, declaration_at, pair_at, pairs_at, table_at};
-ghost use Rattle.dwz_def_reading.specs.Faults.{Answers, AnswersAt, Fails, bad_abbrev};
-ghost use Rattle.dwz_model.specs.declared.fault.ReadErr.TheVariants.{Refused};
+ghost use Rattle.dwz_def_reading.specs.Abbrevs.{FitsTable, declaration_at, table_at};
+ghost use Rattle.dwz_def_reading.specs.Faults.{Answers, AnswersAt, Fails};
+ghost use Rattle.dwz_abbrev.specs.ReadParts.{IsIn};
 ghost use Rattle.dwz_abbrev.specs.Starts.{IsReadUpTo, IsStop};
 ghost use Rattle.dwz_abbrev.specs.ReadViews.{IsInRow, read_view, read_views};
 ghost use Rattle.dwz_abbrev.specs.Written.{Begins};
 
+use crate::pair_row::PairRow;
 use crate::read_decl::ReadDecl;
+use crate::read_pair::bad;
 use crate::read_rows::ReadRows;
 use crate::table::Table;
 use dwz_bytes::Cursor;
-use dwz_codes::DW_FORM_IMPLICIT_CONST;
-use dwz_model::{DEBUG_ABBREV, Fault, Pair, ReadErr, Reason};
+use dwz_model::ReadErr;
 use std::alloc::Global;
 
-// The declaration at a place is bad.
-#[inline(always)]
-fn bad(start: usize) -> ReadErr
-    ensures { result ≡ Refused (bad_abbrev start) }
-{
-    ReadErr::Refused(Fault {
-        section: DEBUG_ABBREV,
-        at: start as u64,
-        reason: Reason::BadAbbrev,
-    })
-}
-
-// What follows a form, in the declaration at `start`.
-#[inline(always)]
-fn constant(start: usize, form: u64, cursor: &mut Cursor) -> Result<i64, ReadErr>
-    ensures { AnswersAt (λ x. x) cursor.new result (constant_at start form cursor.old) }
-{
-    if form == DW_FORM_IMPLICIT_CONST {
-        cursor.sleb().map_err(|_| bad(start))
-    } else {
-        Ok(0)
-    }
-}
-
-// A pair, or their end, in the declaration at `start`.
-#[inline(always)]
-#[tactic(auto, unfolding(dwz_def_reading::specs::Abbrevs::pair_at))]
-fn pair(start: usize, cursor: &mut Cursor) -> Result<Option<Pair>, ReadErr>
-    ensures { AnswersAt (λ x. x) cursor.new result (pair_at start cursor.old) }
-{
-    let fault = |_| bad(start);
-    let name = cursor.uleb().map_err(fault)?;
-    let form = cursor.uleb().map_err(fault)?;
-    if name == 0 && form == 0 {
-        return Ok(None);
-    }
-    if name == 0 || form == 0 || name > 0xffff {
-        return Err(bad(start));
-    }
-    let constant = constant(start, form, cursor)?;
-    Ok(Some(Pair {
-        name: name as u16,
-        form,
-        constant,
-    }))
-}
-
-// Appends the pairs up to their end, of the declaration at `start`, to a row.
-fn pairs(start: usize, cursor: &mut Cursor, row: &mut Vec<Pair>) -> Result<(), ReadErr>
-    ensures pairs { AnswersAt (λ _. drop (length row.old.items) row.new.items) cursor.new result (pairs_at start [] cursor.old) }
-    ensures begins { Begins row.old.items row.new.items }
-{
-    while let Some(pair) = pair(start, cursor)? {
-        row.push(pair)?;
-    }
-    Ok(())
-}
-
-// A declaration behind the earlier ones, or the end of the table. Its pairs are appended to the row.
+// A declaration behind the earlier ones, or the end of the table. Its names and forms are in the row.
 #[tactic(auto, unfolding(dwz_def_reading::specs::Abbrevs::declaration_at))]
-fn declaration(
+fn declaration<'a>(
+    alloc: Global,
     earlier: &ReadRows,
-    cursor: &mut Cursor,
-    row: &mut Vec<Pair>,
+    cursor: &mut Cursor<'a>,
+    pairs: &mut PairRow<'a>,
 ) -> Result<Option<ReadDecl>, ReadErr>
-    ensures decl { AnswersAt (option_map (read_view row.new.items)) cursor.new result (declaration_at (read_views row.old.items earlier.now) cursor.old) }
-    ensures within { IfOk result (λ o. IfSome o (IsInRow row.new.items)) }
-    ensures begins { Begins row.old.items row.new.items }
+    requires { IsIn pairs.old.section cursor.old }
+    ensures decl { AnswersAt (option_map (read_view pairs.new.row)) cursor.new result (declaration_at (read_views pairs.old.row earlier.now) cursor.old) }
+    ensures within { IfOk result (λ o. IfSome o (IsInRow pairs.new.row)) }
+    ensures begins { Begins pairs.old.row pairs.new.row }
+    ensures section { pairs.new.section ≡ pairs.old.section }
 {
     let start = cursor.at();
     let fault = |_| bad(start);
@@ -97,12 +43,11 @@ fn declaration(
     if tag == 0 || tag > 0xffff || children > 1 || earlier.has(code) {
         return Err(bad(start));
     }
-    let first = row.len();
-    pairs(start, cursor, row)?;
+    let part = pairs.part_at(alloc, start, cursor)?;
     Ok(Some(ReadDecl {
         code,
-        first,
-        count: row.len() - first,
+        first: part.first,
+        count: part.end - part.first,
         tag: tag as u16,
         children: children == 1,
     }))
@@ -129,21 +74,22 @@ fn is_stop(stops: &[&[usize]], place: usize) -> bool
     false
 }
 
-// The declarations of the table at a place, up to one of the stops or to the end. Their pairs are appended to the row.
+// The declarations of the table at a place, up to one of the stops or to the end. Their names and forms are in the row.
 fn rows(
     alloc: Global,
-    section: &[u8],
     at: usize,
     stops: &[&[usize]],
-    row: &mut Vec<Pair>,
+    pairs: &mut PairRow,
 ) -> Result<ReadTable, ReadErr>
-    ensures read { IfOk result (λ r. IsReadUpTo section.now at (read_views row.new.items r.rows) r.starts.items r.stop) }
-    ensures fits { IfOk result (λ r. FitsTable (read_views row.new.items r.rows)) }
-    ensures within { IfOk result (λ r. All (IsInRow row.new.items) r.rows) }
+    ensures read { IfOk result (λ r. IsReadUpTo pairs.old.section at (read_views pairs.new.row r.rows) r.starts.items r.stop) }
+    ensures fits { IfOk result (λ r. FitsTable (read_views pairs.new.row r.rows)) }
+    ensures within { IfOk result (λ r. All (IsInRow pairs.new.row) r.rows) }
     ensures stop { IfOk result (λ r. IfSome r.stop (IsStop stops.now)) }
-    ensures begins { Begins row.old.items row.new.items }
-    ensures fault { IfErr result (λ e. Fails e (table_at section.now at)) }
+    ensures begins { Begins pairs.old.row pairs.new.row }
+    ensures section { pairs.new.section ≡ pairs.old.section }
+    ensures fault { IfErr result (λ e. Fails e (table_at pairs.old.section at)) }
 {
+    let section = pairs.section();
     if at > section.len() {
         return Err(bad(at));
     }
@@ -152,7 +98,7 @@ fn rows(
     let mut cursor = Cursor::new(section, at);
     let mut start = at;
     while !is_stop(stops, start) {
-        let Some(decl) = declaration(&rows, &mut cursor, row)? else {
+        let Some(decl) = declaration(alloc, &rows, &mut cursor, pairs)? else {
             return Ok(ReadTable {
                 rows,
                 starts,
@@ -172,27 +118,28 @@ fn rows(
 
 impl ReadTable {
     /// Reads the table at an offset of `.debug_abbrev`, in bytes from the section's first (DWARF 5, 7.5.3), up to a declaration that
-    /// begins at one of the `stops`, ascending lists of places, or else to its end, and appends its names and forms to the row. Says where
-    /// each declaration begins: the table there is the end of this one. Refused as `BadAbbrev` at the first declaration that isn't spelled,
-    /// or whose code one before it has, or at the offset where that is past the end of the section. After an error the row is as before.
+    /// begins at one of the `stops`, ascending lists of places, or else to its end. Names and forms that the row of the section hasn't yet
+    /// are appended to it. Says where each declaration begins: the table there is the end of this one. Refused as `BadAbbrev` at the first
+    /// declaration that isn't spelled, or whose code one before it has, or at the offset where that is past the end of the section. After an
+    /// error the row is as before.
     pub fn read_up_to(
         alloc: Global,
-        section: &[u8],
         at: u32,
         stops: &[&[usize]],
-        row: &mut Vec<Pair>,
+        pairs: &mut PairRow,
     ) -> Result<ReadTable, ReadErr>
-        ensures read { IfOk result (λ r. IsReadUpTo section.now at (read_views row.new.items r.rows) r.starts.items r.stop) }
-        ensures within { IfOk result (λ r. All (IsInRow row.new.items) r.rows) }
+        ensures read { IfOk result (λ r. IsReadUpTo pairs.old.section at (read_views pairs.new.row r.rows) r.starts.items r.stop) }
+        ensures within { IfOk result (λ r. All (IsInRow pairs.new.row) r.rows) }
         ensures stop { IfOk result (λ r. IfSome r.stop (IsStop stops.now)) }
-        ensures begins { Begins row.old.items row.new.items }
-        ensures fault { IfErr result (λ e. Fails e (table_at section.now at)) }
-        ensures err { OnErr result (row.new.items ≡ row.old.items) }
+        ensures begins { Begins pairs.old.row pairs.new.row }
+        ensures section { pairs.new.section ≡ pairs.old.section }
+        ensures fault { IfErr result (λ e. Fails e (table_at pairs.old.section at)) }
+        ensures err { OnErr result (pairs.new.row ≡ pairs.old.row) }
     {
-        let len = row.len();
-        let read = rows(alloc, section, at as usize, stops, row);
+        let len = pairs.as_slice().len();
+        let read = rows(alloc, at as usize, stops, pairs);
         if read.is_err() {
-            row.truncate(len);
+            pairs.truncate(len);
         }
         read
     }
@@ -204,9 +151,9 @@ impl Table {
     pub fn read(alloc: Global, section: &[u8], at: u32) -> Result<Table, ReadErr>
         ensures { Answers (λ t. t) result (table_at section.now at) }
     {
-        let mut row = Vec::new(alloc);
-        let ReadTable { rows, .. } = rows(alloc, section, at as usize, &[], &mut row)?;
-        let rows = rows.apart(alloc, row.as_slice())?;
+        let mut pairs = PairRow::new(alloc, section);
+        let ReadTable { rows, .. } = rows(alloc, at as usize, &[], &mut pairs)?;
+        let rows = rows.apart(alloc, pairs.as_slice())?;
         Ok(Table { rows })
     }
 }

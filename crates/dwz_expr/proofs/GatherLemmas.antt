@@ -68,7 +68,7 @@ piece_into (Err f) seen at g h same = refl
 none_held : (g : Gathered) (j : Input) → into g ([], j) ≡ Ok (g, j)
 none_held g j = ap (λ (w : Gathered). Ok (w, j)) (gather_none g)
 
-or_true : (a : Bool) → (a || true) ≡ true
+pub or_true : (a : Bool) → (a || true) ≡ true
 or_true true = refl
 or_true false = refl
 

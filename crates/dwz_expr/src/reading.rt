@@ -3,10 +3,12 @@
 ghost use Rattle.std.specs.Prelude.{◌≡◌, ◌+◌, ◌<◌, ◌^◌, IfOk, length};
 ghost use Rattle.dwz_def_reading.specs.Faults.{Answers};
 ghost use Rattle.dwz_def_reading.specs.Exprs.{any_operands, expr_at};
+ghost use Rattle.dwz_expr.specs.Few.{ArePlain};
 ghost use Rattle.dwz_expr.specs.FirstFault.{AreAsked, ReadsInto};
 ghost use Rattle.dwz_expr.specs.Gathering.{Grows, added};
 
 use crate::ops::all;
+use crate::plain::{Plain, plain_front};
 use dwz_def_reading::Operand;
 use dwz_model::ReadErr;
 use std::alloc::Global;
@@ -33,6 +35,27 @@ impl<'a> Model for Ops<'a> {
 // How many expressions may be inside another one.
 const MOST_INSIDE: u8 = 8;
 
+// The same as `read_into`, where plain operators stand at the front.
+#[inline(always)]
+fn read_rest(
+    operands: &mut Vec<Operand>,
+    bytes: &[u8],
+    plain: Plain,
+    at: u64,
+    section: u8,
+) -> Result<bool, ReadErr>
+    requires short { at + length bytes.now < 2 ^ 64 }
+    requires front { ArePlain bytes.now 0 plain }
+    ensures found { ReadsInto section (record { at = at; rest = bytes.now }) (added operands.old.items operands.new.items) result }
+    ensures grows { Grows operands.old.items operands.new.items }
+{
+    let mut address = plain.address;
+    let rest = &bytes[plain.end..];
+    let start = at + plain.end as u64;
+    all(MOST_INSIDE, rest, start, section, operands, &mut address)?;
+    Ok(address)
+}
+
 /// Reads the expression whose bytes these are, and whose first byte stands at that place of the section with that code, and
 /// appends the operands in it that name entries. Answers whether it, or an expression in it, has an address or the index of one.
 ///
@@ -40,6 +63,7 @@ const MOST_INSIDE: u8 = 8;
 /// else as `BadExpr` where its operands don't end in the expression, a number in them is too wide, or an expression is inside
 /// more than 8 others. Then the operands before it are appended, which are those that are looked up before: so the first of
 /// those that names no entry is the first fault, and where each does it is the one that is answered.
+#[inline(always)]
 pub fn read_into(
     operands: &mut Vec<Operand>,
     bytes: &[u8],
@@ -50,9 +74,11 @@ pub fn read_into(
     ensures found { ReadsInto section (record { at = at; rest = bytes.now }) (added operands.old.items operands.new.items) result }
     ensures grows { Grows operands.old.items operands.new.items }
 {
-    let mut address = false;
-    all(MOST_INSIDE, bytes, at, section, operands, &mut address)?;
-    Ok(address)
+    let plain = plain_front(bytes);
+    if plain.end == bytes.len() {
+        return Ok(plain.address);
+    }
+    read_rest(operands, bytes, plain, at, section)
 }
 
 impl<'a> Ops<'a> {

@@ -9,8 +9,9 @@ use Rattle.dwz_bytes.specs.Reading.{fixed_at, take_at}
 use Rattle.dwz_bytes.specs.Spelling.{le_value}
 use Rattle.dwz_codes.specs.declared.shape.Shape.{Shape}
 use Rattle.dwz_codes.specs.declared.shape.Shape.TheVariants.{Nothing, Fixed1, Fixed2, Fixed3, Fixed4, Fixed8, Fixed16, Address}
+use Rattle.dwz_codes.specs.Rows.{RowView}
 use Rattle.dwz_def_reading.specs.Values.{Bytes, Number, Raw, constant_of, read_as, shape_of, shaped_at, unsigned, value_at, valued, written_rows}
-use Rattle.dwz_forms.specs.FixedSizes.{fixed_size, shape_size}
+use Rattle.dwz_forms.specs.FixedSizes.{fixed_size, shape_size, size_among}
 
 -- a number of k bytes
 number_read : (k n : ℕ) (i : Input) → Some k ≡ Some n → n ≤ length i.rest → (raw : Raw) × (valued i.at (read_as unsigned (fixed_at k) i) ≡ Ok (raw, past n i))
@@ -48,5 +49,8 @@ shape_read Fixed16 pair i n is le = run_read 16 n i is le
 shape_read Address pair i n is le = number_read 8 n i is le
 shape_read _ pair i n is le = absurd cc
 
+pub among_reads : (rows : List RowView) (pair : Pair) (i : Input) (n : ℕ) → size_among rows pair.form ≡ Some n → n ≤ length i.rest → (raw : Raw) × (value_at rows pair i ≡ Ok (raw, past n i))
+among_reads rows pair i n size le = shape_read (shape_of rows pair.form) pair i n size le
+
 pub fixed_reads : (pair : Pair) (i : Input) (n : ℕ) → fixed_size pair.form ≡ Some n → n ≤ length i.rest → (raw : Raw) × (value_at written_rows pair i ≡ Ok (raw, past n i))
-fixed_reads pair i n size le = shape_read (shape_of written_rows pair.form) pair i n size le
+fixed_reads pair i n size le = among_reads written_rows pair i n size le

@@ -1,7 +1,8 @@
 -- Values whose length their form tells.
-use Rattle.std.specs.Prelude.{ℕ, Option, Some, None}
+use Rattle.std.specs.Prelude.{ℕ, List, Option, Some, None}
 use Rattle.dwz_codes.specs.declared.shape.Shape.{Shape}
 use Rattle.dwz_codes.specs.declared.shape.Shape.TheVariants.{Nothing, Fixed1, Fixed2, Fixed3, Fixed4, Fixed8, Fixed16, Address}
+use Rattle.dwz_codes.specs.Rows.{RowView}
 use Rattle.dwz_def_reading.specs.Values.{shape_of, written_rows}
 
 -- how many bytes a value of a shape has, where all have as many
@@ -19,3 +20,7 @@ shape_size _ = None
 -- how many bytes a value of a form has, of the forms that are written, where all have as many
 abbrev pub fixed_size : ℕ → Option ℕ
 fixed_size form = shape_size (shape_of written_rows form)
+
+-- the same, of the forms of these rows
+abbrev pub size_among : List RowView → ℕ → Option ℕ
+size_among rows form = shape_size (shape_of rows form)

@@ -2,8 +2,9 @@
 
 ghost use Rattle.std.specs.Prelude.{◌≡◌};
 ghost use Rattle.dwz_forms.specs.FixedSizes as Specs;
+ghost use Rattle.dwz_forms.specs.FormSets.{rows_of};
 
-use crate::form_set::written_shape;
+use crate::form_set::{FormSet, shape_among, written_shape};
 use dwz_codes::Shape;
 
 fn shape_size(shape: Shape) -> Option<usize>
@@ -27,4 +28,12 @@ pub fn fixed_size(form: u64) -> Option<usize>
     ensures { result ≡ Specs.fixed_size form }
 {
     shape_size(written_shape(form))
+}
+
+/// The same, of the forms of a set.
+#[inline(always)]
+pub fn size_among(forms: FormSet, form: u64) -> Option<usize>
+    ensures { result ≡ Specs.size_among (rows_of forms) form }
+{
+    shape_size(shape_among(forms, form))
 }

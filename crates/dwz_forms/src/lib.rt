@@ -3,7 +3,7 @@
 //! `read_value` reads the value of a form at a cursor: a number, or a slice of the input (`Raw`); or it answers the fault, and the cursor
 //! stands where it was. `read_value_sup` reads also what leads to a supplementary file, and `read_value_among` the forms of a `FormSet`;
 //! all are that one call. `size_of_value` and `write_value` say how long the bytes of a value are, and append them; what is read can be
-//! written again. `fixed_size` tells forms whose values all have as many bytes, and `is_binding` those whose values mean something else at
+//! written again. `fixed_size` and `size_among` tell forms whose values all have as many bytes, and `is_binding` those whose values mean something else at
 //! another place.
 //!
 //! Read first: `specs/RawValues.antt`, and `Values.antt` of `dwz_def_reading`.
@@ -16,7 +16,7 @@ mod raw;
 mod reading;
 mod writing;
 
-pub use fixed::fixed_size;
+pub use fixed::{fixed_size, size_among};
 pub use form_set::{FormSet, is_binding};
 pub use raw::Raw;
 pub use reading::{read_value, read_value_among, read_value_sup};

@@ -15,7 +15,7 @@ use Rattle.dwz_def_reading.proofs.ListFacts.{get_first, get_last}
 use Rattle.dwz_def_reading.specs.LineTables.{FileTable, nth_path}
 use Rattle.dwz_def_reading.specs.Meanings.{Sources, path_by}
 use Rattle.dwz_graph.specs.TablePlaces.{number_in}
-use Rattle.dwz_graph.specs.FileRows.{HasTable, KnowTables, SaysFile, file_there, row_there, table_at, unless_none}
+use Rattle.dwz_graph.specs.FileRows.{HasTable, IsLine, KnowTables, SaysFile, file_there, row_there, table_at, unless_none}
 
 pub has_more : (sources : Sources) (tables new : List FileTable) (t : FileTable) (place number : ℕ) → new ≡ tables ++ t ∷ [] → HasTable sources tables place number → HasTable sources new place number
 has_more sources tables new t place number e h = record { table = h.table; there = ap (λ (w : List FileTable). slice_get w number) e ∙ get_first tables (t ∷ []) number h.table h.there; read = h.read }
@@ -44,15 +44,16 @@ plain_number z y e h = ap (λ (x : ℤ). lt_z (pos 18446744073709551615) x) (sym
 -- ---- the tables that are known
 
 module _ (sources : Sources) where
-  pub know_none : (files : Files) → ((place : ℕ) → number_in files.places place ≡ None) → KnowTables sources files
-  know_none files none = record { known = λ place number e. absurd (let both : None ≡ Some number = sym (none place) ∙ e in cc) }
+  pub know_none : (files : Files) → IsLine sources files.line → ((place : ℕ) → number_in files.places place ≡ None) → KnowTables sources files
+  know_none files line none = record { line = line; known = λ place number e. absurd (let both : None ≡ Some number = sym (none place) ∙ e in cc) }
 
-  pub know_more : (old new : Files) (t : FileTable) (place number : ℕ) → KnowTables sources old → new.tables.items ≡ old.tables.items ++ t ∷ [] → number ≡ length old.tables.items
+  pub know_more : (old new : Files) (t : FileTable) (place number : ℕ) → KnowTables sources old → IsLine sources new.line → new.tables.items ≡ old.tables.items ++ t ∷ [] → number ≡ length old.tables.items
       → table_at sources place ≡ Ok t
       → ((q : ℕ) → number_in new.places q ≡ cond (nat_eq place q) (Some number) (number_in old.places q)) → KnowTables sources new × HasTable sources new.tables.items place number
-  know_more old new t place number h tables len read updates =
+  know_more old new t place number h line tables len read updates =
       let last : HasTable sources new.tables.items place number = has_last sources old.tables.items new.tables.items t place number tables len read in (
         record {
+          line = line;
           known = λ q n e. elim (cases_Bool (nat_eq place q)) [
             | inl same ↦
                 let at : place ≡ q = eqb-true place q same in

@@ -26,20 +26,6 @@ use Rattle.dwz_graph.proofs.RowLemmas.{take_here}
 use Rattle.dwz_graph.proofs.SharedLaw.{from_map, in_map}
 use Rattle.dwz_graph.proofs.UnitThere.{get_behind, get_front}
 
--- ---- what is appended, one by one
-
-pub none_added : {X Y : Type 0} (f : X → Y) (xs : List X) (ys : List Y) → ys ≡ ys ++ map f (take 0 xs)
-none_added f xs ys = sym (append-nil ys)
-
-pub one_added : {X Y : Type 0} (f : X → Y) (xs : List X) (k : ℕ) (x : X) (y : Y) (before old new : List Y) → slice_get xs k ≡ Some x → y ≡ f x → new ≡ old ++ y ∷ [] → old ≡ before ++ map f (take k xs)
-    → new ≡ before ++ map f (take (k + 1) xs)
-one_added f xs k x y before old new there is e h =
-    e ∙ (λ i. h i ++ is i ∷ []) ∙ append_assoc before (map f (take k xs)) (f x ∷ []) ∙ ap (λ w. before ++ w) (sym (map-append f (take k xs) (x ∷ [])))
-    ∙ ap (λ w. before ++ map f w) (sym (take_here xs k x there))
-
-pub all_added : {X Y : Type 0} (f : X → Y) (xs : List X) (k : ℕ) (before new : List Y) → length xs ≤ k → new ≡ before ++ map f (take k xs) → new ≡ before ++ map f xs
-all_added f xs k before new le h = h ∙ ap (λ w. before ++ map f w) (take_all k xs le)
-
 -- ---- stretches of a list
 
 abbrev none_of : (X : Type 0) → List X

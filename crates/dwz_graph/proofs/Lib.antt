@@ -75,3 +75,4 @@ pub mod StopSteps
 pub mod JoinLemmas
 pub mod StretchLemmas
 mod OpenedLemmas
+mod HeadedLemmas

@@ -1,6 +1,6 @@
 -- Values that are passed over name nothing.
-use Rattle.std.proofs.Common.{◌≡◌, ℕ, ◌+◌, ◌<◌, ◌≤◌, Bool, true, false, List, [], ◌∷◌, ◌++◌, drop, eqb, get_or, length, take, Ok, refl, sym, ap, subst, ◌∙◌}
-use Rattle.std.specs.Prelude.{IsOk, ◌&&◌, ◌||◌, ◌==◌, not, if◌then◌else◌}
+use Rattle.std.proofs.Common.{◌≡◌, ℕ, ◌+◌, ◌<◌, ◌≤◌, Bool, true, false, List, [], ◌∷◌, ◌++◌, drop, eqb, get_or, length, take, Ok, Some, refl, sym, ap, subst, ◌∙◌}
+use Rattle.std.specs.Prelude.{IsOk, slice_get, ◌&&◌, ◌||◌, ◌==◌, not, if◌then◌else◌}
 use Rattle.std.specs.List.{list_any}
 use Rattle.std.specs.Option.{is_some}
 use Rattle.std.proofs.Math.Bool.{or-false}
@@ -26,7 +26,8 @@ use Rattle.dwz_unit.proofs.StopLemmas.{IsPassed, NextStop, next_stop, no_stop}
 use Rattle.dwz_graph.specs.Named.{attr_named, collect, found_in, joined, map_ok, nothing_found}
 use Rattle.dwz_graph.specs.Parts.{numbers_as, numbers_file}
 use Rattle.dwz_graph.proofs.NamedLemmas.{collect_append, joined_none}
-use Rattle.dwz_graph.proofs.ValueSteps.{IsNext, next_read, no_pair}
+use Rattle.dwz_graph.specs.Resolved.{value_between}
+use Rattle.dwz_graph.proofs.ValueSteps.{no_pair}
 
 -- ---- a value
 
@@ -103,10 +104,14 @@ still_numbered attrs front between is h =
 abbrev pub none : Stop
 none = record { skip = 0; number = 0 }
 
--- The value of a pair stands between the two, behind the values that were looked at or passed over, and those before it that are
--- passed over add nothing.
-pub record IsStop (entry : ℕ) (pairs : List Pair) (now number : ℕ) (at place : Input) (raw : Raw) (attrs : List RawAttr) : Type 0 where
-  pub next : IsNext entry pairs number (get_or pairs number no_pair) at place raw attrs
+-- The value of a pair stands at a place, behind the values that were looked at or passed over, and those before it that are passed over
+-- add nothing.
+pub record StopThere (entry : ℕ) (pairs : List Pair) (now number : ℕ) (at : Input) (attrs : List RawAttr) : Type 0 where
+  pub raw : Raw
+  pub place : Input
+  pub value : value_at written_rows (get_or pairs number no_pair) at ≡ Ok (raw, place)
+  pub is : slice_get attrs number ≡ Some (value_between at place (get_or pairs number no_pair) raw)
+  pub rest : Reads entry (drop (number + 1) pairs) place (drop (number + 1) attrs)
   pub named : (s : MeaningContext ℕ) → collect (attr_named s) (take now attrs) ≡ collect (attr_named s) (take number attrs)
   pub numbered : list_any numbers_file (take now attrs) ≡ list_any numbers_file (take number attrs)
 
@@ -126,23 +131,25 @@ module _ (entry : ℕ) (pairs : List Pair) (stops : List Stop) (k now : ℕ) (at
       let number = (get_or stops k none).number in
       subst (λ (i : Input). Reads entry (drop number pairs) i (drop number attrs)) (sym is) (at_stop lt).reads
 
-  pub value_there : (begins : Input) → k < length stops → begins ≡ past (get_or stops k none).skip at
-      → IsOk (value_at written_rows (get_or pairs (get_or stops k none).number no_pair) begins)
-  value_there begins lt is =
-      let x = reads_next entry pairs (get_or stops k none).number no_pair begins attrs (at_stop lt).below (reads_there begins lt is) in
-      subst IsOk (sym x.value) refl
-
-  pub stop_read : (begins ends : Input) (raw : Raw) → k < length stops → begins ≡ past (get_or stops k none).skip at
-      → value_at written_rows (get_or pairs (get_or stops k none).number no_pair) begins ≡ Ok (raw, ends)
-      → IsStop entry pairs now (get_or stops k none).number begins ends raw attrs
-  stop_read begins ends raw lt is value =
+  pub stop_there : (begins : Input) → k < length stops → begins ≡ past (get_or stops k none).skip at
+      → StopThere entry pairs now (get_or stops k none).number begins attrs
+  stop_there begins lt is =
       let n = at_stop lt in
       let number = (get_or stops k none).number in
+      let x = reads_next entry pairs number no_pair begins attrs n.below (reads_there begins lt is) in
       record {
-        next = next_read entry pairs number no_pair begins ends raw attrs n.below (reads_there begins lt is) value;
+        raw = x.raw;
+        place = x.place;
+        value = x.value;
+        is = x.is;
+        rest = x.rest;
         named = λ s. still_collected s (take number attrs) (take now attrs) n.between n.taken n.passed;
         numbered = still_numbered (take number attrs) (take now attrs) n.between n.taken n.passed;
       }
+
+  pub value_there : (begins : Input) → k < length stops → begins ≡ past (get_or stops k none).skip at
+      → IsOk (value_at written_rows (get_or pairs (get_or stops k none).number no_pair) begins)
+  value_there begins lt is = subst IsOk (sym (stop_there begins lt is).value) refl
 
   pub all_read : length stops ≤ k → AreAll now attrs
   all_read le =

@@ -3,10 +3,10 @@ use Rattle.std.specs.Prelude.{◌≡◌, ℕ, suc, ◌^◌, ◌<◌, ◌≤◌, 
 use Rattle.dwz_model.specs.declared.fault.ReadErr.{ReadErr}
 use Rattle.dwz_def_reading.specs.Documents.{Doc, unit_map}
 use Rattle.dwz_def_reading.specs.ElfFaults.{read_back}
-use Rattle.dwz_def_reading.specs.ElfReading.{elf_of}
+use Rattle.dwz_def_reading.specs.ElfReading.{elf_fault_for, elf_of}
 use Rattle.dwz_def_reading.specs.Entries.{of_common}
 use Rattle.dwz_def_reading.specs.Faults.{Fails}
-use Rattle.dwz_def_reading.specs.Files.{Limits, debug_aranges, debug_info, file_meaning_by, given_rule, limits_after, sources_of, units_said}
+use Rattle.dwz_def_reading.specs.Files.{Limits, debug_abbrev, debug_aranges, debug_info, file_meaning_by, given_rule, is_other_machine, is_too_long, limits_after, machine_of, sources_of, units_said}
 use Rattle.dwz_def_reading.specs.Finished.{common_sup_fault, file_sup_fault, sum_of}
 use Rattle.dwz_def_reading.specs.Meanings.{Around, Common, all_places}
 use Rattle.dwz_def_reading.specs.Modes.{of_back}
@@ -17,6 +17,7 @@ use Rattle.dwz_def_reading.specs.Shared.{AreRows}
 use Rattle.dwz_def_reading.specs.Units.{RawUnit, entries_in}
 use Rattle.dwz_graph.specs.ListRows.{AreOfFile, operand_view}
 use Rattle.dwz_graph.specs.declared.file.File.{File}
+use Rattle.dwz_graph.specs.declared.file.Headed.{Headed}
 use Rattle.dwz_graph.specs.declared.file.Opened.{Opened}
 use Rattle.dwz_graph.specs.declared.rule.Beside.{Beside}
 use Rattle.dwz_graph.specs.declared.rule.Rule.{Rule}
@@ -105,6 +106,16 @@ pub record IsReadBy (rule : ReadingRule ℕ) (read_as : FileKind) (l : Limits) (
   pub info : f.units.info ≡ debug_info bytes
   pub sections : sources_view f.sections ≡ sources_of bytes
   pub aranges : f.sections.aranges.now ≡ debug_aranges bytes
+
+-- No fault of the file comes before those of its units, which stand in these bytes.
+pub record IsHeaded (rule : Rule) (l : Limits) (bytes : List ℕ) (h : Headed) : Type 0 where
+  pub size : is_too_long l bytes ≡ false
+  pub faultless : elf_fault_for (rule_view rule).manner bytes ≡ None
+  pub machine : is_other_machine l.machine (machine_of bytes) ≡ false
+  pub sup : (rule_view rule).sup_fault bytes ≡ None
+  pub elf : h.elf ≡ elf_of bytes
+  pub info : h.info.now ≡ debug_info bytes
+  pub abbrevs : h.abbrevs.now ≡ debug_abbrev bytes
 
 -- The file was opened by the rule: what it says is what its units say, with what surrounds them.
 pub record IsOpened (rule : Rule) (l : Limits) (bytes : List ℕ) (o : Opened) : Type 0 where

@@ -10,6 +10,7 @@ use Rattle.dwz_def_reading.specs.LineTables.{FileTable, file_table_at}
 use Rattle.dwz_def_reading.specs.Meanings.{Sources, path_by, text_sections_of}
 use Rattle.dwz_def_reading.specs.Classes.{names_file}
 use Rattle.dwz_def_reading.specs.Meant.{is_zero}
+use Rattle.dwz_lines.specs.Sections.{LineSource}
 use Rattle.dwz_graph.specs.TablePlaces.{number_in}
 use Rattle.dwz_graph.specs.declared.files.Files.{Files}
 
@@ -23,8 +24,17 @@ pub record HasTable (sources : Sources) (tables : List FileTable) (place number 
   pub there : slice_get tables number ≡ Some table
   pub read : table_at sources place ≡ Ok table
 
--- each place that is kept is that of its table
+-- the sections that line tables are read from
+abbrev pub line_of : Sources → LineSource
+line_of sources = record { line = sources.line; texts = text_sections_of sources }
+
+abbrev pub IsLine : Sources → Option LineSource → Type 0
+IsLine sources None = Unit {0}
+IsLine sources (Some line) = line ≡ line_of sources
+
+-- tables are read from these sections, and each place that is kept is that of its table
 pub record KnowTables (sources : Sources) (files : Files) : Type 0 where
+  pub line : IsLine sources files.line
   pub known : (place number : ℕ) → number_in files.places place ≡ Some number → HasTable sources files.tables.items place number
 
 -- the number that is kept for the table at a place, if there is a place

@@ -4,11 +4,13 @@ use Rattle.std.specs.Prelude.{slice_get, slice_range}
 use Rattle.std.specs.Option.{is_some}
 use Rattle.dwz_model.specs.declared.fault.Fault.{Fault}
 use Rattle.dwz_model.specs.declared.fault.ReadErr.{ReadErr}
+use Rattle.dwz_bytes.specs.Input.{Input}
 use Rattle.dwz_def_reading.specs.Lists.{Each}
 use Rattle.dwz_def_reading.specs.Entries.{RawAttr}
 use Rattle.dwz_def_reading.specs.Faults.{Fails}
 use Rattle.dwz_def_reading.specs.Meanings.{Around, Common, MeaningContext, Sources, alone, base_in, first_raw, places_of, scope_of}
 use Rattle.dwz_def_reading.specs.Texts.{slot, text_at}
+use Rattle.dwz_def_reading.specs.Values.{Raw}
 use Rattle.dwz_def_reading.specs.Units.{RawUnit, entries_in, entry_count}
 use Rattle.dwz_def_reading.specs.Documents.{Value, ref}
 use Rattle.dwz_def_reading.specs.Shared.{NamedList}
@@ -37,6 +39,10 @@ scope_in s raw u = scope_of (around s raw) u
 -- a value of that name and form that begins and ends there
 abbrev pub stored : ℕ → ℕ → Pair → RawOfCode → RawAttr
 stored at end pair raw = record { at = at; end = end; pair = pair; raw = raw_view raw }
+
+-- a value of that name and form that stands between two places
+abbrev pub value_between : Input → Input → Pair → Raw → RawAttr
+value_between from to pair raw = record { at = from.at; end = to.at; pair = pair; raw = raw }
 
 -- numbers of entries
 abbrev pub AreEntries : List RawUnit → List ℕ → Type 0

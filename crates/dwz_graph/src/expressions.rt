@@ -17,7 +17,7 @@ use crate::here::Here;
 use crate::sections::InputSections;
 use crate::state::State;
 use crate::surroundings::Surroundings;
-use dwz_expr::{Operand, read_into};
+use dwz_expr::{Operand, is_plain, read_into};
 use dwz_forms::Raw;
 use dwz_model::{Base, DEBUG_INFO, Fault, ReadErr, Reason};
 use dwz_unit::Units;
@@ -106,9 +106,9 @@ fn bytes_of<'a>(raw: &Raw<'a>) -> &'a [u8]
     }
 }
 
-/// Adds what the expression names that a value is. Refused at the first operator that isn't read, or whose operand names no entry.
+// Adds what the expression names that a value is, whichever it is.
 #[inline(never)]
-pub(crate) fn add_expression(
+fn add_any(
     units: &Units,
     around: &Surroundings,
     here: &Here,
@@ -144,4 +144,29 @@ pub(crate) fn add_expression(
         Ok(_) => Ok(()),
         Err(error) => Err(error),
     }
+}
+
+/// Adds what the expression names that a value is. Refused at the first operator that isn't read, or whose operand names no entry.
+#[inline(never)]
+pub(crate) fn add_expression(
+    units: &Units,
+    around: &Surroundings,
+    here: &Here,
+    end: u64,
+    raw: &Raw,
+    state: &mut State,
+) -> Result<(), ReadErr>
+    requires { here.now.end ≤ entries_in (units_of units.now) }
+    ensures file { state.new.file ≡ state.old.file }
+    ensures files { state.new.files ≡ state.old.files }
+    ensures goes { (u : RawUnit) (before : List NamedList) → IsHere (units_of units.now) u here.now
+        → StateIn around.now (units_of units.now) u here.now before state.old
+        → Goes (common_view around.now.common) (units_of units.now) (StateIn around.now (units_of units.now) u here.now) before state.old state.new result
+        (expr_named (scope_within around.now (units_of units.now) u)
+        (record { at = end - length (Meanings.bytes_of (raw_view raw.now)); rest = Meanings.bytes_of (raw_view raw.now) })) }
+{
+    if is_plain(bytes_of(raw)) {
+        return Ok(());
+    }
+    add_any(units, around, here, end, raw, state)
 }

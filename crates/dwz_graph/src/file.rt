@@ -6,8 +6,9 @@ ghost use Rattle.dwz_def_reading.specs.ElfFaults.{file_fault};
 ghost use Rattle.dwz_def_reading.specs.Files;
 ghost use Rattle.dwz_def_reading.specs.ElfReading.{elf_of};
 ghost use Rattle.dwz_graph.specs.Resolved.{sources_view};
-ghost use Rattle.dwz_graph.specs.ByRule.{IsGoodRule, IsOpened, ReadsFileBy, rule_view};
+ghost use Rattle.dwz_graph.specs.ByRule.{IsGoodRule, IsHeaded, IsOpened, ReadsFileBy, common_of, rule_view};
 ghost use Rattle.dwz_graph.specs.Files.{ReadsFile, limits_view};
+ghost use Rattle.dwz_graph.specs.Surroundings.{common_view};
 ghost use Rattle.dwz_model.specs.declared.fault.ReadErr.TheVariants.{Refused};
 
 use crate::resolving::{resolve, resolve_by};
@@ -120,15 +121,23 @@ fn sections_of<'a>(elf: &Elf, bytes: &'a [u8]) -> InputSections<'a>
     }
 }
 
-// Reads the units of a file by a rule, behind others. Refused with its first fault, if that comes before those of what values mean.
-fn open_by<'a, 'c>(
+// A file of which the headers were read: these, and the sections of its units.
+#[derive(Drop)]
+struct Headed<'a> {
+    elf: Elf,
+    info: &'a [u8],
+    abbrevs: &'a [u8],
+}
+
+// Reads the headers of a file by a rule, behind others. Refused with its first fault, if that comes before those of its units.
+fn headed_by<'a>(
     alloc: Global,
     bytes: &'a [u8],
     left: &Budget,
-    rule: &'c Rule<'_>,
-) -> Result<Opened<'a, 'c>, ReadErr>
+    rule: &Rule<'_>,
+) -> Result<Headed<'a>, ReadErr>
     requires { IsGoodRule rule.now }
-    ensures ok { IfOk result (IsOpened rule.now (limits_view left.now) bytes.now) }
+    ensures ok { IfOk result (IsHeaded rule.now (limits_view left.now) bytes.now) }
     ensures err { IfErr result (λ e. Fails e (Files.file_meaning_by (rule_view rule.now) (limits_view left.now) bytes.now)) }
 {
     if is_too_long(left, bytes) {
@@ -143,12 +152,63 @@ fn open_by<'a, 'c>(
     }
     let info = elf.content(bytes, DEBUG_INFO);
     let abbrevs = elf.content(bytes, DEBUG_ABBREV);
-    let units = rule.units(alloc, info, abbrevs, left.entries)?;
+    Ok(Headed { elf, info, abbrevs })
+}
+
+// A file with its units, and what their values speak of.
+fn with_units<'a, 'c>(
+    elf: Elf,
+    bytes: &'a [u8],
+    rule: &'c Rule<'_>,
+    units: Units<'a>,
+) -> Opened<'a, 'c>
+    requires short { length bytes.now < 2 ^ 32 }
+    requires elf { elf ≡ elf_of bytes.now }
+    ensures elf { result.elf ≡ elf }
+    ensures units { result.units ≡ units.entry }
+    ensures sources { sources_view result.around.sections ≡ Files.sources_of bytes.now }
+    ensures aranges { result.around.sections.aranges.now ≡ Files.debug_aranges bytes.now }
+    ensures common { common_view result.around.common ≡ common_of rule.now }
+{
     let around = Surroundings {
         sections: sections_of(&elf, bytes),
         common: rule.common(),
     };
-    Ok(Opened { elf, units, around })
+    Opened { elf, units, around }
+}
+
+// Reads the units of a file by a rule, behind others. Refused with its first fault, if that comes before those of what values mean.
+fn open_by<'a, 'c>(
+    alloc: Global,
+    bytes: &'a [u8],
+    left: &Budget,
+    rule: &'c Rule<'_>,
+) -> Result<Opened<'a, 'c>, ReadErr>
+    requires { IsGoodRule rule.now }
+    ensures ok { IfOk result (IsOpened rule.now (limits_view left.now) bytes.now) }
+    ensures err { IfErr result (λ e. Fails e (Files.file_meaning_by (rule_view rule.now) (limits_view left.now) bytes.now)) }
+{
+    let Headed { elf, info, abbrevs } = headed_by(alloc, bytes, left, rule)?;
+    let units = rule.units(alloc, info, abbrevs, left.entries)?;
+    Ok(with_units(elf, bytes, rule, units))
+}
+
+// The same by so many workers.
+fn open_by_workers<'a, 'c, R: Threads + Sync>(
+    rt: &R,
+    alloc: Global,
+    bytes: &'a [u8],
+    left: &Budget,
+    rule: &'c Rule<'_>,
+    workers: u32,
+) -> Result<Opened<'a, 'c>, ReadErr>
+    requires { IsGoodRule rule.now }
+    ensures ok { IfOk result (IsOpened rule.now (limits_view left.now) bytes.now) }
+    ensures err { IfErr result (λ e. Fails e (Files.file_meaning_by (rule_view rule.now) (limits_view left.now) bytes.now)) }
+{
+    let Headed { elf, info, abbrevs } = headed_by(alloc, bytes, left, rule)?;
+    let units = rule.units_by(rt, alloc, info, abbrevs, left.entries, workers)?;
+    Ok(with_units(elf, bytes, rule, units))
 }
 
 /// Reads the file with a number by a rule, behind others. Refused with its first fault.
@@ -185,7 +245,7 @@ pub(crate) fn read_file<'a, R: Threads + Sync>(
     ensures { ReadsFile (limits_view left.now) number bytes.now result }
 {
     let rule = Rule::Given;
-    let Opened { elf, units, around } = open_by(alloc, bytes, left, &rule)?;
+    let Opened { elf, units, around } = open_by_workers(rt, alloc, bytes, left, &rule, workers)?;
     let resolved = resolve_by(rt, alloc, number, &units, &around, workers)?;
     let sections = around.sections;
     Ok(File {

@@ -1,8 +1,7 @@
 //! Files that values number (DWARF 5, 2.14 and 6.2.4): rows of their unit's line table.
 //!
-//! A line table is read once for each place that a unit names, and kept by its place. Tables that overlap are read one by one: each lays
-//! out its rows by the formats of its own header, so what one read of the same bytes says nothing of another. A row has a byte at least, so
-//! tables that don't overlap keep all their rows.
+//! A line table is read once for each place that a unit names, and kept by its place. A row has a byte at least, so tables that don't
+//! overlap keep all their rows; of those that do, rows that were read by the same formats before aren't read again.
 
 ghost use Rattle.std.specs.Prelude.{◌≡◌, Some, true, slice_get};
 ghost use Rattle.std.specs.Option.{is_some};
@@ -14,7 +13,8 @@ ghost use Rattle.dwz_def_reading.specs.Meanings.{path_by};
 ghost use Rattle.dwz_model.specs.declared.fault.ReadErr.TheVariants.{Refused};
 ghost use Rattle.dwz_model.specs.declared.fault.Reason.TheVariants.{BadFile};
 ghost use Rattle.dwz_def_reading.specs.Faults.{Answers, info_fault};
-ghost use Rattle.dwz_graph.specs.FileRows.{FindsTable, IfLearns, KnowTables, SaysConstant, SaysFile, number_at, unless_none};
+ghost use Rattle.dwz_graph.specs.FileRows.{FindsTable, IfLearns, IsLine, KnowTables, SaysConstant, SaysFile, line_of, number_at};
+ghost use Rattle.dwz_graph.specs.FileRows.{unless_none};
 ghost use Rattle.dwz_graph.specs.Resolved.{sources_view};
 
 use crate::here::Here;
@@ -22,7 +22,7 @@ use crate::places::TablePlaces;
 use crate::sections::InputSections;
 use dwz_codes::names_file;
 use dwz_forms::Raw;
-use dwz_lines::TableRows;
+use dwz_lines::{LineSections, TableRows};
 use dwz_model::{DEBUG_INFO, Fault, ReadErr, Reason};
 use std::alloc::Global;
 
@@ -36,6 +36,8 @@ pub(crate) struct Files<'a> {
     pub rows: usize,
     /// The number of the table at a place of `.debug_line`.
     pub places: TablePlaces,
+    /// The sections that tables are read from, once one was.
+    pub line: Option<LineSections<'a>>,
 }
 
 fn bad_file(at: u64) -> ReadErr
@@ -92,6 +94,19 @@ fn unless_missing(is_there: bool, at: u64) -> Result<(), ReadErr>
     if is_there { Ok(()) } else { Err(bad_file(at)) }
 }
 
+// The sections that tables are read from: those that they were read from before, if one was.
+fn line_sections<'a>(
+    before: Option<LineSections<'a>>,
+    sections: &InputSections<'a>,
+) -> LineSections<'a>
+    ensures { IsLine (sources_view sections.now) before.entry → result ≡ line_of (sources_view sections.now) }
+{
+    match before {
+        Some(line) => line,
+        None => LineSections::new(sections.line, sections.line_strs.bytes, sections.strs.bytes),
+    }
+}
+
 impl<'a> Files<'a> {
     /// None was read.
     pub(crate) fn new(alloc: Global) -> Files<'a>
@@ -102,6 +117,7 @@ impl<'a> Files<'a> {
             tables: Vec::new(alloc),
             rows: 0,
             places: TablePlaces::new(alloc),
+            line: None,
         }
     }
 
@@ -124,14 +140,10 @@ impl<'a> Files<'a> {
             return Ok(table);
         }
         let mut left = sections.line.len().saturating_sub(self.rows);
-        let table = TableRows::read(
-            self.alloc,
-            sections.line,
-            sections.line_strs.bytes,
-            sections.strs.bytes,
-            place as u64,
-            &mut left,
-        )?;
+        let before = self.line.take();
+        let mut line = line_sections(before, sections);
+        let table = line.read(self.alloc, place as u64, &mut left)?;
+        self.line = Some(line);
         self.rows = sections.line.len().saturating_sub(left);
         let number = self.tables.as_slice().len();
         self.tables.push(table)?;
@@ -140,6 +152,7 @@ impl<'a> Files<'a> {
     }
 
     /// Goes on where a value that stands at a place numbers a file of its unit, whose line table begins at `line`, if it has one.
+    #[inline(always)]
     pub(crate) fn check(
         &mut self,
         sections: &InputSections<'a>,

@@ -231,6 +231,7 @@ fn bad_list(at: u64) -> ReadErr
 }
 
 // Adds the list at a place that a value names.
+#[inline(always)]
 fn add_list(
     units: &Units,
     around: &Surroundings,

@@ -1,19 +1,20 @@
 //! What the values of entries name, or the first fault.
 
-ghost use Rattle.std.specs.Prelude.{◌≡◌, ℕ, ◌+◌, ◌^◌, ◌<◌, ◌≤◌, List, [], IfOk, Some, length, slice_get, slice_range};
+ghost use Rattle.std.specs.Prelude.{◌≡◌, ℕ, ◌+◌, ◌^◌, ◌<◌, ◌≤◌, List, [], IfOk, IsOk, Some, length, slice_get, slice_range};
 ghost use Rattle.std.specs.List.{list_any};
 ghost use Rattle.dwz_def_reading.specs.Faults.{info_fault};
 ghost use Rattle.dwz_def_reading.specs.Units.{RawUnit, entries_in};
 ghost use Rattle.dwz_def_reading.specs.Meanings;
 ghost use Rattle.dwz_def_reading.specs.Meant.{as_class};
 ghost use Rattle.dwz_def_reading.specs.NamedLists.{lists_as};
+ghost use Rattle.dwz_def_reading.specs.Values.{value_at, written_rows};
 ghost use Rattle.dwz_model.specs.declared.fault.ReadErr.TheVariants.{Refused};
 ghost use Rattle.dwz_model.specs.declared.fault.Reason.TheVariants.{UnsupportedForm};
 ghost use Rattle.dwz_def_reading.specs.Shared.{NamedList};
 ghost use Rattle.dwz_graph.specs.FileRows.{IfLearns};
 ghost use Rattle.dwz_graph.specs.Parts.{IsParted, numbers_as, numbers_file};
 ghost use Rattle.dwz_graph.specs.Named.{attr_named, entry_named, found_in, map_ok, unit_named, units_named};
-ghost use Rattle.dwz_graph.specs.Resolved.{Goes, IsHere, StateAt, StateIn, stored};
+ghost use Rattle.dwz_graph.specs.Resolved.{Goes, IsHere, StateAt, StateIn, stored, value_between};
 ghost use Rattle.dwz_graph.specs.Surroundings.{around_in, common_view, entries_among, scope_within};
 ghost use Rattle.dwz_unit.specs.Rows.{EntryRow, rows_of, units_of};
 
@@ -28,7 +29,11 @@ use crate::sections::offset_of;
 use crate::state::State;
 use crate::strings::{check_text, has_common_text, has_slot_text};
 use crate::surroundings::Surroundings;
-use dwz_codes::{Class, DW_AT_SIBLING, class_of};
+use dwz_bytes::Cursor;
+use dwz_codes::{
+    Class, DW_AT_SIBLING, DW_FORM_DATA1, DW_FORM_DATA2, DW_FORM_IMPLICIT_CONST, DW_FORM_LINE_STRP,
+    DW_FORM_REF4, DW_FORM_STRP, class_of,
+};
 use dwz_forms::Raw;
 use dwz_model::{DEBUG_INFO, Fault, Pair, ReadErr, Reason};
 use dwz_unit::{Stops, Units, known_value, pass_bytes};
@@ -157,6 +162,101 @@ fn add_attr<'a>(
     )
 }
 
+// Adds what the value at the cursor names, which was read before, and leaves the cursor behind it.
+#[inline(always)]
+fn add_value<'a>(
+    units: &Units,
+    around: &Surroundings<'a, '_>,
+    here: &Here,
+    pair: &Pair,
+    cursor: &mut Cursor,
+    state: &mut State<'a>,
+) -> Result<(), ReadErr>
+    requires here { here.now.end ≤ entries_in (units_of units.now) }
+    requires room { entries_among (common_view around.now.common) (units_of units.now) < 2 ^ 32 }
+    requires read { IsOk (value_at written_rows pair.now cursor.old) }
+    ensures file { state.new.file ≡ state.old.file }
+    ensures read { IfOk (value_at written_rows pair.now cursor.old) (λ x. IfOk result (λ y. cursor.new ≡ x.1)) }
+    ensures learns { IfOk (value_at written_rows pair.now cursor.old) (λ x.
+        IfLearns (numbers_file (value_between cursor.old x.1 pair.now x.0)) here.now.line state.old.files state.new.files result) }
+    ensures goes { IfOk (value_at written_rows pair.now cursor.old) (λ x. (u : RawUnit) (before : List NamedList) → IsHere (units_of units.now) u here.now
+        → StateIn around.now (units_of units.now) u here.now before state.old
+        → Goes (common_view around.now.common) (units_of units.now) (StateIn around.now (units_of units.now) u here.now) before state.old state.new result
+        (attr_named (scope_within around.now (units_of units.now) u) (value_between cursor.old x.1 pair.now x.0))) }
+{
+    let at = cursor.at() as u64;
+    let raw = known_value(cursor, pair);
+    let end = cursor.at() as u64;
+    add_attr(units, around, here, at, end, pair, &raw, state)
+}
+
+// The same, of forms that few values have.
+#[inline(never)]
+fn add_rare<'a>(
+    units: &Units,
+    around: &Surroundings<'a, '_>,
+    here: &Here,
+    pair: &Pair,
+    cursor: &mut Cursor,
+    state: &mut State<'a>,
+) -> Result<(), ReadErr>
+    requires here { here.now.end ≤ entries_in (units_of units.now) }
+    requires room { entries_among (common_view around.now.common) (units_of units.now) < 2 ^ 32 }
+    requires read { IsOk (value_at written_rows pair.now cursor.old) }
+    ensures file { state.new.file ≡ state.old.file }
+    ensures read { IfOk (value_at written_rows pair.now cursor.old) (λ x. IfOk result (λ y. cursor.new ≡ x.1)) }
+    ensures learns { IfOk (value_at written_rows pair.now cursor.old) (λ x.
+        IfLearns (numbers_file (value_between cursor.old x.1 pair.now x.0)) here.now.line state.old.files state.new.files result) }
+    ensures goes { IfOk (value_at written_rows pair.now cursor.old) (λ x. (u : RawUnit) (before : List NamedList) → IsHere (units_of units.now) u here.now
+        → StateIn around.now (units_of units.now) u here.now before state.old
+        → Goes (common_view around.now.common) (units_of units.now) (StateIn around.now (units_of units.now) u here.now) before state.old state.new result
+        (attr_named (scope_within around.now (units_of units.now) u) (value_between cursor.old x.1 pair.now x.0))) }
+{
+    add_value(units, around, here, pair, cursor, state)
+}
+
+// The same. The forms that most values have are told apart first: what is laid out for one of them asks no more for its form.
+#[inline(always)]
+fn add_stop<'a>(
+    units: &Units,
+    around: &Surroundings<'a, '_>,
+    here: &Here,
+    pair: &Pair,
+    cursor: &mut Cursor,
+    state: &mut State<'a>,
+) -> Result<(), ReadErr>
+    requires here { here.now.end ≤ entries_in (units_of units.now) }
+    requires room { entries_among (common_view around.now.common) (units_of units.now) < 2 ^ 32 }
+    requires read { IsOk (value_at written_rows pair.now cursor.old) }
+    ensures file { state.new.file ≡ state.old.file }
+    ensures read { IfOk (value_at written_rows pair.now cursor.old) (λ x. IfOk result (λ y. cursor.new ≡ x.1)) }
+    ensures learns { IfOk (value_at written_rows pair.now cursor.old) (λ x.
+        IfLearns (numbers_file (value_between cursor.old x.1 pair.now x.0)) here.now.line state.old.files state.new.files result) }
+    ensures goes { IfOk (value_at written_rows pair.now cursor.old) (λ x. (u : RawUnit) (before : List NamedList) → IsHere (units_of units.now) u here.now
+        → StateIn around.now (units_of units.now) u here.now before state.old
+        → Goes (common_view around.now.common) (units_of units.now) (StateIn around.now (units_of units.now) u here.now) before state.old state.new result
+        (attr_named (scope_within around.now (units_of units.now) u) (value_between cursor.old x.1 pair.now x.0))) }
+{
+    match pair.form {
+        DW_FORM_REF4 => add_value(units, around, here, pair, cursor, state),
+        DW_FORM_STRP => add_value(units, around, here, pair, cursor, state),
+        DW_FORM_DATA1 => add_value(units, around, here, pair, cursor, state),
+        DW_FORM_DATA2 => add_value(units, around, here, pair, cursor, state),
+        DW_FORM_IMPLICIT_CONST => add_value(units, around, here, pair, cursor, state),
+        DW_FORM_LINE_STRP => add_value(units, around, here, pair, cursor, state),
+        _ => {
+            let mut aside = Cursor::new(cursor.bytes(), cursor.at());
+            match add_rare(units, around, here, pair, &mut aside, state) {
+                Ok(()) => {
+                    *cursor = aside;
+                    Ok(())
+                }
+                Err(error) => Err(error),
+            }
+        }
+    }
+}
+
 // Adds what an entry names.
 fn add_values<'a>(
     units: &Units,
@@ -176,6 +276,7 @@ fn add_values<'a>(
         → Goes (common_view around.now.common) (units_of units.now) (StateIn around.now (units_of units.now) u here.now) before state.old state.new result
         (entry_named (scope_within around.now (units_of units.now) u) row.entry) }
 {
+    state.hints.keep(units.entry(i).at as u128, i);
     let Stops {
         stops,
         pairs,
@@ -184,10 +285,7 @@ fn add_values<'a>(
     for stop in stops {
         pass_bytes(&mut cursor, stop.skip);
         let pair = &pairs[stop.number];
-        let at = cursor.at() as u64;
-        let raw = known_value(&mut cursor, pair);
-        let end = cursor.at() as u64;
-        add_attr(units, around, here, at, end, pair, &raw, state)?;
+        add_stop(units, around, here, pair, &mut cursor, state)?;
     }
     Ok(())
 }

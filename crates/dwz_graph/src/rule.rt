@@ -14,8 +14,9 @@ use crate::sup::{common_fault, file_fault};
 use crate::surroundings::CommonPart;
 use dwz_elf::Elf;
 use dwz_model::{Fault, ReadErr};
-use dwz_unit::Units;
+use dwz_unit::{FileKind, Units};
 use std::alloc::Global;
+use std::thread::Threads;
 
 /// A common file beside which others are read.
 #[derive(Clone, Copy)]
@@ -82,6 +83,37 @@ impl Rule<'_> {
             Rule::Common => Units::read_common(alloc, info, abbrevs, room),
             Rule::Back(common) => Units::read_back(alloc, info, abbrevs, room, common.is_some()),
         }
+    }
+
+    // The kind of its units.
+    fn kind(&self) -> FileKind
+        ensures { result ≡ kind_of self.now }
+    {
+        match self {
+            Rule::Given => FileKind::Given,
+            Rule::Common => FileKind::Common,
+            Rule::Back(common) => FileKind::Back {
+                sup: common.is_some(),
+            },
+        }
+    }
+
+    /// Its units, read by so many workers.
+    pub(crate) fn units_by<'a, R: Threads + Sync>(
+        &self,
+        rt: &R,
+        alloc: Global,
+        info: &'a [u8],
+        abbrevs: &'a [u8],
+        room: u32,
+        workers: u32,
+    ) -> Result<Units<'a>, ReadErr>
+        requires info { length info.now < 2 ^ 32 }
+        requires abbrevs { length abbrevs.now < 2 ^ 32 }
+        ensures answers { Answers units_of result (units_at abbrevs.now ((rule_view self.now).mode room) 0 (input info.now 0)) }
+        ensures source { IfOk result (λ units. units ≡ record { info = info.now; abbrevs = abbrevs.now; kind = kind_of self.now; room = room }) }
+    {
+        Units::read_by(rt, alloc, info, abbrevs, self.kind(), room, workers)
     }
 
     /// The common file beside which it is read.

@@ -9,3 +9,4 @@ pub mod HeadLemmas
 pub mod SectionLemmas
 pub mod WriteLemmas
 pub mod MarkLemmas
+pub mod LocalLemmas

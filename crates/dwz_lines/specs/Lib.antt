@@ -6,3 +6,6 @@ pub mod TableViews
 pub mod KeptTables
 pub mod Marks
 pub mod MarkedViews
+pub mod Known
+pub mod KnownViews
+pub mod Sections

@@ -3,17 +3,21 @@
 //! A row begins where the one before it ends, so which it is that has a number shows only where all before it are read. So of some rows it is
 //! kept where they begin, and any other is found by reading on from the nearest of these before it.
 
-ghost use Rattle.std.specs.Prelude.{◌≡◌, ◌≤◌, Option, OnOk, length, map, slice_get};
+ghost use Rattle.std.specs.Prelude.{◌≡◌, ◌≤◌, true, Option, IfOk, OnOk, Some, length, map, slice_get};
 ghost use Rattle.std.specs.List.{All};
 ghost use Rattle.std.specs.Option.{option_map};
 ghost use Rattle.dwz_bytes.specs.Input.{Input};
 ghost use Rattle.dwz_def_reading.specs.LineTables.{PathRow};
+ghost use Rattle.dwz_lines.specs.Known.{IsPart};
+ghost use Rattle.dwz_lines.specs.KnownViews.{AreOf, IsRun};
 ghost use Rattle.dwz_lines.specs.Marks.{IsMark, nth_in};
 ghost use Rattle.dwz_lines.specs.Reading.{FindsAt, TriesAt, path_of, path_or_none, times_in};
-ghost use Rattle.dwz_lines.specs.RowViews.{item_of, row_view};
+ghost use Rattle.dwz_lines.specs.RowViews.{item_of, row_view, strings_view};
 
 use crate::formats::Format;
+use crate::known_rows::KnownRows;
 use crate::rows::{Row, Strings, one_row};
+use crate::runs::{Run, TablePlace, known_run, learn_rows};
 use dwz_bytes::Cursor;
 use dwz_model::{Fault, NoMemory, ReadErr};
 use std::alloc::Global;
@@ -56,16 +60,52 @@ impl<'a> Model for MarkedRows<'a> {
     ghost invariant = { λ r. AreMarked (item_of r.reader) r.count r.begin r.marks.items };
 }
 
-// The same place.
-fn again<'a>(cursor: &Cursor<'a>) -> Cursor<'a>
+/// The same place.
+pub(crate) fn again<'a>(cursor: &Cursor<'a>) -> Cursor<'a>
     ensures { result ≡ cursor.now }
 {
     Cursor::new(cursor.bytes(), cursor.at())
 }
 
+// Whether formats are the same.
+fn same_formats(one: &[Format], other: &[Format]) -> bool
+    ensures { result ≡ true → one.now ≡ other.now }
+{
+    one == other
+}
+
+// The same formats.
+fn copy_formats(alloc: Global, formats: &[Format]) -> Result<Vec<Format>, NoMemory>
+    ensures { IfOk result (λ v. v.items ≡ formats.now) }
+{
+    let mut copy = Vec::new(alloc);
+    copy.extend_from_slice(formats)?;
+    Ok(copy)
+}
+
 impl<'a> RowReader<'a> {
-    // The next row.
-    fn next(&self, cursor: &mut Cursor<'a>) -> Option<Row<'a>>
+    /// Whether rows are read in the same way, if their texts stand in the same sections.
+    pub(crate) fn is_same(&self, other: &RowReader<'a>) -> bool
+        ensures { result ≡ true → strings_view self.now.strings ≡ strings_view other.now.strings → item_of self.now ≡ item_of other.now }
+    {
+        self.dirs == other.dirs && same_formats(&self.formats, &other.formats)
+    }
+
+    /// The same reader.
+    pub(crate) fn again(&self, alloc: Global) -> Result<RowReader<'a>, NoMemory>
+        ensures item { IfOk result (λ r. item_of r ≡ item_of self.now) }
+        ensures strings { IfOk result (λ r. strings_view r.strings ≡ strings_view self.now.strings) }
+    {
+        let formats = copy_formats(alloc, &self.formats)?;
+        Ok(RowReader {
+            formats,
+            strings: self.strings,
+            dirs: self.dirs,
+        })
+    }
+
+    /// The next row.
+    pub(crate) fn next(&self, cursor: &mut Cursor<'a>) -> Option<Row<'a>>
         ensures { FindsAt row_view cursor.new result (item_of self.now cursor.old) }
     {
         one_row(cursor, &self.formats, self.strings, self.dirs)
@@ -166,6 +206,49 @@ impl<'a> MarkedRows<'a> {
             begin,
             marks,
         })
+    }
+
+    /// So many rows that are known.
+    pub(crate) fn of_run(
+        cursor: &mut Cursor<'a>,
+        reader: RowReader<'a>,
+        count: u64,
+        run: Run<'a>,
+    ) -> MarkedRows<'a>
+        requires { IsRun (item_of reader) count cursor.old run }
+        ensures { times_in (item_of reader.entry) count cursor.old ≡ Some (result, cursor.new) }
+    {
+        let begin = again(cursor);
+        *cursor = run.end;
+        MarkedRows {
+            reader,
+            count,
+            begin,
+            marks: run.marks,
+        }
+    }
+
+    /// Reads so many rows, unless they're known, and marks some.
+    pub(crate) fn read_or_known(
+        alloc: Global,
+        cursor: &mut Cursor<'a>,
+        reader: RowReader<'a>,
+        count: u64,
+        step: usize,
+        bad: Fault,
+        table: TablePlace<'a>,
+        known: &mut Option<KnownRows<'a>>,
+    ) -> Result<MarkedRows<'a>, ReadErr>
+        requires known { AreOf table.line.now (strings_view reader.strings) known.old }
+        requires part { IsPart table.line.now table.start cursor.old }
+        ensures read { TriesAt (λ rows. rows) bad cursor.new result (times_in (item_of reader.entry) count cursor.old) }
+        ensures known { AreOf table.entry.line.now (strings_view reader.entry.strings) known.new }
+    {
+        learn_rows(alloc, known, table, &reader, cursor, count)?;
+        match known_run(alloc, known, table, &reader, cursor, count, step)? {
+            Some(run) => Ok(MarkedRows::of_run(cursor, reader, count, run)),
+            None => MarkedRows::read(alloc, cursor, reader, count, step, bad),
+        }
     }
 
     /// How many rows there are.

@@ -4,6 +4,8 @@ ghost use Rattle.std.specs.Prelude.{◌≡◌, IfOk, length};
 ghost use Rattle.std.specs.Option.{option_map};
 ghost use Rattle.dwz_def_reading.specs.Faults.{Answers};
 ghost use Rattle.dwz_def_reading.specs.LineTables.{file_table_at, nth_path};
+ghost use Rattle.dwz_lines.specs.Known.{IsPart};
+ghost use Rattle.dwz_lines.specs.KnownViews.{AreOf};
 ghost use Rattle.dwz_lines.specs.Reading.{TriesAt, dirs_in, files_in};
 ghost use Rattle.dwz_lines.specs.RowViews.{strings_view};
 ghost use Rattle.dwz_lines.specs.MarkedViews.{marked_dirs_view};
@@ -12,9 +14,11 @@ ghost use Rattle.dwz_lines.specs.TableViews.{sections};
 use crate::formats::{formats, names_strs};
 use crate::header::tables_of;
 use crate::kept_rows::bad_at;
+use crate::known_rows::KnownRows;
 use crate::marked_rows::{MarkedRows, RowReader};
 use crate::paths::joined;
 use crate::rows::Strings;
+use crate::runs::TablePlace;
 use crate::tables::{either, has_dir};
 use dwz_bytes::Cursor;
 use dwz_model::{Fault, NoMemory, ReadErr};
@@ -45,7 +49,7 @@ impl<'a> Model for MarkedTable<'a> {
     ghost view = { λ t. record { paths = marked_paths t.dirs t.files; has_strp = t.has_strp } };
 }
 
-// The directories of a table, of which one is marked after each `step` bytes.
+// The directories of a table, of which some are marked.
 #[tactic(auto, unfolding(crate::specs::Reading::dirs_in, crate::specs::Reading::rows_in))]
 fn read_directories<'a>(
     alloc: Global,
@@ -53,8 +57,13 @@ fn read_directories<'a>(
     strings: Strings<'a>,
     step: usize,
     bad: Fault,
+    table: TablePlace<'a>,
+    known: &mut Option<KnownRows<'a>>,
 ) -> Result<MarkedDirs<'a>, ReadErr>
-    ensures { TriesAt marked_dirs_view bad cursor.new result (dirs_in (strings_view strings.entry) cursor.old) }
+    requires known { AreOf table.line.now (strings_view strings) known.old }
+    requires part { IsPart table.line.now table.start cursor.old }
+    ensures dirs { TriesAt marked_dirs_view bad cursor.new result (dirs_in (strings_view strings.entry) cursor.old) }
+    ensures known { AreOf table.entry.line.now (strings_view strings.entry) known.new }
 {
     let formats = formats(alloc, cursor, bad)?;
     let Ok(count) = cursor.uleb() else {
@@ -66,11 +75,11 @@ fn read_directories<'a>(
         strings,
         dirs: count,
     };
-    let rows = MarkedRows::read(alloc, cursor, reader, count, step, bad)?;
+    let rows = MarkedRows::read_or_known(alloc, cursor, reader, count, step, bad, table, known)?;
     Ok(MarkedDirs { rows, strp })
 }
 
-// The files of a table, in these directories, of which one is marked after each `step` bytes.
+// The files of a table, in these directories, of which some are marked.
 #[tactic(auto, unfolding(crate::specs::Reading::files_in, crate::specs::Reading::rows_in))]
 fn read_files<'a>(
     alloc: Global,
@@ -79,8 +88,13 @@ fn read_files<'a>(
     strings: Strings<'a>,
     step: usize,
     bad: Fault,
+    table: TablePlace<'a>,
+    known: &mut Option<KnownRows<'a>>,
 ) -> Result<MarkedTable<'a>, ReadErr>
-    ensures { TriesAt (λ t. t) bad cursor.new result (files_in (strings_view strings.entry) (marked_dirs_view dirs.entry) cursor.old) }
+    requires known { AreOf table.line.now (strings_view strings) known.old }
+    requires part { IsPart table.line.now table.start cursor.old }
+    ensures table { TriesAt (λ t. t) bad cursor.new result (files_in (strings_view strings.entry) (marked_dirs_view dirs.entry) cursor.old) }
+    ensures known { AreOf table.entry.line.now (strings_view strings.entry) known.new }
 {
     let formats = formats(alloc, cursor, bad)?;
     let Ok(count) = cursor.uleb() else {
@@ -96,7 +110,7 @@ fn read_files<'a>(
         strings,
         dirs: many,
     };
-    let files = MarkedRows::read(alloc, cursor, reader, count, step, bad)?;
+    let files = MarkedRows::read_or_known(alloc, cursor, reader, count, step, bad, table, known)?;
     Ok(MarkedTable {
         dirs: dirs.rows,
         files,
@@ -105,8 +119,8 @@ fn read_files<'a>(
 }
 
 impl<'a> MarkedTable<'a> {
-    /// Reads the line table at a place of `.debug_line`, as `KeptRows::read` does, and marks one of its directories
-    /// and files after each `step` bytes.
+    /// Reads the line table at a place of `.debug_line`, as `KeptRows::read` does, and marks some of its directories and files: one
+    /// after each `step` bytes, or few of them where they are known.
     pub(crate) fn read(
         alloc: Global,
         line: &'a [u8],
@@ -114,16 +128,35 @@ impl<'a> MarkedTable<'a> {
         strs: &'a [u8],
         at: u64,
         step: usize,
+        known_dirs: &mut Option<KnownRows<'a>>,
+        known_files: &mut Option<KnownRows<'a>>,
     ) -> Result<MarkedTable<'a>, ReadErr>
-        ensures { Answers (λ t. t) result (file_table_at (sections strs.now line_strs.now) line.now at) }
+        requires dirs { AreOf line.now (sections strs.now line_strs.now) known_dirs.old }
+        requires files { AreOf line.now (sections strs.now line_strs.now) known_files.old }
+        ensures table { Answers (λ t. t) result (file_table_at (sections strs.now line_strs.now) line.now at) }
+        ensures dirs { AreOf line.now (sections strs.now line_strs.now) known_dirs.new }
+        ensures files { AreOf line.now (sections strs.now line_strs.now) known_files.new }
     {
         let bad = bad_at(at);
         let strings = Strings { strs, line_strs };
         let Some(mut cursor) = tables_of(line, at) else {
             return Err(ReadErr::Refused(bad));
         };
-        let dirs = read_directories(alloc, &mut cursor, strings, step, bad)?;
-        read_files(alloc, &mut cursor, dirs, strings, step, bad)
+        let table = TablePlace {
+            line,
+            start: at as usize,
+        };
+        let dirs = read_directories(alloc, &mut cursor, strings, step, bad, table, known_dirs)?;
+        read_files(
+            alloc,
+            &mut cursor,
+            dirs,
+            strings,
+            step,
+            bad,
+            table,
+            known_files,
+        )
     }
 
     /// How many directories and files there are.

@@ -9,21 +9,12 @@ ghost use Rattle.dwz_def_reading.specs.Faults.{Answers};
 ghost use Rattle.dwz_def_reading.specs.LineTables.{file_table_at, nth_path};
 ghost use Rattle.dwz_lines.specs.TableViews.{sections};
 
-use crate::header::tables_of;
 use crate::kept_rows::KeptRows;
+use crate::line_sections::LineSections;
 use crate::marked_table::MarkedTable;
 use dwz_model::{NoMemory, ReadErr};
 use std::alloc::Global;
 use std::marker::Model;
-
-// Into how many runs of bytes marks divide a table at least, of which not all rows are kept.
-const RUNS: usize = 16;
-
-// For how many rows that may still be kept a table gets one mark, if these are more.
-const ROWS_FOR_MARK: usize = 64;
-
-// More files than any table has.
-const MOST: u64 = 1 << 63;
 
 /// What is kept of a table: its rows, or where some of them begin.
 #[derive(Drop)]
@@ -49,14 +40,6 @@ impl<'a> Model for TableRows<'a> {
     ghost invariant = { λ t. IsTable t.kept };
 }
 
-// How many bytes the directories and files of the line table at a place have at most, if one stands there.
-fn bytes_at(line: &[u8], at: u64) -> usize {
-    match tables_of(line, at) {
-        Some(cursor) => cursor.bytes().len() - cursor.at(),
-        None => 0,
-    }
-}
-
 impl<'a> TableRows<'a> {
     /// Reads the line table at a place of `.debug_line`, in bytes from the section's first (DWARF 5, 6.2.4). Its texts stand
     /// in it, in `.debug_line_str` or in `.debug_str`. Refused as `BadLineTable`, at the place, exactly where no table of
@@ -73,23 +56,7 @@ impl<'a> TableRows<'a> {
         ensures table { Answers (λ t. t) result (file_table_at (sections strs.now line_strs.now) line.now at) }
         ensures left { left.new ≤ left.old }
     {
-        let bytes = bytes_at(line, at);
-        if bytes > *left {
-            let marks = RUNS.max(*left / ROWS_FOR_MARK);
-            let step = bytes / marks + 1;
-            let table = MarkedTable::read(alloc, line, line_strs, strs, at, step)?;
-            if table.size() > *left as u64 && table.files() < MOST {
-                *left = left.saturating_sub(marks);
-                return Ok(TableRows {
-                    kept: Kept::Marked(table),
-                });
-            }
-        }
-        let rows = KeptRows::read(alloc, line, line_strs, strs, at)?;
-        *left = left.saturating_sub(rows.size());
-        Ok(TableRows {
-            kept: Kept::Rows(rows),
-        })
+        LineSections::new(line, line_strs, strs).read(alloc, at, left)
     }
 
     /// Whether there is a file with a number, counted from 0.

@@ -10,6 +10,7 @@ ghost use Rattle.dwz_lists.specs.FirstFault.{WalksInto};
 ghost use Rattle.dwz_lists.specs.Gathering.{Adds, IsShort, content_of, exprs_with, in_lists};
 
 use crate::fields::{Content, bad_at, byte, front};
+use crate::pair::pair_at;
 use dwz_bytes::Cursor;
 use dwz_codes::DW_LLE_END_OF_LIST;
 use dwz_expr::{Operand, Ops, read_into};
@@ -102,6 +103,23 @@ pub fn walk<'a>(alloc: Global, section: &'a [u8], at: u64) -> Result<LocationLis
     }
 }
 
+// The same as `entry_into`, whichever entry it is.
+#[inline(always)]
+fn other_into(operands: &mut Vec<Operand>, section: &[u8], at: u64) -> Result<Option<u64>, ReadErr>
+    requires { at ≤ length section.now }
+    ensures found { ReadsEntry section.now at (added operands.old.items operands.new.items) result }
+    ensures grows { Grows operands.old.items operands.new.items }
+{
+    let mut cursor = Cursor::new(section, at as usize);
+    let kind = byte(&mut cursor, bad_at(at))?;
+    if kind == DW_LLE_END_OF_LIST {
+        return Ok(None);
+    }
+    let content = front(kind, at, &mut cursor)?;
+    push_operands(content, operands)?;
+    Ok(Some(cursor.at() as u64))
+}
+
 /// Reads the entry of a location list that begins at a place of `.debug_loclists`, appends the operands of its expression that name
 /// entries, and answers the place behind it; or nothing, where the list ends there. Refused as `walk` is. Then the operands before the
 /// fault are appended, which are those that are looked up before.
@@ -117,14 +135,12 @@ pub fn entry_into(
     ensures found { ReadsEntry section.now at (added operands.old.items operands.new.items) result }
     ensures grows { Grows operands.old.items operands.new.items }
 {
-    let mut cursor = Cursor::new(section, at as usize);
-    let kind = byte(&mut cursor, bad_at(at))?;
-    if kind == DW_LLE_END_OF_LIST {
-        return Ok(None);
+    if let Some(span) = pair_at(section, at as usize) {
+        let bytes = &section[span.from..span.end];
+        read_into(operands, bytes, span.from as u64, DEBUG_LOCLISTS)?;
+        return Ok(Some(span.end as u64));
     }
-    let content = front(kind, at, &mut cursor)?;
-    push_operands(content, operands)?;
-    Ok(Some(cursor.at() as u64))
+    other_into(operands, section, at)
 }
 
 /// Reads the location list at a place of `.debug_loclists`, entry by entry, appends the operands of its expressions that name

@@ -1,7 +1,7 @@
 //! Tables spelled by hand, by the standard's section 7.5.3.
 
 use crate::expect::{bytes_of, number_of, prints_as, same, split_bar};
-use dwz_abbrev::{ReadTable, Table};
+use dwz_abbrev::{PairRow, ReadTable, Table};
 
 // A table, behind so many bytes that are none of it, how many declarations are passed over, a code; and the first declaration with that
 // code behind those, if there is one. The tables have a compile unit with a name and a base type with a constant; four declarations with
@@ -39,10 +39,8 @@ fn finds_declarations(rt: HostRuntime) {
         let section = bytes_of(&rt, alloc, section);
         let at = number_of(&rt, at);
         let table = Table::read(alloc, &section, at).expect(&rt, "a table");
-        let mut pairs = Vec::new(alloc);
-        let read = ReadTable::read_up_to(alloc, &section, at, &[], &mut pairs).expect(
-            &rt, "a table",
-        );
+        let mut pairs = PairRow::new(alloc, &section);
+        let read = ReadTable::read_up_to(alloc, at, &[], &mut pairs).expect(&rt, "a table");
         let skip = number_of(&rt, skip) as usize;
         let code = u64::from(number_of(&rt, code));
         let found = match read.rows.place_behind(skip, code) {
@@ -82,20 +80,37 @@ ReadDecl { code: 2, first: 0, count: 1, tag: 52, children: false }]",
 fn reads_up_to_a_stop(rt: HostRuntime) {
     let alloc = rt.alloc();
     for (stops, starts, stop, decls) in BEGUN {
-        let mut row = Vec::new(alloc);
-        let read = ReadTable::read_up_to(alloc, UNSORTED, 0, stops, &mut row).expect(
-            &rt, "a table",
-        );
+        let mut pairs = PairRow::new(alloc, UNSORTED);
+        let read = ReadTable::read_up_to(alloc, 0, stops, &mut pairs).expect(&rt, "a table");
         same(&rt, &(read.starts.as_slice(), read.stop), &(starts, stop));
         prints_as(&rt, alloc, "declarations", &read.rows.as_slice(), decls);
         prints_as(
             &rt,
             alloc,
             "the row",
-            &row,
+            &pairs.as_slice(),
             "[Pair { name: 62, form: 33, constant: -1 }]",
         );
     }
+}
+
+// A declaration with two pairs, inside of which another begins, with the second of them.
+const INSIDE: &[u8] = b"\x01\x01\x01\x01\x01\x01\x01\0\0\0";
+
+#[test]
+fn reads_names_and_forms_once(rt: HostRuntime) {
+    let alloc = rt.alloc();
+    let mut pairs = PairRow::new(alloc, INSIDE);
+    ReadTable::read_up_to(alloc, 0, &[], &mut pairs).expect(&rt, "a table");
+    let read = ReadTable::read_up_to(alloc, 2, &[], &mut pairs).expect(&rt, "a table");
+    prints_as(
+        &rt,
+        alloc,
+        "declarations",
+        &read.rows.as_slice(),
+        "[ReadDecl { code: 1, first: 1, count: 1, tag: 1, children: true }]",
+    );
+    same(&rt, &pairs.as_slice().len(), &2);
 }
 
 // The table by ascending code.

@@ -9,6 +9,8 @@
 #[cfg(test)]
 mod abbrev;
 #[cfg(test)]
+mod by_workers;
+#[cfg(test)]
 mod expect;
 #[cfg(test)]
 mod forms;

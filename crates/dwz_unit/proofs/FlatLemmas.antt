@@ -1,9 +1,9 @@
 -- Lists that lie in one row.
-use Rattle.std.proofs.Common.{◌≡◌, ℕ, zero, suc, ◌+◌, ◌-◌, ◌<◌, List, [], ◌∷◌, ◌++◌, length, map, take, drop, Option, Some, refl, sym, ap, ◌∙◌, arith}
+use Rattle.std.proofs.Common.{◌≡◌, ℕ, zero, suc, ◌+◌, ◌-◌, ◌<◌, ◌≤◌, List, [], ◌∷◌, ◌++◌, length, map, take, drop, Option, Some, refl, sym, ap, ◌∙◌, append_assoc, arith}
 use Rattle.std.proofs.Math.ListN.{set}
 use Rattle.std.specs.List.{All, slice_get}
 use Rattle.std.specs.Option.{option_map}
-use Rattle.std.proofs.lemmas.List.{drop-append-le, drop_at, length-drop, map_more, map_push, take-append-le, take_all}
+use Rattle.std.proofs.lemmas.List.{append-nil, drop-append-le, drop_at, length-drop, map_more, map_push, take-append-le, take_all}
 use Rattle.std.proofs.lemmas.List.Elements.{All-head, All-tail}
 use Rattle.std.proofs.lemmas.Option.{get_or_from_slice_get, slice_get-map, slice_get_within}
 use Rattle.dwz_model.specs.declared.place.Pair.{Pair}
@@ -72,3 +72,16 @@ used_rows pairs new old (row ∷ entries) all =
     slice_get-map part new row.decl ∙ ap (option_map part) (All-head P row entries all) ∙ sym (slice_get-map part old row.decl) in
     ap (λ (o : Option (List Pair)). record (row_view (map part old) row) { pairs = o } ∷ map (row_view (map part new)) entries) same
     ∙ ap (λ (w : List KnownRow). row_view (map part old) row ∷ w) (used_rows pairs new old entries (All-tail P row entries all))
+
+-- ---- what is appended, one by one
+
+pub none_added : {X Y : Type 0} (f : X → Y) (xs : List X) (ys : List Y) → ys ≡ ys ++ map f (take 0 xs)
+none_added f xs ys = sym (append-nil ys)
+
+pub one_added : {X Y : Type 0} (f : X → Y) (xs : List X) (k : ℕ) (x : X) (y : Y) (before old new : List Y) → slice_get xs k ≡ Some x → y ≡ f x → new ≡ old ++ y ∷ [] → old ≡ before ++ map f (take k xs)
+    → new ≡ before ++ map f (take (k + 1) xs)
+one_added {X} {Y} f xs k x y before old new there is e h =
+    e ∙ (λ i. h i ++ is i ∷ []) ∙ append_assoc before (map f (take k xs)) (f x ∷ []) ∙ ap (λ (w : List Y). before ++ w) (sym (map_got f xs k x there))
+
+pub all_added : {X Y : Type 0} (f : X → Y) (xs : List X) (k : ℕ) (before new : List Y) → length xs ≤ k → new ≡ before ++ map f (take k xs) → new ≡ before ++ map f xs
+all_added {X} {Y} f xs k before new le h = h ∙ ap (λ (w : List X). before ++ map f w) (take_all k xs le)

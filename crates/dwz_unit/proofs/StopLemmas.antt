@@ -91,10 +91,10 @@ record ReadsBehind (entry : ℕ) (pairs : List Pair) (count : ℕ) (at : Input) 
   pub within : run_size (take count pairs) ≤ length at.rest
   pub reads : Reads entry (drop count pairs) (past (run_size (take count pairs)) at) (drop count attrs)
 
-past_none : (at : Input) → past 0 at ≡ at
+pub past_none : (at : Input) → past 0 at ≡ at
 past_none at = let same : at.at + 0 ≡ at.at = omega arith in (λ i. record { at = same i; rest = at.rest })
 
-past_both : (m n : ℕ) (at : Input) → past n (past m at) ≡ past (m + n) at
+pub past_both : (m n : ℕ) (at : Input) → past n (past m at) ≡ past (m + n) at
 past_both m n at =
     let place : at.at + m + n ≡ at.at + (m + n) = omega arith in
     let rest : drop n (drop m at.rest) ≡ drop (m + n) at.rest = drop-drop n m at.rest in

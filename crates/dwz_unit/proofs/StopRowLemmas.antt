@@ -28,7 +28,7 @@ no_size : (b : Bool) (x : ℕ) → (if b then Some x else None) ≡ None → b �
 no_size true x e = absurd cc
 no_size false x e = refl
 
-shape_small : (s : Shape) → option_map_or (λ n. n) (shape_size s) 0 ≤ 16
+pub shape_small : (s : Shape) → option_map_or (λ n. n) (shape_size s) 0 ≤ 16
 shape_small Nothing = omega arith
 shape_small Refused = omega arith
 shape_small Fixed1 = omega arith

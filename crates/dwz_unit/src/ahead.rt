@@ -29,8 +29,8 @@ pub(crate) struct Ahead {
     ghost within: { done ≤ length offsets.items },
 }
 
-// The offsets that the headers of units name, up to the first that isn't whole. They tell only what is read early.
-fn offsets_in(alloc: Global, info: &[u8]) -> Result<Vec<u32>, NoMemory> {
+/// The offsets that the headers of units name, up to the first that isn't whole. They tell only what is read early.
+pub(crate) fn offsets_in(alloc: Global, info: &[u8]) -> Result<Vec<u32>, NoMemory> {
     let mut offsets = Vec::new(alloc);
     let mut rest = info;
     while rest.len() >= HEADER {

@@ -1,6 +1,6 @@
 //! The front of an entry: its code and its values.
 
-ghost use Rattle.std.specs.Prelude.{◌≡◌, ◌+◌, ◌<◌, ◌^◌, All, length, slice_get, IfOk, IsOk, Ok, Some};
+ghost use Rattle.std.specs.Prelude.{◌≡◌, ◌+◌, ◌<◌, ◌^◌, ℕ, List, All, length, slice_get, IfOk, IsOk, Ok, Some};
 ghost use Rattle.std.specs.Option.{option_map};
 ghost use Rattle.dwz_bytes.specs.Reading.{uleb_at};
 ghost use Rattle.dwz_def_reading.specs.Abbrevs.{IsPlainPair};
@@ -10,11 +10,13 @@ ghost use Rattle.dwz_def_reading.specs.Values.{HasSpelling, value_at, written_ro
 ghost use Rattle.dwz_forms.specs.FormSets.{rows_of};
 ghost use Rattle.dwz_forms.specs.RawValues.{raw_view};
 ghost use Rattle.dwz_unit.specs.Contexts.{context_view, decls_of};
+ghost use Rattle.dwz_unit.specs.FixedRuns.{IsRun};
 ghost use Rattle.dwz_unit.specs.Fronts.{attrs_passed, front_passed, front_view, value_passed};
 ghost use Rattle.dwz_unit.specs.Rows.{attr_view};
 
 use crate::context::Context;
 use crate::faults::{code_fault, fault_in_entry, info_fault};
+use crate::fixed_run::FixedRun;
 use crate::rows::RawAttr;
 use dwz_bytes::Cursor;
 use dwz_forms::{FormSet, Raw, read_value_among, read_value_sup};
@@ -62,6 +64,48 @@ fn pass_values(
     Ok(())
 }
 
+// Passes over the first values of an entry at once, if their bytes are there. Answers the names and forms of the others.
+#[inline(always)]
+fn pass_run<'t>(forms: FormSet, run: FixedRun, pairs: &'t [Pair], cursor: &mut Cursor) -> &'t [Pair]
+    requires { IsRun pairs.now run }
+    ensures { (entry : ℕ) → attrs_passed (rows_of forms) entry result.now cursor.new ≡ attrs_passed (rows_of forms) entry pairs.now cursor.old }
+{
+    let FormSet::Own = forms else {
+        return pairs;
+    };
+    let Ok(_) = cursor.take(run.bytes as usize) else {
+        return pairs;
+    };
+    &pairs[run.count as usize..]
+}
+
+// Passes over the values of an entry, whose forms are of the set, first those of a run.
+#[inline(always)]
+fn pass_all(
+    forms: FormSet,
+    entry: usize,
+    run: FixedRun,
+    pairs: &[Pair],
+    cursor: &mut Cursor,
+) -> Result<(), Fault>
+    requires { IsRun pairs.now run }
+    ensures { Leaves (λ x. x) cursor.new result (attrs_passed (rows_of forms) entry pairs.now cursor.old) }
+{
+    let others = pass_run(forms, run, pairs, cursor);
+    pass_values(forms, entry, others, cursor)
+}
+
+// The run of the declaration with that number, or an empty one.
+#[inline(always)]
+fn run_at(context: &Context, number: u32) -> FixedRun
+    ensures { (pairs : List Pair) → slice_get (decls_of context.now) number ≡ Some pairs → IsRun pairs result }
+{
+    match context.runs.get(number as usize) {
+        Some(found) => *found,
+        None => FixedRun { count: 0, bytes: 0 },
+    }
+}
+
 // A code of a unit.
 #[inline(always)]
 fn read_code(context: &Context, cursor: &mut Cursor) -> Result<u64, Fault>
@@ -106,8 +150,9 @@ pub(crate) fn pass_front(
     if before >= context.mode.room as usize {
         return Err(info_fault(at, Reason::TooMany));
     }
+    let run = run_at(context, found.number);
     let forms = context.mode.forms(context.root_tag, depth);
-    pass_values(forms, at, found.pairs, cursor)?;
+    pass_all(forms, at, run, found.pairs, cursor)?;
     Ok(Some(Front {
         at,
         tag: decl.tag,

@@ -2,18 +2,20 @@
 
 ghost use Rattle.std.specs.Prelude.{◌≡◌, ◌<◌, ◌++◌, [], IfOk, IfSome, OnOk, drop, length, map};
 ghost use Rattle.dwz_def_reading.specs.Abbrevs.{find_decl};
+ghost use Rattle.dwz_unit.specs.FixedRuns.{TellRuns};
 ghost use Rattle.dwz_unit.specs.Found.{Finds, StandsIn};
 ghost use Rattle.dwz_unit.specs.RowViews.{in_row, spans_of};
 ghost use Rattle.dwz_unit.specs.Tails.{FindsFirst, FindsTail, HasTail, tail_in};
 
+use crate::fixed_run::{FixedRun, put_runs_in};
 use crate::flat_rows::{FlatRows, PairRows, Span};
 use crate::joined::{find_past, tail_among};
 use crate::joined_table::{JoinedTable, TableInRow};
 use crate::joins::{close_before, read_joined};
 use crate::numbered::Numbered;
 use crate::tail::Tail;
-use dwz_abbrev::ReadDecl;
-use dwz_model::{NoMemory, Pair, ReadErr};
+use dwz_abbrev::{PairRow, ReadDecl};
+use dwz_model::{NoMemory, ReadErr};
 use std::alloc::Global;
 use std::collections::BTreeMap;
 use std::marker::Model;
@@ -22,10 +24,9 @@ use std::marker::Model;
 /// section and the tables, by their numbers.
 #[derive(Drop)]
 pub(crate) struct JoinedTables<'a> {
-    section: &'a [u8],
     reads: Vec<JoinedTable>,
-    // The names and forms of their declarations.
-    row: Vec<Pair>,
+    // The section, and the names and forms of their declarations.
+    pairs: PairRow<'a>,
     // The numbers of those whose last own declaration may begin at the last offset that was asked for, or behind it.
     open: Vec<usize>,
     // The end of a table that begins at an offset.
@@ -55,9 +56,9 @@ impl<'a> Model for JoinedTables<'a> {
     ghost use Rattle.dwz_unit.specs.TableViews.{HaveRow, table_views};
     ghost use Rattle.dwz_unit.specs.Tails.{AreJoinedTables, read_from};
 
-    ghost view = { λ b. read_from b.section.now (table_views b.row.items b.reads.items) };
+    ghost view = { λ b. read_from b.pairs.section (table_views b.pairs.row b.reads.items) };
 
-    ghost invariant = { λ b. AreJoinedTables b.section.now (table_views b.row.items b.reads.items) b.tails b.count × HaveRow b.row.items b.reads.items };
+    ghost invariant = { λ b. AreJoinedTables b.pairs.section (table_views b.pairs.row b.reads.items) b.tails b.count × HaveRow b.pairs.row b.reads.items };
 }
 
 impl<'a> JoinedTables<'a> {
@@ -66,9 +67,8 @@ impl<'a> JoinedTables<'a> {
         ensures { result ≡ record { section = section.now; tables = []; decls = [] } }
     {
         JoinedTables {
-            section,
             reads: Vec::new(alloc),
-            row: Vec::new(alloc),
+            pairs: PairRow::new(alloc, section),
             open: Vec::new(alloc),
             tails: BTreeMap::new(alloc),
             count: 0,
@@ -92,8 +92,7 @@ impl<'a> JoinedTables<'a> {
         if let Some(tail) = tail_among(reads, open, offset as usize) {
             return Ok(tail);
         }
-        let row = &mut self.row;
-        let read = read_joined(alloc, self.section, offset, reads, open, self.count, row)?;
+        let read = read_joined(alloc, offset, reads, open, self.count, &mut self.pairs)?;
         let base = self.reads.len();
         let count = self.count + read.rows.len() as u32;
         self.reads.push(read)?;
@@ -126,7 +125,7 @@ impl<'a> JoinedTables<'a> {
     {
         TableInRow {
             read: &self.reads[tail.base],
-            row: self.row.as_slice(),
+            row: self.pairs.as_slice(),
         }
     }
 
@@ -136,7 +135,7 @@ impl<'a> JoinedTables<'a> {
         ensures { Finds self.now.decls (find_decl (tail_in self.now.tables tail) code) result }
     {
         let read = self.reads.get(tail.base)?;
-        let row = self.row.as_slice();
+        let row = self.pairs.as_slice();
         let table = TableInRow { read, row };
         if let Some(found) = table.own(tail.skip, code) {
             return Some(found);
@@ -145,15 +144,34 @@ impl<'a> JoinedTables<'a> {
         find_past(self.reads.as_slice(), row, read.next?, past, code)
     }
 
+    /// How many tables there are.
+    pub fn len(&self) -> usize
+        ensures { result ≡ length self.now.tables }
+    {
+        self.reads.len()
+    }
+
+    /// Appends the runs of the declarations of all tables but the first so many, behind those whose runs are there.
+    pub fn put_runs(&self, skip: usize, runs: &mut Vec<FixedRun>) -> Result<(), NoMemory>
+        requires { TellRuns self.now.decls runs.old.items }
+        ensures { TellRuns self.now.decls runs.new.items }
+    {
+        for base in skip..self.reads.len() {
+            let tail = Tail { base, skip: 0 };
+            put_runs_in(self.own(tail), runs)?;
+        }
+        Ok(())
+    }
+
     /// The names and forms of all declarations, by their numbers.
     pub fn into_pairs(self, alloc: Global) -> Result<PairRows, NoMemory>
         ensures { IfOk result (λ pairs. pairs ≡ self.entry.decls) }
     {
-        let JoinedTables { reads, row, .. } = self;
+        let JoinedTables { reads, pairs, .. } = self;
         let mut spans = Vec::new(alloc);
         for read in reads.as_slice() {
             put_spans(read.rows.as_slice(), &mut spans)?;
         }
-        Ok(FlatRows::from_parts(row, spans))
+        Ok(FlatRows::from_parts(pairs.into_row(), spans))
     }
 }

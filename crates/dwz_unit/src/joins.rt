@@ -16,8 +16,8 @@ ghost use Rattle.dwz_unit.specs.Tails.{AreReadTables, FindsJoined, IsWhole, whol
 use crate::joined::{are_apart, tail_among};
 use crate::joined_table::JoinedTable;
 use crate::tail::Tail;
-use dwz_abbrev::{ReadRows, ReadTable};
-use dwz_model::{NoMemory, Pair, ReadErr};
+use dwz_abbrev::{PairRow, ReadRows, ReadTable};
+use dwz_model::{NoMemory, ReadErr};
 use std::alloc::Global;
 
 // Whether the last declaration of a table's own begins at a place or behind it.
@@ -75,18 +75,18 @@ fn joined(
 // Reads the whole table at an offset, whose declarations have the numbers from that one on.
 fn read_whole(
     alloc: Global,
-    section: &[u8],
     offset: u32,
     first: u32,
-    row: &mut Vec<Pair>,
+    pairs: &mut PairRow,
 ) -> Result<JoinedTable, ReadErr>
-    ensures read { IfOk result (λ r. IsWhole section.now row.new.items offset r) }
-    ensures fault { IfErr result (λ e. Fails e (table_at section.now offset)) }
+    ensures read { IfOk result (λ r. IsWhole pairs.old.section pairs.new.row offset r) }
+    ensures fault { IfErr result (λ e. Fails e (table_at pairs.old.section offset)) }
     ensures first { IfOk result (λ r. r.first ≡ first) }
-    ensures within { IfOk result (HasRow row.new.items) }
-    ensures begins { Begins row.old.items row.new.items }
+    ensures within { IfOk result (HasRow pairs.new.row) }
+    ensures begins { Begins pairs.old.row pairs.new.row }
+    ensures section { pairs.new.section ≡ pairs.old.section }
 {
-    let ReadTable { rows, stop, .. } = ReadTable::read_up_to(alloc, section, offset, &[], row)?;
+    let ReadTable { rows, stop, .. } = ReadTable::read_up_to(alloc, offset, &[], pairs)?;
     if stop.is_some() {
         unreachable!()
     }
@@ -95,31 +95,29 @@ fn read_whole(
 
 /// Reads the table at an offset, up to the first of its declarations that begins where one does of the open tables. A code that
 /// stands again behind that place is a fault of the table, which is found by reading it whole. Its declarations have the numbers from
-/// `first` on; NoMemory is answered too where they don't fit 32 bits. Names and forms are appended to the row.
+/// `first` on; NoMemory is answered too where they don't fit 32 bits. Names and forms that the row hasn't yet are appended to it.
 pub(crate) fn read_joined(
     alloc: Global,
-    section: &[u8],
     offset: u32,
     reads: &[JoinedTable],
     open: &[usize],
     first: u32,
-    row: &mut Vec<Pair>,
+    pairs: &mut PairRow,
 ) -> Result<JoinedTable, ReadErr>
-    requires known { AreReadTables section.now (table_views row.old.items reads.now) (whole_tables (table_views row.old.items reads.now)) }
-    requires row { HaveRow row.old.items reads.now }
-    ensures read { FindsJoined section.now row.new.items reads.now offset result }
+    requires known { AreReadTables pairs.old.section (table_views pairs.old.row reads.now) (whole_tables (table_views pairs.old.row reads.now)) }
+    requires row { HaveRow pairs.old.row reads.now }
+    ensures read { FindsJoined pairs.old.section pairs.new.row reads.now offset result }
     ensures first { IfOk result (λ r. r.first ≡ first) }
-    ensures within { IfOk result (HasRow row.new.items) }
-    ensures begins { Begins row.old.items row.new.items }
+    ensures within { IfOk result (HasRow pairs.new.row) }
+    ensures begins { Begins pairs.old.row pairs.new.row }
+    ensures section { pairs.new.section ≡ pairs.old.section }
 {
     let stops = starts_of(alloc, reads, open)?;
-    let len = row.len();
     let ReadTable { rows, starts, stop } = ReadTable::read_up_to(
         alloc,
-        section,
         offset,
         stops.as_slice(),
-        row,
+        pairs,
     )?;
     let next = match stop {
         Some(place) => tail_among(reads, open, place),
@@ -128,12 +126,9 @@ pub(crate) fn read_joined(
         }
     };
     match next {
-        Some(tail) if are_apart(reads, row.as_slice(), rows.as_slice(), tail) => {
+        Some(tail) if are_apart(reads, pairs.as_slice(), rows.as_slice(), tail) => {
             joined(rows, starts, next, first)
         }
-        _ => {
-            row.truncate(len);
-            read_whole(alloc, section, offset, first, row)
-        }
+        _ => read_whole(alloc, offset, first, pairs),
     }
 }

@@ -2,6 +2,7 @@ use Rattle.std.proofs.Common.{◌≡◌, [], length}
 use Rattle.std.specs.Prelude.{All}
 use Rattle.dwz_bytes.specs.Input.{input}
 use Rattle.dwz_def_reading.specs.Abbrevs.{FitsTable, declarations_at}
+use Rattle.dwz_abbrev.specs.ReadParts.{IsIn}
 use Rattle.dwz_abbrev.specs.ReadViews.{IsInRow, read_views}
 use Rattle.dwz_abbrev.specs.Starts.{Reach}
 use Rattle.dwz_abbrev.specs.Written.{Begins}
@@ -9,12 +10,14 @@ use Rattle.dwz_abbrev.proofs.reading.rows.Given as goal
 
 abbrev pub invariant-loop-cursor : goal.invariant-loop-cursor
 invariant-loop-cursor l = record {
-  read : declarations_at (read_views l.row.items l.rows) l.cursor ≡ declarations_at [] (input l.section l.at);
-  reach : Reach l.section (read_views l.row.items l.rows) l.starts.items l.cursor;
+  section : l.pairs.section ≡ l.initial.pairs.section;
+  read : declarations_at (read_views l.pairs.row l.rows) l.cursor ≡ declarations_at [] (input l.initial.pairs.section l.at);
+  reach : Reach l.initial.pairs.section (read_views l.pairs.row l.rows) l.starts.items l.cursor;
+  inside : IsIn l.initial.pairs.section l.cursor;
   here : l.start ≡ l.cursor.at;
-  fits : FitsTable (read_views l.row.items l.rows);
-  within : All (IsInRow l.row.items) l.rows;
-  begins : Begins l.initial.row.items l.row.items;
+  fits : FitsTable (read_views l.pairs.row l.rows);
+  within : All (IsInRow l.pairs.row) l.rows;
+  begins : Begins l.initial.pairs.row l.pairs.row;
 }
 
 abbrev pub decreases-loop-cursor : goal.decreases-loop-cursor

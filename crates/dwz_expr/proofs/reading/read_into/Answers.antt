@@ -1,15 +1,6 @@
-use Rattle.std.proofs.lemmas.Result.{err_from_is_err_and}
-use Rattle.dwz_expr.specs.Gathering.{added}
-use Rattle.dwz_expr.proofs.StopLemmas.{into_fails, into_gives}
+use Rattle.dwz_expr.proofs.FewLemmas.{plain_whole}
 use Rattle.dwz_expr.proofs.reading.read_into.Goals as goal
 
-pub returns-in_err-all-clause-found : goal.returns-in_err-all-clause-found
-returns-in_err-all-clause-found c =
-    let p = err_from_is_err_and c.from_residual.result c.from_residual.ensures.1 in
-    let gathers = c.in_err-all.ensures.answer in
-    rw (p.1, p.2) (into_fails c.args.section (record { at = c.args.at; rest = c.args.bytes.now }) (added c.args.operands.now.items c.all.new.operands.items) c.in_err-all.field-0.0 gathers)
-
-pub returns-clause-found : goal.returns-clause-found
-returns-clause-found c =
-    let gathers = c.in_ok-all.ensures.answer in
-    into_gives c.args.section (record { at = c.args.at; rest = c.args.bytes.now }) (added c.args.operands.now.items c.all.new.operands.items) c.all.new.address gathers
+pub returns-then-plain-bytes-clause-found : goal.returns-then-plain-bytes-clause-found
+returns-then-plain-bytes-clause-found c =
+    plain_whole c.args.bytes.now c.plain_front-plain.result c.plain_front-plain.ensures c.args.at c.args.section c.args.operands.now.items c.if-plain-bytes.true

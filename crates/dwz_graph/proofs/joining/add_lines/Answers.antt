@@ -1,7 +1,7 @@
 use Rattle.std.proofs.Common.{◌+◌}
 use Rattle.std.proofs.lemmas.Option.{slice_get-get_or}
 use Rattle.std.specs.Option.{option_map}
-use Rattle.dwz_graph.proofs.JoinLemmas.{all_added, none_added, one_added}
+use Rattle.dwz_unit.proofs.FlatLemmas.{all_added, none_added, one_added}
 use Rattle.dwz_graph.proofs.joining.add_lines.Goals as goal
 
 pub loop-line-init : goal.loop-line-init

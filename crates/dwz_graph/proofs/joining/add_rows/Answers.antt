@@ -1,6 +1,6 @@
 use Rattle.std.proofs.lemmas.Option.{slice_get-get_or}
 use Rattle.dwz_graph.specs.ListRows.{raised}
-use Rattle.dwz_graph.proofs.JoinLemmas.{all_added, none_added, one_added}
+use Rattle.dwz_unit.proofs.FlatLemmas.{all_added, none_added, one_added}
 use Rattle.dwz_graph.proofs.joining.add_rows.Goals as goal
 
 pub loop-row-init : goal.loop-row-init

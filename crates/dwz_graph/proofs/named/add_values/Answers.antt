@@ -1,20 +1,29 @@
-use Rattle.std.proofs.Common.{◌+◌, arith, get_or, refl, subst, sym, ◌∙◌, Result}
+use Rattle.std.proofs.Common.{◌≡◌, ◌+◌, arith, drop, get_or, refl, subst, sym, ◌∙◌, List, Result, Ok, Err}
+use Rattle.std.specs.Prelude.{IfOk}
+use Rattle.dwz_bytes.specs.Input.{Input}
 use Rattle.std.proofs.lemmas.Result.{err_from_is_err_and}
 use Rattle.dwz_model.specs.declared.fault.Fault.{Fault}
-use Rattle.dwz_def_reading.specs.Entries.{RawAttr}
-use Rattle.dwz_forms.specs.RawValues.{raw_view}
+use Rattle.dwz_def_reading.specs.Shared.{NamedList}
+use Rattle.dwz_def_reading.specs.Units.{RawUnit}
+use Rattle.dwz_def_reading.specs.Values.{Raw}
 use Rattle.dwz_unit.specs.Rows.{units_of}
+use Rattle.dwz_unit.specs.Values.{Reads}
 use Rattle.dwz_graph.specs.FileRows.{Learns}
 use Rattle.dwz_graph.specs.Named.{Found, attr_named}
-use Rattle.dwz_graph.specs.Resolved.{StateIn}
+use Rattle.dwz_graph.specs.Resolved.{Goes, IsHere, StateIn, value_between}
 use Rattle.dwz_graph.specs.Surroundings.{common_view, scope_within}
 use Rattle.dwz_graph.specs.Parts.{numbers_file}
 use Rattle.dwz_graph.proofs.LineSteps.{learns_next, learns_none}
 use Rattle.dwz_graph.proofs.NamedSteps.{Added, adds_more, adds_none, fails_at}
 use Rattle.dwz_graph.proofs.RowLemmas.{row_there}
-use Rattle.dwz_graph.proofs.StopSteps.{all_read, at_stop, none, stop_read, value_there}
+use Rattle.dwz_graph.proofs.StateLemmas.{with_found}
+use Rattle.dwz_graph.proofs.StopSteps.{all_read, at_stop, none, stop_there, value_there}
 use Rattle.dwz_graph.proofs.ValueSteps.{no_pair}
 use Rattle.dwz_graph.proofs.named.add_values.Goals as goal
+
+-- a value that is read, and what is behind it
+abbrev Read : Type 0
+Read = Result (Raw × Input) Fault
 
 pub loop-stop-init : goal.loop-stop-init
 loop-stop-init c = record {
@@ -23,8 +32,11 @@ loop-stop-init c = record {
   left = sym c.stops-cursor.ensures.stops;
   file = refl;
   reads = c.stops-cursor.ensures.read;
-  adds = λ u row before here found k. adds_none (common_view c.args.around.now.common) (units_of c.args.units.now) (StateIn c.args.around.now (units_of c.args.units.now) u c.args.here.now)
-      (attr_named (scope_within c.args.around.now (units_of c.args.units.now) u)) row.entry.attrs before c.args.state.now c.args.state.now refl k;
+  adds = λ u row before here found k. (
+      let raw = units_of c.args.units.now in
+      let s = scope_within c.args.around.now raw u in
+      adds_none (common_view c.args.around.now.common) raw (StateIn c.args.around.now raw u c.args.here.now) (attr_named s) row.entry.attrs before c.args.state.now
+      (record c.args.state.now { hints = c.keep.new.self }) refl (with_found raw s c.args.here.now.number before c.args.state.now c.args.state.now.refs c.keep.new.self k));
   learns = λ row found. learns_none c.args.here.now.line c.args.state.now.files;
 }
 
@@ -50,8 +62,8 @@ bounds-pairs-stop c =
     (at_stop r.0.entry.at c.stops-cursor.result.pairs.now c.stops-cursor.result.stops.now l.stop-index l.invariant.now l.cursor r.0.entry.attrs l.invariant.among l.invariant.left
     (l.invariant.reads r.0 r.1) c.loop-stop-test.true).below
 
-pub known_value-raw-requires : goal.known_value-raw-requires
-known_value-raw-requires c =
+pub add_stop-requires-clause-read : goal.add_stop-requires-clause-read
+add_stop-requires-clause-read c =
     let l = c.loop-stop in
     let r = row_there (units_of c.args.units.now) c.args.i c.requires.row in
     value_there r.0.entry.at c.stops-cursor.result.pairs.now c.stops-cursor.result.stops.now l.stop-index l.invariant.now l.cursor r.0.entry.attrs l.invariant.among l.invariant.left
@@ -65,34 +77,44 @@ loop-stop-preserved c =
     let pairs = c.stops-cursor.result.pairs.now in
     let stops = c.stops-cursor.result.stops.now in
     let number = (get_or stops l.stop-index none).number in
-    let value = raw_view c.known_value-raw.result in
-    let a : RawAttr = record { at = c.pass_bytes.new.cursor.at; end = c.known_value-raw.new.cursor.at; pair = get_or pairs number no_pair; raw = value } in
+    let pair = get_or pairs number no_pair in
+    let begins = c.pass_bytes.new.cursor in
     let r = row_there raw c.args.i c.requires.row in
     let n = at_stop r.0.entry.at pairs stops l.stop-index l.invariant.now l.cursor r.0.entry.attrs l.invariant.among l.invariant.left (l.invariant.reads r.0 r.1) c.loop-stop-test.true in
     record {
       now = number + 1;
       among = omega (arith, n.below);
       left = n.rest;
-      file = c.in_ok-add_attr.ensures.file ∙ l.invariant.file;
-      reads = λ row found. (stop_read row.entry.at pairs stops l.stop-index l.invariant.now l.cursor row.entry.attrs l.invariant.among l.invariant.left (l.invariant.reads row found)
-          c.pass_bytes.new.cursor c.known_value-raw.new.cursor value c.loop-stop-test.true c.pass_bytes.ensures c.known_value-raw.ensures.value).next.rest;
+      file = c.in_ok-add_stop.ensures.file ∙ l.invariant.file;
+      reads = λ row found. (
+          let x = stop_there row.entry.at pairs stops l.stop-index l.invariant.now l.cursor row.entry.attrs l.invariant.among l.invariant.left (l.invariant.reads row found) begins
+          c.loop-stop-test.true c.pass_bytes.ensures in
+          let behind : c.add_stop.new.cursor ≡ x.place = subst (λ (w : Read). IfOk w (λ y. c.add_stop.new.cursor ≡ y.1)) x.value c.in_ok-add_stop.ensures.read in
+          subst (λ (w : Input). Reads row.entry.at (drop (number + 1) pairs) w (drop (number + 1) row.entry.attrs)) (sym behind) x.rest);
       adds = λ u row before here found k. (
-          let x = stop_read row.entry.at pairs stops l.stop-index l.invariant.now l.cursor row.entry.attrs l.invariant.among l.invariant.left (l.invariant.reads row found)
-          c.pass_bytes.new.cursor c.known_value-raw.new.cursor value c.loop-stop-test.true c.pass_bytes.ensures c.known_value-raw.ensures.value in
+          let x = stop_there row.entry.at pairs stops l.stop-index l.invariant.now l.cursor row.entry.attrs l.invariant.among l.invariant.left (l.invariant.reads row found) begins
+          c.loop-stop-test.true c.pass_bytes.ensures in
           let s = scope_within c.args.around.now raw u in
           let K = StateIn c.args.around.now raw u c.args.here.now in
-          adds_more co raw K K (attr_named s) row.entry.attrs number a before c.args.state.now l.state c.add_attr.new.state x.next.is
+          let goes = subst
+          (λ (w : Read). IfOk w (λ y. (v : RawUnit) (lists : List NamedList) → IsHere raw v c.args.here.now → StateIn c.args.around.now raw v c.args.here.now lists l.state
+          → Goes {Y = Unit {0}} co raw (StateIn c.args.around.now raw v c.args.here.now) lists l.state c.add_stop.new.state (Ok tt)
+          (attr_named (scope_within c.args.around.now raw v) (value_between begins y.1 pair y.0))))
+          x.value c.in_ok-add_stop.ensures.goes in
+          adds_more co raw K K (attr_named s) row.entry.attrs number (value_between begins x.place pair x.raw) before c.args.state.now l.state c.add_stop.new.state x.is
           (subst (λ (w : Result Found Fault). Added co raw K before c.args.state.now l.state w) (x.named s) (l.invariant.adds u row before here found k))
-          (λ lists q. rw (sym c.at-at.ensures, sym c.at-end.ensures) (c.in_ok-add_attr.ensures.goes u lists here q)));
+          (λ lists q. goes u lists here q));
       learns = λ row found. (
-          let x = stop_read row.entry.at pairs stops l.stop-index l.invariant.now l.cursor row.entry.attrs l.invariant.among l.invariant.left (l.invariant.reads row found)
-          c.pass_bytes.new.cursor c.known_value-raw.new.cursor value c.loop-stop-test.true c.pass_bytes.ensures c.known_value-raw.ensures.value in
-          learns_next numbers_file row.entry.attrs number a c.args.here.now.line c.args.state.now.files l.state.files c.add_attr.new.state.files x.next.is
-          (subst (λ (b : _). Learns b c.args.here.now.line c.args.state.now.files l.state.files) x.numbered (l.invariant.learns row found)) c.in_ok-add_attr.ensures.learns);
+          let x = stop_there row.entry.at pairs stops l.stop-index l.invariant.now l.cursor row.entry.attrs l.invariant.among l.invariant.left (l.invariant.reads row found) begins
+          c.loop-stop-test.true c.pass_bytes.ensures in
+          let learns = subst (λ (w : Read). IfOk w (λ y. Learns (numbers_file (value_between begins y.1 pair y.0)) c.args.here.now.line l.state.files c.add_stop.new.state.files)) x.value
+          c.in_ok-add_stop.ensures.learns in
+          learns_next numbers_file row.entry.attrs number (value_between begins x.place pair x.raw) c.args.here.now.line c.args.state.now.files l.state.files c.add_stop.new.state.files x.is
+          (subst (λ (b : _). Learns b c.args.here.now.line c.args.state.now.files l.state.files) x.numbered (l.invariant.learns row found)) learns);
     }
 
-pub returns-in_err-add_attr-clause-goes : goal.returns-in_err-add_attr-clause-goes
-returns-in_err-add_attr-clause-goes c = λ u row before here found k. (
+pub returns-in_err-add_stop-clause-goes : goal.returns-in_err-add_stop-clause-goes
+returns-in_err-add_stop-clause-goes c = λ u row before here found k. (
     let p = err_from_is_err_and c.from_residual.result c.from_residual.ensures.1 in
     let raw = units_of c.args.units.now in
     let co = common_view c.args.around.now.common in
@@ -100,15 +122,20 @@ returns-in_err-add_attr-clause-goes c = λ u row before here found k. (
     let pairs = c.stops-cursor.result.pairs.now in
     let stops = c.stops-cursor.result.stops.now in
     let number = (get_or stops l.stop-index none).number in
-    let value = raw_view c.known_value-raw.result in
-    let a : RawAttr = record { at = c.pass_bytes.new.cursor.at; end = c.known_value-raw.new.cursor.at; pair = get_or pairs number no_pair; raw = value } in
-    let x = stop_read row.entry.at pairs stops l.stop-index l.invariant.now l.cursor row.entry.attrs l.invariant.among l.invariant.left (l.invariant.reads row found)
-    c.pass_bytes.new.cursor c.known_value-raw.new.cursor value c.loop-stop-test.true c.pass_bytes.ensures c.known_value-raw.ensures.value in
+    let pair = get_or pairs number no_pair in
+    let begins = c.pass_bytes.new.cursor in
+    let x = stop_there row.entry.at pairs stops l.stop-index l.invariant.now l.cursor row.entry.attrs l.invariant.among l.invariant.left (l.invariant.reads row found) begins
+    c.loop-stop-test.true c.pass_bytes.ensures in
     let s = scope_within c.args.around.now raw u in
     let K = StateIn c.args.around.now raw u c.args.here.now in
-    rw (p.1, p.2) (fails_at co raw K (attr_named s) row.entry.attrs number a before c.args.state.now l.state c.in_err-add_attr.field-0.0 x.next.is
+    let goes = subst
+    (λ (w : Read). IfOk w (λ y. (v : RawUnit) (lists : List NamedList) → IsHere raw v c.args.here.now → StateIn c.args.around.now raw v c.args.here.now lists l.state
+    → Goes {Y = Unit {0}} co raw (StateIn c.args.around.now raw v c.args.here.now) lists l.state c.add_stop.new.state (Err c.in_err-add_stop.field-0.0)
+    (attr_named (scope_within c.args.around.now raw v) (value_between begins y.1 pair y.0))))
+    x.value c.in_err-add_stop.ensures.goes in
+    rw (p.1, p.2) (fails_at co raw K (attr_named s) row.entry.attrs number (value_between begins x.place pair x.raw) before c.args.state.now l.state c.in_err-add_stop.field-0.0 x.is
     (subst (λ (w : Result Found Fault). Added co raw K before c.args.state.now l.state w) (x.named s) (l.invariant.adds u row before here found k))
-    (λ lists q. rw (sym c.at-at.ensures, sym c.at-end.ensures) (c.in_err-add_attr.ensures.goes u lists here q))))
+    (λ lists q. goes u lists here q)))
 
 pub returns-clause-goes : goal.returns-clause-goes
 returns-clause-goes c = λ u row before here found k. (

@@ -5,8 +5,8 @@ use Rattle.dwz_unit.proofs.joins.read_whole.Goals as goal
 
 pub returns-clause-read : goal.returns-clause-read
 returns-clause-read c =
-    let section = c.args.section.now in
-    let row = c.read_up_to.new.row.items in
+    let section = c.args.pairs.now.section in
+    let row = c.read_up_to.new.pairs.row in
     let read = c.in_ok-rows.field-0 in
     made_whole section row c.args.offset c.args.first read.rows c.new.result.items c.joined.result c.joined.ensures.ok
     (read_to_end section c.args.offset (read_views row read.rows) read.starts.items read.stop (sym c.is_some.ensures ∙ c.if-is_some.false) c.in_ok-rows.ensures.read)

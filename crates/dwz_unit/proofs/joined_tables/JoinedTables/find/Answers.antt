@@ -22,8 +22,8 @@ use Rattle.dwz_unit.proofs.joined_tables.JoinedTables.find.Goals.{After-saturati
 pub returns-in_err-read : goal.returns-in_err-read
 returns-in_err-read c =
     let past : length c.self.inside.reads.items ≤ c.args.tail.base = search rules in
-    let views = table_views c.self.inside.row.items c.self.inside.reads.items in
-    let beyond : length views ≤ c.args.tail.base = omega (arith, past, length-map c.self.inside.reads.items (table_view c.self.inside.row.items)) in
+    let views = table_views c.self.inside.pairs.row c.self.inside.reads.items in
+    let beyond : length views ≤ c.args.tail.base = omega (arith, past, length-map c.self.inside.reads.items (table_view c.self.inside.pairs.row)) in
     rw c.from_residual.ensures
     (subst (λ (s : Stored). find_decl (tail_in s.tables c.args.tail) c.args.code ≡ None) c.self.view_is (sym (none_there views c.args.tail c.args.code beyond)))
 
@@ -34,60 +34,60 @@ by_row row given r skip code o is finds = subst (λ (w : List Pair). FindsOwn (t
 
 pub returns-in-Some : goal.returns-in-Some
 returns-in-Some c =
-    let row = c.self.inside.row.items in
+    let row = c.self.inside.pairs.row in
     let reads = table_views row c.self.inside.reads.items in
     let r = table_view row c.in_ok-read.read.now in
     let found = c.in-Some.found in
     let got : slice_get c.self.inside.reads.items c.args.tail.base ≡ Some c.in_ok-read.read.now = search (rules, slice_get_read) in
     let at = got_map (table_view row) c.self.inside.reads.items c.args.tail.base c.in_ok-read.read.now got in
     let linked = c.self.invariant.0.known.linked in
-    let own = rw c.in-Some.is at (by_row row c.as_slice-row.result.now c.in_ok-read.read.now c.args.tail.skip c.args.code c.own.result c.as_slice-row.ensures.value c.own.ensures) in
+    let own = rw c.in-Some.is at (by_row row c.as_slice-row.result.now c.in_ok-read.read.now c.args.tail.skip c.args.code c.own.result c.as_slice-row.ensures c.own.ensures) in
     subst (λ (s : Stored). Finds s.decls (find_decl (tail_in s.tables c.args.tail) c.args.code) (Some found)) c.self.view_is (
       sym (own_found reads (whole_tables reads) linked c.args.tail.base r at c.args.tail.skip c.args.code (found_view found) (sym own.0)),
       own_stands (all_pairs reads) r found (linked c.args.tail.base r at).stands own.1,
     )
 
 -- what is sought is sought behind the table's own declarations
-behind : (c : After-saturating_sub-past) → find_decl (drop c.saturating_sub-past.result (end_in (whole_tables (table_views c.self.inside.row.items c.self.inside.reads.items)) c.in_ok-read.read.now.next)) c.args.code
+behind : (c : After-saturating_sub-past) → find_decl (drop c.saturating_sub-past.result (end_in (whole_tables (table_views c.self.inside.pairs.row c.self.inside.reads.items)) c.in_ok-read.read.now.next)) c.args.code
     ≡ find_decl (tail_in c.args.self.now.tables c.args.tail) c.args.code
 behind c =
-    let row = c.self.inside.row.items in
+    let row = c.self.inside.pairs.row in
     let reads = table_views row c.self.inside.reads.items in
     let r = table_view row c.in_ok-read.read.now in
     let got : slice_get c.self.inside.reads.items c.args.tail.base ≡ Some c.in_ok-read.read.now = search (rules, slice_get_read) in
     let at = got_map (table_view row) c.self.inside.reads.items c.args.tail.base c.in_ok-read.read.now got in
     let past : c.saturating_sub-past.result ≡ c.args.tail.skip - length r.table = omega (arith, c.saturating_sub-past.ensures, c.len.ensures.len, own_length row c.in_ok-read.read.now) in
-    let none = rw c.in_default.is at (by_row row c.as_slice-row.result.now c.in_ok-read.read.now c.args.tail.skip c.args.code c.own.result c.as_slice-row.ensures.value c.own.ensures) in
+    let none = rw c.in_default.is at (by_row row c.as_slice-row.result.now c.in_ok-read.read.now c.args.tail.skip c.args.code c.own.result c.as_slice-row.ensures c.own.ensures) in
     rw past
     (sym (none_own reads (whole_tables reads) c.self.invariant.0.known.linked c.args.tail.base r at c.args.tail.skip c.args.code (sym none))
     ∙ ap (λ (s : Stored). find_decl (tail_in s.tables c.args.tail) c.args.code) c.self.view_is)
 
 pub returns-in_err-read-2 : goal.returns-in_err-read-2
 returns-in_err-read-2 c =
-    let none = no_more c.saturating_sub-past.result c.args.code (whole_tables (table_views c.self.inside.row.items c.self.inside.reads.items)) c.in_ok-read.read.now.next c.in_err-read-2.was in
+    let none = no_more c.saturating_sub-past.result c.args.code (whole_tables (table_views c.self.inside.pairs.row c.self.inside.reads.items)) c.in_ok-read.read.now.next c.in_err-read-2.was in
     rw c.from_residual-in_err-read-2.ensures (sym (behind (goal.at.returns-in_err-read-2 c).After-saturating_sub-past) ∙ none)
 
 pub find_past-requires-clause-linked : goal.find_past-requires-clause-linked
-find_past-requires-clause-linked c = rw (c.as_slice.ensures.value, c.as_slice-row.ensures.value) c.self.invariant.0.known.linked
+find_past-requires-clause-linked c = rw (c.as_slice.ensures.value, c.as_slice-row.ensures) c.self.invariant.0.known.linked
 
 pub find_past-requires-clause-tail : goal.find_past-requires-clause-tail
 find_past-requires-clause-tail c =
-    let row = c.self.inside.row.items in
+    let row = c.self.inside.pairs.row in
     let got : slice_get c.self.inside.reads.items c.args.tail.base ≡ Some c.in_ok-read.read.now = search (rules, slice_get_read) in
     let at = got_map (table_view row) c.self.inside.reads.items c.args.tail.base c.in_ok-read.read.now got in
-    rw (c.as_slice.ensures.value, c.as_slice-row.ensures.value)
+    rw (c.as_slice.ensures.value, c.as_slice-row.ensures)
     ((c.self.invariant.0.known.linked c.args.tail.base (table_view row c.in_ok-read.read.now) at).next c.in_ok-read-2.field-0 c.in_ok-read-2.was)
 
 pub find_past-requires-clause-row : goal.find_past-requires-clause-row
-find_past-requires-clause-row c = rw (c.as_slice.ensures.value, c.as_slice-row.ensures.value) c.self.invariant.1
+find_past-requires-clause-row c = rw (c.as_slice.ensures.value, c.as_slice-row.ensures) c.self.invariant.1
 
 pub returns : goal.returns
 returns c =
-    let views = table_views c.self.inside.row.items c.self.inside.reads.items in
+    let views = table_views c.self.inside.pairs.row c.self.inside.reads.items in
     let next = c.in_ok-read-2.field-0 in
     let past = c.saturating_sub-past.result in
     let here : table_views c.as_slice-row.result.now c.as_slice.result.now ≡ views =
-    ap (λ (w : List Pair). table_views w c.as_slice.result.now) c.as_slice-row.ensures.value ∙ ap (table_views c.self.inside.row.items) c.as_slice.ensures.value in
+    ap (λ (w : List Pair). table_views w c.as_slice.result.now) c.as_slice-row.ensures ∙ ap (table_views c.self.inside.pairs.row) c.as_slice.ensures.value in
     let found : Finds (all_pairs views) (find_decl (drop past (tail_in (whole_tables views) next)) c.args.code) c.find_past.result =
     subst (λ (vs : List TableView). Finds (all_pairs vs) (find_decl (drop past (tail_in (whole_tables vs) next)) c.args.code) c.find_past.result) here c.find_past.ensures in
     let same : find_decl (drop past (tail_in (whole_tables views) next)) c.args.code ≡ find_decl (tail_in c.args.self.now.tables c.args.tail) c.args.code =

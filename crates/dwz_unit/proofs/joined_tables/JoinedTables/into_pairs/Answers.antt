@@ -1,16 +1,21 @@
-use Rattle.std.proofs.Common.{◌≡◌, ◌+◌, ◌++◌, ◌∷◌, [], List, take, Some, sym, ap, ◌∙◌}
+use Rattle.std.proofs.Common.{◌≡◌, ◌+◌, ◌++◌, ◌∷◌, [], List, map, take, Some, sym, ap, ◌∙◌}
 use Rattle.std.specs.Prelude.{slice_get}
-use Rattle.std.proofs.lemmas.List.{take_more}
+use Rattle.std.proofs.lemmas.List.{take_all, take_more}
 use Rattle.std.proofs.lemmas.Option.{slice_get-get_or}
 use Rattle.dwz_abbrev.specs.declared.read_decl.ReadDecl.{ReadDecl}
 use Rattle.dwz_unit.specs.declared.joined_table.JoinedTable.{JoinedTable}
+use Rattle.dwz_model.specs.declared.place.Pair.{Pair}
+use Rattle.dwz_unit.specs.Found.{all_pairs}
 use Rattle.dwz_unit.specs.RowViews.{spans_of}
+use Rattle.dwz_unit.specs.Spans.{part_of}
+use Rattle.dwz_unit.specs.TableViews.{table_views}
+use Rattle.dwz_unit.specs.Tables.{Stored}
 use Rattle.dwz_unit.proofs.TableRowLemmas.{has_at, spans_more, spans_within}
 use Rattle.dwz_unit.proofs.joined_tables.JoinedTables.into_pairs.Goals as goal
 
 pub loop-read-preserved : goal.loop-read-preserved
 loop-read-preserved c =
-    let row = c.self.inside.row.items in
+    let row = c.self.inside.pairs.row in
     let reads = c.as_slice-read-items.result.now in
     let i = c.loop-read.read-index in
     let r = c.read-item.result in
@@ -26,3 +31,15 @@ loop-read-preserved c =
       pairs = spans_more row reads i r spans new more c.loop-read.invariant.pairs is;
       within = spans_within row r spans new (has_at row c.self.inside.reads.items i r c.self.invariant.1 at) c.loop-read.invariant.within is;
     }
+
+pub from_parts-requires : goal.from_parts-requires
+from_parts-requires c = rw c.into_row.ensures c.loop-read.invariant.within
+
+pub returns : goal.returns
+returns c =
+    let row = c.self.inside.pairs.row in
+    c.from_parts.ensures
+    ∙ ap (λ (w : List Pair). map (part_of w) c.loop-read.spans.items) c.into_row.ensures
+    ∙ c.loop-read.invariant.pairs
+    ∙ ap (λ (reads : List JoinedTable). all_pairs (table_views row reads)) (take_all c.loop-read.read-index c.as_slice-read-items.result.now c.loop-read-test.false ∙ c.as_slice-read-items.ensures.value)
+    ∙ ap (λ (s : Stored). s.decls) c.self.view_is

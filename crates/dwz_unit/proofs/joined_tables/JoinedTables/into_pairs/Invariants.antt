@@ -7,6 +7,6 @@ use Rattle.dwz_unit.proofs.joined_tables.JoinedTables.into_pairs.Given as goal
 
 abbrev pub invariant-loop-read : goal.invariant-loop-read
 invariant-loop-read l = record {
-  pairs : map (part_of l.row.items) l.spans.items ≡ all_pairs (table_views l.row.items (take l.read-index l.read-items));
-  within : All (IsWithin (length l.row.items)) l.spans.items;
+  pairs : map (part_of l.self-inside.pairs.row) l.spans.items ≡ all_pairs (table_views l.self-inside.pairs.row (take l.read-index l.read-items));
+  within : All (IsWithin (length l.self-inside.pairs.row)) l.spans.items;
 }

@@ -1,20 +1,16 @@
-use Rattle.std.proofs.Common.{◌≡◌, ℕ, ◌<◌, List, length, map, refl, ap, subst, sym, ◌∙◌, arith}
-use Rattle.std.specs.List.{All}
+use Rattle.std.proofs.Common.{◌≡◌, ℕ, List, map, refl, ap, subst, sym, ◌∙◌, arith}
 use Rattle.std.proofs.lemmas.List.{length-map}
 use Rattle.std.proofs.lemmas.Result.{err_from_is_err_and}
 use Rattle.dwz_bytes.specs.Input.{input}
 use Rattle.dwz_def_reading.specs.Faults.{Fails}
 use Rattle.dwz_def_reading.specs.Units.{unit_at}
 use Rattle.dwz_model.specs.declared.place.Pair.{Pair}
-use Rattle.dwz_unit.specs.Kept.{AreKept, KeepsUnit, known_in, source_of}
+use Rattle.dwz_unit.specs.Kept.{KeepsUnit, known_in}
 use Rattle.dwz_unit.specs.Known.{KnownRow, row_view}
-use Rattle.dwz_unit.specs.declared.rows.Row.{Row}
 use Rattle.dwz_unit.specs.Rows.{rows_of}
-use Rattle.dwz_unit.proofs.ReadLemmas.{all_kept, answered, kept_again, fewer_units, known_grown, nearer, none_yet, one_more, unit_fails}
+use Rattle.dwz_unit.proofs.ReadLemmas.{all_kept, answered, fewer_units, known_grown, nearer, none_yet, one_more, unit_fails}
 use Rattle.dwz_unit.specs.Modes.{mode_view}
-use Rattle.dwz_unit.proofs.DeclarationLemmas.{decls_within}
-use Rattle.dwz_unit.proofs.units.Units.read_by.Goals as goal
-use Rattle.dwz_unit.proofs.units.Units.read_by.Goals.{In_ok-all}
+use Rattle.dwz_unit.proofs.units.Units.read_all.Goals as goal
 
 pub loop-at-init : goal.loop-at-init
 loop-at-init c = rw (c.in_ok-tables.ensures, c.new-units.ensures.items, c.new-entries.ensures.items) (none_yet c.args.info.now c.args.abbrevs.now (mode_view c.args.mode))
@@ -50,26 +46,11 @@ loop-at-preserved c =
     (known_in new c.unit_of.new.entries.items)
     r (c.len.ensures ∙ c.loop-at.units.ok.0) is grows (omega (arith, c.in_ok-unit.ensures.room, length-map c.unit_of.new.entries.items (row_view new.decls))) c.in_ok-push.ensures.items
 
--- all units are kept, with all declarations
-all_are : (c : In_ok-all) → AreKept c.args.info.now c.args.abbrevs.now c.args.mode c.loop-at.units.items c.loop-at.entries.items c.in_ok-all.all
-all_are c =
+pub kept-requires : goal.kept-requires
+kept-requires c =
     all_kept c.args.info.now c.args.abbrevs.now c.args.mode c.loop-at.at c.loop-at.tables c.loop-at.units.items c.loop-at.entries.items _ c.loop-at.invariant c.loop-at-test.false
-    c.in_ok-all.ensures c.requires.info c.requires.abbrevs
-
-pub used_pairs-requires : goal.used_pairs-requires
-used_pairs-requires c =
-    let are = all_are (goal.at.used_pairs-requires c).In_ok-all in
-    subst (All (λ (x : Row). x.decl < length c.in_ok-all.all)) (sym c.as_slice.ensures.value)
-    (decls_within c.args.info.now c.args.abbrevs.now c.args.mode c.loop-at.units.items c.loop-at.entries.items c.in_ok-all.all (source_of c.args.info.now c.args.abbrevs.now c.args.mode) are refl)
-
-pub invariant_of-result : goal.invariant_of-result
-invariant_of-result c =
-    let are = all_are (goal.at.invariant_of-result c).In_ok-all in
-    let same = subst (λ (rows : List Row). map (row_view c.in_ok-decls.decls) rows ≡ map (row_view c.in_ok-all.all) rows) c.as_slice.ensures.value c.in_ok-decls.ensures in (
-      kept_again c.args.info.now c.args.abbrevs.now c.args.mode c.loop-at.units.items c.loop-at.entries.items c.in_ok-all.all c.in_ok-decls.decls are same,
-      c.in_ok-named.ensures,
-      c.in_ok-stops.ensures,
-    )
+    refl c.requires.info c.requires.abbrevs
 
 pub returns-clause-answers : goal.returns-clause-answers
-returns-clause-answers c = answered c.args.info.now c.args.abbrevs.now c.args.mode c.loop-at.at c.loop-at.tables c.loop-at.units.items (known_in c.loop-at.tables c.loop-at.entries.items) c.loop-at.invariant c.loop-at-test.false
+returns-clause-answers c =
+    rw c.in_ok-all.ensures (answered c.args.info.now c.args.abbrevs.now c.args.mode c.loop-at.at c.loop-at.tables c.loop-at.units.items (known_in c.loop-at.tables c.loop-at.entries.items) c.loop-at.invariant c.loop-at-test.false)

@@ -18,7 +18,6 @@ use Rattle.dwz_def_taken.specs.Over.{common_part, common_parts, takers}
 use Rattle.dwz_def_taken.specs.Takes.{IsFixed, Takes, free_rule, takes_of}
 use Rattle.dwz_def_images.proofs.OldFiles.{nth_cases}
 
-
 pub has_in : (n : ℕ) (ms : List ℕ) → has n ms ≡ true → In n ms
 unfolding has
 has_in n [] e = absurd cc

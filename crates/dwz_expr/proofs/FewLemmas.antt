@@ -16,9 +16,9 @@ use Rattle.dwz_bytes.proofs.LebLemmas.{leb_again}
 use Rattle.dwz_bytes.proofs.SignedLemmas.{below_zero, high_value, low_value}
 use Rattle.dwz_codes.specs.Operators.{operator_rows}
 use Rattle.dwz_codes.specs.declared.shape.Shape.{Shape}
-use Rattle.dwz_codes.specs.declared.shape.Shape.TheVariants.{Address, Nothing, Sleb}
+use Rattle.dwz_codes.specs.declared.shape.Shape.TheVariants.{Address, Nothing, Sleb, Uleb}
 use Rattle.dwz_def_reading.specs.declared.exprs.Operand.{Operand}
-use Rattle.dwz_def_reading.specs.Exprs.{ExprContext, Field, Located, Signed, bad_expr, fields_of}
+use Rattle.dwz_def_reading.specs.Exprs.{ExprContext, Field, Located, Run, Signed, Unsigned, bad_expr, fields_of}
 use Rattle.dwz_def_reading.specs.Values.{shape_of}
 use Rattle.dwz_def_reading.proofs.CaseFacts.{or_assoc}
 use Rattle.dwz_def_reading.proofs.SequenceLemmas.{input_of}
@@ -103,12 +103,12 @@ plain_op c k at code rest a b j fields laid flat is =
 plain_by : (bytes : List ℕ) (at : ℕ) (p : Plain) → at < length bytes → at < p.end → p.end ≤ length bytes → (fields : List Field) → fields_of (shape_of operator_rows (get_or bytes at 0)) ≡ Some fields
     → AreFlat fields
     → ((bad : Fault) (start : ℕ) (a : Bool) → fields_into bad fields (gathered [] a) (input_of (start + at + 1) (drop (at + 1) bytes)) ≡ Ok (gathered [] (a || p.address), input_of (start + p.end) (drop p.end bytes)))
-    → IsPlain bytes at p
+    → IsPlain 0 bytes at p
 plain_by bytes at p there rises within fields laid flat read = record {
   rises = rises;
   plain = record {
     within = within;
-    skips = λ c k start a.
+    skips = λ c k start a few.
         ap (λ (w : List ℕ). ops_into c k (gathered [] a) (input_of (start + at) w)) (drop_more bytes at 0 there)
         ∙ plain_op c k (start + at) (get_or bytes at 0) (drop (at + 1) bytes) a (a || p.address) (input_of (start + p.end) (drop p.end bytes)) fields laid flat (read (bad_expr c (start + at)) start a);
   };
@@ -123,7 +123,7 @@ laid_as code shape fields same laid = ap fields_of (sym same) ∙ laid
 
 -- one without operands
 pub plain_code : (bytes : List ℕ) (at : ℕ) (shape : Shape) (p : Plain) → at < length bytes → shape ≡ shape_of operator_rows (get_or bytes at 0) → shape ≡ Nothing → p.end ≡ at + 1 → p.address ≡ false
-    → IsPlain bytes at p
+    → IsPlain 0 bytes at p
 unfolding fields_into
 plain_code bytes at shape p there same is end none =
     plain_by bytes at p there (omega (arith, end)) (omega (arith, end)) [] (laid_as (get_or bytes at 0) shape [] same (ap fields_of is)) tt
@@ -134,7 +134,7 @@ plain_code bytes at shape p there same is end none =
 
 -- one with a number
 pub plain_number : (bytes : List ℕ) (at : ℕ) (shape : Shape) (p : Plain) → at < length bytes → shape ≡ shape_of operator_rows (get_or bytes at 0) → shape ≡ Sleb → AreFew 3 bytes (at + 1) p.end → p.address ≡ false
-    → IsPlain bytes at p
+    → IsPlain 0 bytes at p
 unfolding fields_into
 plain_number bytes at shape p there same is few none =
     plain_by bytes at p there (omega (arith, few.place)) few.within (Signed ∷ []) (laid_as (get_or bytes at 0) shape (Signed ∷ []) same (ap fields_of is)) (tt, tt)
@@ -143,9 +143,31 @@ plain_number bytes at shape p there same is few none =
     let place : start + at + 1 + length few.front ≡ start + p.end = omega (arith, few.place) in
     rw (few_sleb bytes (at + 1) p.end few (start + at + 1)) (λ n. Ok (gathered [] (address n), input_of (place n) (drop p.end bytes)))))
 
+pub plain_unsigned : (bytes : List ℕ) (at : ℕ) (shape : Shape) (p : Plain) → at < length bytes → shape ≡ shape_of operator_rows (get_or bytes at 0) → shape ≡ Uleb → AreFew 3 bytes (at + 1) p.end → p.address ≡ false
+    → IsPlain 0 bytes at p
+unfolding fields_into
+plain_unsigned bytes at shape p there same is few none =
+    plain_by bytes at p there (omega (arith, few.place)) few.within (Unsigned ∷ []) (laid_as (get_or bytes at 0) shape (Unsigned ∷ []) same (ap fields_of is)) (tt, tt)
+    (λ bad start a. (
+    let address : a ≡ (a || p.address) = or_none a ∙ ap (λ (b : Bool). a || b) (sym none) in
+    let place : start + at + 1 + length few.front ≡ start + p.end = omega (arith, few.place) in
+    rw (few_uleb bytes (at + 1) p.end few (start + at + 1)) (λ n. Ok (gathered [] (address n), input_of (place n) (drop p.end bytes)))))
+
+-- one with so many bytes
+pub plain_run : (bytes : List ℕ) (at count : ℕ) (shape : Shape) (p : Plain) → at < length bytes → shape ≡ shape_of operator_rows (get_or bytes at 0) → fields_of shape ≡ Some (Run count ∷ [])
+    → p.end ≡ at + 1 + count → p.end ≤ length bytes → p.address ≡ false → IsPlain 0 bytes at p
+unfolding fields_into
+plain_run bytes at count shape p there same laid end within none =
+    plain_by bytes at p there (omega (arith, end)) within (Run count ∷ []) (laid_as (get_or bytes at 0) shape (Run count ∷ []) same laid) (tt, tt)
+    (λ bad start a. (
+    let address : a ≡ (a || p.address) = or_none a ∙ ap (λ (b : Bool). a || b) (sym none) in
+    let place : start + at + 1 + count ≡ start + p.end = omega (arith, end) in
+    let behind : drop count (drop (at + 1) bytes) ≡ drop p.end bytes = drop-drop count (at + 1) bytes ∙ ap (λ (n : ℕ). drop n bytes) (sym end) in
+    rw (le-ltb (length (drop (at + 1) bytes)) count (omega (arith, end, within, length-drop (at + 1) bytes))) (λ n. Ok (gathered [] (address n), input_of (place n) (behind n)))))
+
 -- one with an address
 pub plain_address : (bytes : List ℕ) (at : ℕ) (shape : Shape) (p : Plain) → at < length bytes → shape ≡ shape_of operator_rows (get_or bytes at 0) → shape ≡ Address → p.end ≡ at + 9
-    → p.end ≤ length bytes → p.address ≡ true → IsPlain bytes at p
+    → p.end ≤ length bytes → p.address ≡ true → IsPlain 0 bytes at p
 unfolding fields_into
 plain_address bytes at shape p there same is end within some =
     plain_by bytes at p there (omega (arith, end)) within (Located ∷ []) (laid_as (get_or bytes at 0) shape (Located ∷ []) same (ap fields_of is)) (tt, tt)
@@ -157,40 +179,51 @@ plain_address bytes at shape p there same is end within some =
 
 -- what was found there, if it was
 pub number_plain : (bytes : List ℕ) (at : ℕ) (shape : Shape) (o : Option Plain) → at < length bytes → shape ≡ shape_of operator_rows (get_or bytes at 0) → shape ≡ Sleb
-    → IfSome o (λ p. AreFew 3 bytes (at + 1) p.end) → IfSome o (λ p. p.address ≡ false) → IfSome o (λ p. IsPlain bytes at p)
+    → IfSome o (λ p. AreFew 3 bytes (at + 1) p.end) → IfSome o (λ p. p.address ≡ false) → IfSome o (λ p. IsPlain 0 bytes at p)
 number_plain bytes at shape None there same is few none = tt
 number_plain bytes at shape (Some p) there same is few none = plain_number bytes at shape p there same is few none
 
+pub unsigned_plain : (bytes : List ℕ) (at : ℕ) (shape : Shape) (o : Option Plain) → at < length bytes → shape ≡ shape_of operator_rows (get_or bytes at 0) → shape ≡ Uleb
+    → IfSome o (λ p. AreFew 3 bytes (at + 1) p.end) → IfSome o (λ p. p.address ≡ false) → IfSome o (λ p. IsPlain 0 bytes at p)
+unsigned_plain bytes at shape None there same is few none = tt
+unsigned_plain bytes at shape (Some p) there same is few none = plain_unsigned bytes at shape p there same is few none
+
+pub run_plain : (bytes : List ℕ) (at count : ℕ) (shape : Shape) (o : Option Plain) → at < length bytes → shape ≡ shape_of operator_rows (get_or bytes at 0) → fields_of shape ≡ Some (Run count ∷ [])
+    → IfSome o (λ p. p.end ≡ at + 1 + count) → IfSome o (λ p. p.end ≤ length bytes) → IfSome o (λ p. p.address ≡ false) → IfSome o (λ p. IsPlain 0 bytes at p)
+run_plain bytes at count shape None there same laid end within none = tt
+run_plain bytes at count shape (Some p) there same laid end within none = plain_run bytes at count shape p there same laid end within none
+
 pub address_plain : (bytes : List ℕ) (at : ℕ) (shape : Shape) (o : Option Plain) → at < length bytes → shape ≡ shape_of operator_rows (get_or bytes at 0) → shape ≡ Address
-    → IfSome o (λ p. p.end ≡ at + 1 + 8) → IfSome o (λ p. p.end ≤ length bytes) → IfSome o (λ p. p.address ≡ true) → IfSome o (λ p. IsPlain bytes at p)
+    → IfSome o (λ p. p.end ≡ at + 1 + 8) → IfSome o (λ p. p.end ≤ length bytes) → IfSome o (λ p. p.address ≡ true) → IfSome o (λ p. IsPlain 0 bytes at p)
 address_plain bytes at shape None there same is end within some = tt
 address_plain bytes at shape (Some p) there same is end within some = plain_address bytes at shape p there same is (omega (arith, end)) within some
 
 -- ---- in turn
 
-pub none_plain : (bytes : List ℕ) → ArePlain bytes 0 (record { end = 0; address = false })
-none_plain bytes = record {
+pub none_plain : (inside : ℕ) (bytes : List ℕ) → ArePlain inside bytes 0 (record { end = 0; address = false })
+none_plain inside bytes = record {
   within = omega arith;
-  skips = λ c k start a. (let address = or_none a in λ n. ops_into c k (gathered [] (address n)) (input_of (start + 0) (drop 0 bytes)));
+  skips = λ c k start a few. (let address = or_none a in λ n. ops_into c k (gathered [] (address n)) (input_of (start + 0) (drop 0 bytes)));
 }
 
-pub more_plain : (bytes : List ℕ) (p q r : Plain) → ArePlain bytes 0 p → IsPlain bytes p.end q → r.end ≡ q.end → r.address ≡ (p.address || q.address) → ArePlain bytes 0 r
-more_plain bytes p q r before one end both = record {
+pub more_plain : (inside : ℕ) (bytes : List ℕ) (p q r : Plain) → ArePlain inside bytes 0 p → IsPlain inside bytes p.end q → r.end ≡ q.end → r.address ≡ (p.address || q.address)
+    → ArePlain inside bytes 0 r
+more_plain inside bytes p q r before one end both = record {
   within = omega (arith, one.plain.within, end);
-  skips = λ c k start a.
-      before.skips c k start a ∙ one.plain.skips c k start (a || p.address)
+  skips = λ c k start a few.
+      before.skips c k start a few ∙ one.plain.skips c k start (a || p.address) few
       ∙ ap (λ (d : Bool). ops_into c k (gathered [] d) (input_of (start + q.end) (drop q.end bytes))) (sym (or_assoc a p.address q.address) ∙ ap (λ (d : Bool). a || d) (sym both))
       ∙ ap (λ (n : ℕ). ops_into c k (gathered [] (a || r.address)) (input_of (start + n) (drop n bytes))) (sym end);
 }
 
 -- ---- the whole expression
 
-module _ (bytes : List ℕ) (p : Plain) (plain : ArePlain bytes 0 p) (start : ℕ) where
+module _ (bytes : List ℕ) (p : Plain) (plain : ArePlain 1 bytes 0 p) (start : ℕ) where
   first : input_of (start + 0) (drop 0 bytes) ≡ input_of start bytes
   first = let none : start + 0 ≡ start = omega arith in λ n. input_of (none n) bytes
 
   skipped : (c : ExprContext) → ops_into c 8 (gathered [] false) (input_of start bytes) ≡ ops_into c 8 (gathered [] p.address) (input_of (start + p.end) (drop p.end bytes))
-  skipped c = ap (ops_into c 8 (gathered [] false)) (sym first) ∙ plain.skips c 8 start false
+  skipped c = ap (ops_into c 8 (gathered [] false)) (sym first) ∙ plain.skips c 8 start false (omega arith)
 
   pub plain_whole : (section : ℕ) (pre : List Operand) → p.end ≡ length bytes → ReadsInto section (input_of start bytes) (added pre pre) (Ok p.address)
   plain_whole section pre all =

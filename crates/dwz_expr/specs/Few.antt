@@ -1,4 +1,4 @@
--- Numbers that have few bytes, and operators that name no entry and have no expression in them.
+-- Numbers that have few bytes, and operators that name no entry.
 use Rattle.std.specs.Prelude.{◌≡◌, ℕ, ◌+◌, ◌<◌, ◌≤◌, Bool, List, [], ◌++◌, ◌||◌, length, drop, Ok}
 use Rattle.dwz_bytes.specs.Spelling.{IsGroups}
 use Rattle.dwz_def_reading.specs.Exprs.{ExprContext}
@@ -15,17 +15,18 @@ pub record AreFew (most : ℕ) (bytes : List ℕ) (at end : ℕ) : Type 0 where
   pub place : end ≡ at + length front
   pub within : end ≤ length bytes
 
--- Operators stand between two places: none of them names an entry, and this says whether there is an address among them.
-pub record ArePlain (bytes : List ℕ) (at : ℕ) (p : Plain) : Type 0 where
+-- Operators stand between two places, where so many expressions are one inside another at most: none of them names an entry, and this says
+-- whether there is an address among them.
+pub record ArePlain (inside : ℕ) (bytes : List ℕ) (at : ℕ) (p : Plain) : Type 0 where
   pub within : p.end ≤ length bytes
-  pub skips : (c : ExprContext) (k start : ℕ) (a : Bool)
+  pub skips : (c : ExprContext) (k start : ℕ) (a : Bool) → inside ≤ k
       → ops_into c k (gathered [] a) (record { at = start + at; rest = drop at bytes })
       ≡ ops_into c k (gathered [] (a || p.address)) (record { at = start + p.end; rest = drop p.end bytes })
 
 -- and there is one at least
-pub record IsPlain (bytes : List ℕ) (at : ℕ) (p : Plain) : Type 0 where
+pub record IsPlain (inside : ℕ) (bytes : List ℕ) (at : ℕ) (p : Plain) : Type 0 where
   pub rises : at < p.end
-  pub plain : ArePlain bytes at p
+  pub plain : ArePlain inside bytes at p
 
 -- an expression of these bytes is read wherever it stands, and none of its operands names an entry
 abbrev pub NamesNone : List ℕ → Type 0

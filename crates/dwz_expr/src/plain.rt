@@ -1,8 +1,10 @@
-//! Operators at the front of an expression that name no entry and have no expression in them: of most expressions they are all.
+//! Operators at the front of an expression that name no entry: of most expressions they are all. Expressions may be in them that have none
+//! in them in turn.
 
-ghost use Rattle.std.specs.Prelude.{◌≡◌, ◌+◌, ◌<◌, ◌≤◌, ◌||◌, true, false, IfSome, length, slice_index_or};
+ghost use Rattle.std.specs.Prelude.{◌≡◌, ◌+◌, ◌<◌, ◌≤◌, ◌||◌, true, false, IfSome, length, slice_index_or, slice_range};
 ghost use Rattle.dwz_codes.specs.Operators.{operator_rows};
 ghost use Rattle.dwz_codes.specs.Rows.{shape_of};
+ghost use Rattle.dwz_codes.specs.declared.shape.Shape.TheVariants.{NestedExpr};
 ghost use Rattle.dwz_expr.specs.Few.{AreFew, ArePlain, IsPlain, NamesNone};
 
 use crate::few::few_end;
@@ -48,27 +50,49 @@ fn address_at(bytes: &[u8], at: usize) -> Option<Plain>
     })
 }
 
-// The operator with a field that is at a place, if it is a plain one.
+// So many bytes at a place, if they are whole.
+#[inline(always)]
+fn run_at(bytes: &[u8], at: usize, count: usize) -> Option<Plain>
+    requires { at ≤ length bytes.now }
+    ensures end { IfSome result (λ p. p.end ≡ at + count) }
+    ensures within { IfSome result (λ p. p.end ≤ length bytes.now) }
+    ensures address { IfSome result (λ p. p.address ≡ false) }
+{
+    if bytes.len() - at < count {
+        return None;
+    }
+    Some(Plain {
+        end: at + count,
+        address: false,
+    })
+}
+
+// The operator with a field that is at a place, if it is a plain one without an expression in it.
 #[inline(always)]
 fn field_at(shape: Shape, bytes: &[u8], at: usize) -> Option<Plain>
     requires there { at < length bytes.now }
     requires shape { shape ≡ shape_of operator_rows (slice_index_or bytes.now at 0) }
-    ensures { IfSome result (λ p. IsPlain bytes.now at p) }
+    ensures { IfSome result (λ p. IsPlain 0 bytes.now at p) }
 {
     match shape {
         Shape::Sleb => number_at(bytes, at + 1),
+        Shape::Uleb => number_at(bytes, at + 1),
         Shape::Address => address_at(bytes, at + 1),
+        Shape::Fixed1 => run_at(bytes, at + 1, 1),
+        Shape::Fixed2 => run_at(bytes, at + 1, 2),
+        Shape::Fixed4 => run_at(bytes, at + 1, 4),
+        Shape::Fixed8 => run_at(bytes, at + 1, 8),
         _ => None,
     }
 }
 
-// The operator at a place, if it is a plain one.
+// The operator of that shape at a place, if it is a plain one without an expression in it.
 #[inline(always)]
-fn operator_at(bytes: &[u8], at: usize) -> Option<Plain>
-    requires { at < length bytes.now }
-    ensures { IfSome result (λ p. IsPlain bytes.now at p) }
+fn shaped_at(shape: Shape, bytes: &[u8], at: usize) -> Option<Plain>
+    requires there { at < length bytes.now }
+    requires shape { shape ≡ shape_of operator_rows (slice_index_or bytes.now at 0) }
+    ensures { IfSome result (λ p. IsPlain 0 bytes.now at p) }
 {
-    let shape = operator_shape(bytes[at]);
     match shape {
         Shape::Nothing => Some(Plain {
             end: at + 1,
@@ -90,10 +114,80 @@ fn with_before(address: bool, one: Plain) -> Plain
     }
 }
 
+// The plain operators at the front of an expression that have no expression in them.
+fn flat_front(bytes: &[u8]) -> Plain
+    ensures { ArePlain 0 bytes.now 0 result }
+{
+    let mut found = Plain {
+        end: 0,
+        address: false,
+    };
+    while found.end < bytes.len() {
+        let shape = operator_shape(bytes[found.end]);
+        match shaped_at(shape, bytes, found.end) {
+            None => return found,
+            Some(one) => found = with_before(found.address, one),
+        }
+    }
+    found
+}
+
+// So many bytes at a place, if they are an expression of plain operators without one in them.
+#[inline(always)]
+fn inside_at(bytes: &[u8], at: usize, count: usize) -> Option<Plain>
+    requires { at ≤ length bytes.now }
+    ensures end { IfSome result (λ p. p.end ≡ at + count) }
+    ensures within { IfSome result (λ p. p.end ≤ length bytes.now) }
+    ensures plain { IfSome result (λ p. ArePlain 0 (slice_range bytes.now at (at + count)) 0 (record { end = count; address = p.address })) }
+{
+    if bytes.len() - at < count {
+        return None;
+    }
+    let found = flat_front(&bytes[at..at + count]);
+    if found.end != count {
+        return None;
+    }
+    Some(Plain {
+        end: at + count,
+        address: found.address,
+    })
+}
+
+// The operator at a place that has an expression in it, if it is a plain one. It is behind its length, of one byte.
+#[inline(always)]
+fn nested_at(bytes: &[u8], at: usize) -> Option<Plain>
+    requires there { at < length bytes.now }
+    requires shape { NestedExpr ≡ shape_of operator_rows (slice_index_or bytes.now at 0) }
+    ensures { IfSome result (λ p. IsPlain 1 bytes.now at p) }
+{
+    let from = at + 1;
+    if from == bytes.len() {
+        return None;
+    }
+    let count = bytes[from];
+    if count >= 128 {
+        return None;
+    }
+    inside_at(bytes, from + 1, count as usize)
+}
+
+// The operator at a place, if it is a plain one.
+#[inline(always)]
+fn operator_at(bytes: &[u8], at: usize) -> Option<Plain>
+    requires { at < length bytes.now }
+    ensures { IfSome result (λ p. IsPlain 1 bytes.now at p) }
+{
+    let shape = operator_shape(bytes[at]);
+    match shape {
+        Shape::NestedExpr => nested_at(bytes, at),
+        _ => shaped_at(shape, bytes, at),
+    }
+}
+
 /// The plain operators at the front of an expression, up to the first other one.
 #[inline(always)]
 pub(crate) fn plain_front(bytes: &[u8]) -> Plain
-    ensures { ArePlain bytes.now 0 result }
+    ensures { ArePlain 1 bytes.now 0 result }
 {
     let mut found = Plain {
         end: 0,

@@ -45,7 +45,7 @@ fn read_rest(
     section: u8,
 ) -> Result<bool, ReadErr>
     requires short { at + length bytes.now < 2 ^ 64 }
-    requires front { ArePlain bytes.now 0 plain }
+    requires front { ArePlain 1 bytes.now 0 plain }
     ensures found { ReadsInto section (record { at = at; rest = bytes.now }) (added operands.old.items operands.new.items) result }
     ensures grows { Grows operands.old.items operands.new.items }
 {

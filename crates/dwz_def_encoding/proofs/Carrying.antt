@@ -50,8 +50,28 @@ constant_fits p bytes is e = go (eqb p.form 0x21) (eq-eqb p.form 0x21 e) is.cons
   go true r c = c.in_range
   go false r c = absurd cc
 
+-- the class of a value that names an entry
+abbrev pub IsEntryClass : Class → Type 0
+IsEntryClass OfUnitEntry = Unit {0}
+IsEntryClass OfInfoEntry = Unit {0}
+IsEntryClass OfCommonEntry = Unit {0}
+IsEntryClass _ = ⊥
+
+-- that of a value whose form stays, whatever unit holds it; and whether the name is that of a file's number
+abbrev pub KeepsForm : Class → Bool → Type 0
+KeepsForm OfConstant names = names ≡ false
+KeepsForm OfUnitEntry names = ⊥
+KeepsForm OfInfoEntry names = ⊥
+KeepsForm OfCommonEntry names = ⊥
+KeepsForm OfTextInStr names = ⊥
+KeepsForm OfTextInLineStr names = ⊥
+KeepsForm OfTextBySlot names = ⊥
+KeepsForm OfCommonText names = ⊥
+KeepsForm _ names = Unit {0}
+
 -- a reference, whose form is still to be chosen
 pub record Reference {K : Type 0} (a : Attr K) : Type 0 where
+  pub class : IsEntryClass (class_of a.form)
   pub some_name : 0 < a.name
   pub name_fits : a.name ≤ 0xffff
   pub no_sibling : a.name ≢ 0x01
@@ -115,6 +135,7 @@ pub record Listed {K : Type 0} (a : Attr K) : Type 0 where
 
 -- any other attribute, whose form stays
 pub record Other {K : Type 0} (a : Attr K) : Type 0 where
+  pub keeps : KeepsForm (class_of a.form) (names_file a.name)
   pub stays : (f : UnitForms K) → fit_attr f a ≡ a
   pub sound : SoundAttr a
   pub says : (t : Tells K) (own : Own K) → AttrSays t own a
@@ -188,15 +209,17 @@ module _ {K : Type 0} (from : From) (origin : Bases) (a : Attr K) (came : CameFr
   other_sound value = record { some_name = some_name; name_fits = name_fits; no_sibling = no_sibling; known = λ u. subst IsBuiltAs u came.built; constant = fits_constant; value = value }
 
   -- one whose form stays
-  other : (c : Class) → class_of a.form ≡ c → ((f : UnitForms K) → fit_as c f a ≡ as_read a) → (HasBytes a old.raw → StoresAs c a) → (WasRead a → (t : Tells K) (own : Own K) → SaysAs c t own a) → Other a
-  other c e form stores says = record {
+  other : (c : Class) → class_of a.form ≡ c → KeepsForm c (names_file a.name) → ((f : UnitForms K) → fit_as c f a ≡ as_read a) → (HasBytes a old.raw → StoresAs c a) → (WasRead a → (t : Tells K) (own : Own K) → SaysAs c t own a) → Other a
+  other c e keeps form stores says = record {
+    keeps = subst (λ (d : Class). KeepsForm d (names_file a.name)) (sym e) keeps;
     stays = λ f. ap (λ (d : Class). with_form a (fit_as d f a)) e ∙ ap (λ (x : Chosen). with_form a x) (form f);
     sound = other_sound (subst (λ (d : Class). StoresAs d a) (sym e) (stores has_bytes));
     says = λ t own. subst (λ (d : Class). SaysAs d t own a) (sym e) (says came.was_read t own);
   }
 
-  reference : (c : Class) → class_of a.form ≡ c → ((f : UnitForms K) → fit_as c f a ≡ as_reference f a) → (k : K) → a.value ≡ ref k → Reference a
-  reference c e form k value = record {
+  reference : (c : Class) → class_of a.form ≡ c → IsEntryClass c → ((f : UnitForms K) → fit_as c f a ≡ as_reference f a) → (k : K) → a.value ≡ ref k → Reference a
+  reference c e class form k value = record {
+    class = subst IsEntryClass (sym e) class;
     some_name = some_name;
     name_fits = name_fits;
     no_sibling = no_sibling;
@@ -248,7 +271,7 @@ module _ {K : Type 0} (from : From) (origin : Bases) (a : Attr K) (came : CameFr
     chosen = λ f. ap (λ (d : Class). with_form a (fit_as d f a)) e ∙ ap (λ (b : Bool). with_form a (as_constant b f a)) names;
     sound = other_sound (subst (λ (d : Class). StoresAs d a) (sym e) (number OfConstant e refl (λ x. cc) has_bytes));
   }))))
-  constant e false names m = inr (inr (inr (inr (inr (inr (other OfConstant e (λ f. ap (λ (b : Bool). as_constant b f a) names) (number OfConstant e refl (λ x. cc))
+  constant e false names m = inr (inr (inr (inr (inr (inr (other OfConstant e names (λ f. ap (λ (b : Bool). as_constant b f a) names) (number OfConstant e refl (λ x. cc))
       (λ r t own. so_not (names_file a.name) _ _ names r)))))))
 
   plain_is_expr : (m : IsExpression w.scope old w.read.value) → a.value.plain ≡ Expr (parts_of m.expression)
@@ -267,11 +290,11 @@ module _ {K : Type 0} (from : From) (origin : Bases) (a : Attr K) (came : CameFr
       omega (arith, block, as_long, same)
 
   by_class : (c : Class) → class_of a.form ≡ c → IsBuiltAs c → MeansAs c w.scope old w.read.value → Kinds
-  by_class OfAddress e built m = inr (inr (inr (inr (inr (inr (other OfAddress e (λ f. refl) (number OfAddress e refl (λ x. cc)) (λ r t own. r)))))))
-  by_class OfBlock e built m = inr (inr (inr (inr (inr (inr (other OfBlock e (λ f. refl) (content OfBlock _ e refl (sym (ap block_in (plain_of _ m)))) (λ r t own. r)))))))
+  by_class OfAddress e built m = inr (inr (inr (inr (inr (inr (other OfAddress e tt (λ f. refl) (number OfAddress e refl (λ x. cc)) (λ r t own. r)))))))
+  by_class OfBlock e built m = inr (inr (inr (inr (inr (inr (other OfBlock e tt (λ f. refl) (content OfBlock _ e refl (sym (ap block_in (plain_of _ m)))) (λ r t own. r)))))))
   by_class OfConstant e built m = constant e (names_file a.name) refl m
-  by_class OfFlag e built m = inr (inr (inr (inr (inr (inr (other OfFlag e (λ f. refl) (number OfFlag e refl (λ x. cc)) (λ r t own. r)))))))
-  by_class OfText e built m = inr (inr (inr (inr (inr (inr (other OfText e (λ f. refl) (content OfText _ e refl (sym (ap text_or_empty (plain_of _ m)))) (λ r t own. r)))))))
+  by_class OfFlag e built m = inr (inr (inr (inr (inr (inr (other OfFlag e tt (λ f. refl) (number OfFlag e refl (λ x. cc)) (λ r t own. r)))))))
+  by_class OfText e built m = inr (inr (inr (inr (inr (inr (other OfText e tt (λ f. refl) (content OfText _ e refl (sym (ap text_or_empty (plain_of _ m)))) (λ r t own. r)))))))
   by_class OfTextInStr e built m = inr (inl (record {
     scope = w.scope;
     old = w.old;
@@ -304,10 +327,10 @@ module _ {K : Type 0} (from : From) (origin : Bases) (a : Attr K) (came : CameFr
     sound = other_sound (subst (λ (d : Class). StoresAs d a) (sym e) (number OfTextBySlot e refl (λ x. cc) has_bytes));
     class = e;
   })))
-  by_class OfUnitEntry e built m = inl (reference OfUnitEntry e (λ f. refl) _ (same_value ∙ ap (λ (v : Value ℕ). value_map w.name v) m.1))
-  by_class OfInfoEntry e built m = inl (reference OfInfoEntry e (λ f. refl) _ (same_value ∙ ap (λ (v : Value ℕ). value_map w.name v) m.1))
-  by_class OfCommonEntry e built m = inl (reference OfCommonEntry e (λ f. refl) _ (same_value ∙ ap (λ (v : Value ℕ). value_map w.name v) m.2.1))
-  by_class OfSignature e built m = inr (inr (inr (inr (inr (inr (other OfSignature e (λ f. refl) (number OfSignature e refl (λ x. cc)) (λ r t own. r)))))))
+  by_class OfUnitEntry e built m = inl (reference OfUnitEntry e tt (λ f. refl) _ (same_value ∙ ap (λ (v : Value ℕ). value_map w.name v) m.1))
+  by_class OfInfoEntry e built m = inl (reference OfInfoEntry e tt (λ f. refl) _ (same_value ∙ ap (λ (v : Value ℕ). value_map w.name v) m.1))
+  by_class OfCommonEntry e built m = inl (reference OfCommonEntry e tt (λ f. refl) _ (same_value ∙ ap (λ (v : Value ℕ). value_map w.name v) m.2.1))
+  by_class OfSignature e built m = inr (inr (inr (inr (inr (inr (other OfSignature e tt (λ f. refl) (number OfSignature e refl (λ x. cc)) (λ r t own. r)))))))
   by_class OfOffset e built m = by (names_list a.name) refl where
     by : (b : Bool) → names_list a.name ≡ b → Kinds
     by true names = inr (inr (inr (inr (inr (inl (record {
@@ -317,7 +340,7 @@ module _ {K : Type 0} (from : From) (origin : Bases) (a : Attr K) (came : CameFr
     }))))))
     by false names =
         (let m' = if_false (names_list old.pair.name) _ _ (ap names_list same_name ∙ names) m in
-        inr (inr (inr (inr (inr (inr (other OfOffset e (λ f. refl) (number OfOffset e refl (λ x. cc))
+        inr (inr (inr (inr (inr (inr (other OfOffset e tt (λ f. refl) (number OfOffset e refl (λ x. cc))
         (λ r t own. so_not (names_list a.name) _ _ names (same_value ∙ ap (λ (v : Value ℕ). value_map w.name v) m' ∙ ap (λ (z : ℤ). only (Sec (reach z))) same_raw)))))))))
   by_class OfExpression e built m = inr (inr (inr (inr (inl (record {
     context = expr_context w.scope 1;
@@ -335,7 +358,7 @@ module _ {K : Type 0} (from : From) (origin : Bases) (a : Attr K) (came : CameFr
     stays = λ f. ap (λ (d : Class). with_form a (fit_as d f a)) e;
     sound = other_sound (subst (λ (d : Class). StoresAs d a) (sym e) (number OfListIndex e refl (λ x. cc) has_bytes));
   }))))))
-  by_class OfIndex e built m = inr (inr (inr (inr (inr (inr (other OfIndex e (λ f. refl) (number OfIndex e refl (λ x. cc)) (λ r t own. r)))))))
+  by_class OfIndex e built m = inr (inr (inr (inr (inr (inr (other OfIndex e tt (λ f. refl) (number OfIndex e refl (λ x. cc)) (λ r t own. r)))))))
   by_class OfCommonText e built m = absurd built
   by_class Unread e built m = absurd built
 
@@ -348,6 +371,7 @@ import_class = refl
 
 imports_is : {K : Type 0} (a : Attr K) → Imports a → Reference a
 imports_is a is = record {
+  class = subst IsEntryClass (sym (ap class_of is.form ∙ import_class)) tt;
   some_name = omega (arith, is.name);
   name_fits = omega (arith, is.name);
   no_sibling = λ e. omega (arith, is.name, e);
@@ -377,6 +401,7 @@ lines_is a is =
           (offset_spelled (constant_of (pair_of a)) is.place is.fits));
     } in
     record {
+      keeps = subst (λ (d : Class). KeepsForm d (names_file a.name)) (sym class) tt;
       stays = λ f. ap (λ (d : Class). with_form a (fit_as d f a)) class;
       sound = record {
         some_name = omega (arith, is.name);

@@ -26,7 +26,7 @@ use Rattle.dwz_def_reading.specs.ElfLayout.{too_large}
 use Rattle.dwz_def_encoding.specs.Writing.{or_zero, text_or_empty}
 use Rattle.dwz_def_encoding.proofs.PoolLemmas.{path_numbered, pool_stands, text_has}
 use Rattle.std.proofs.lemmas.List.{length-append}
-use Rattle.dwz_def_encoding.proofs.ChosenValues.{chosen, common_text_class, pool_table, str_class, strp_bytes, sup_bytes, udata_bytes, udata_class}
+use Rattle.dwz_def_encoding.proofs.ChosenValues.{common_text_class, pool_table, str_class, strp_bytes, sup_bytes, udata_bytes, udata_class}
 
 -- the sections of the file are those that were read
 abbrev pub SourcesAt : {K : Type 0} → From → List ℕ → Tells K → Type 0
@@ -131,7 +131,7 @@ module _ {K : Type 0} (t : Tells K) (own : Own K) (a : Attr K) (text : List ℕ)
 
 module _ {K : Type 0} (from : From) (t : Tells K) (small : length t.strs < 2 ^ 32) (own : Own K) (a : Attr K) (p : Placed from a) where
   -- in `.debug_line_str` it is as it was
-  kept_good : (offsets : List ℕ) → SourcesAt from offsets t → class_of a.form ≡ OfTextInLineStr → IsTextAt p.scope.around.sources.line_strs (reach a.raw) p.text → Good t own a
+  pub kept_good : (offsets : List ℕ) → SourcesAt from offsets t → class_of a.form ≡ OfTextInLineStr → IsTextAt p.scope.around.sources.line_strs (reach a.raw) p.text → Good t own a
   kept_good offsets same c stands =
       let e = same p.scope p.old p.file in
       record {
@@ -187,7 +187,7 @@ module _ {K : Type 0} (from : From) (origin : Bases) (t : Tells K) (small : leng
   stands_there : (offsets : List ℕ) → SourcesAt from offsets t → IsTextAt t.strs p.offset p.text
   stands_there offsets same = subst (λ (w : List ℕ). IsTextAt w p.offset p.text) (sym (same p.scope p.old p.file).strs) p.stands
 
-  kept_slot : (offsets : List ℕ) → SourcesAt from offsets t → own.bases ≡ origin → Good t own a
+  pub kept_slot : (offsets : List ℕ) → SourcesAt from offsets t → own.bases ≡ origin → Good t own a
   kept_slot offsets same itself = record {
     sound = p.sound;
     says = subst (λ (d : Class). SaysAs d t own a) (sym p.class) (record {
@@ -234,7 +234,7 @@ module _ {K : Type 0} (from : From) (origin : Bases) (t : Tells K) (own : Own K)
         value = says.value;
       }
 
-  file_told : (offsets : List ℕ) → SourcesAt from offsets t → own.bases.line ≡ origin.line → Good t own a
+  pub file_told : (offsets : List ℕ) → SourcesAt from offsets t → own.bases.line ≡ origin.line → Good t own a
   file_told offsets same line = record {
     sound = p.sound;
     says = subst (λ (d : Class). SaysAs d t own a) (sym p.numbers.0) (so_yes (names_file a.name) _ _ p.numbers.1
@@ -246,10 +246,10 @@ module _ {K : Type 0} (from : From) (origin : Bases) (t : Tells K) (own : Own K)
 
   -- ---- in the common file
 
-  abbrev numbered : ℕ → Attr K
+  abbrev pub numbered : ℕ → Attr K
   numbered n = with_form a (record { form = 0x0f; raw = pos n })
 
-  numbered_good : (n : ℕ) → n < 2 ^ 64 → FileSays (told_texts t) t.line own.bases.line (numbered n) → Good t own (numbered n)
+  pub numbered_good : (n : ℕ) → n < 2 ^ 64 → FileSays (told_texts t) t.line own.bases.line (numbered n) → Good t own (numbered n)
   numbered_good n few says = record {
     sound = record {
       some_name = p.sound.some_name;

@@ -81,7 +81,7 @@ module _ {K P : Type 0} (n : Numbering K) (g : K → P) (unit : ℕ) (t : Tells 
   number = is.lists.number
 
   abbrev key : Operand → K
-  key o = t.name (led_to l.unit o)
+  key o = t.name l.unit (led_to l.unit o)
 
   -- the number leads to what is named
   record Leads (o : Operand) : Type 0 where
@@ -92,7 +92,7 @@ module _ {K P : Type 0} (n : Numbering K) (g : K → P) (unit : ℕ) (t : Tells 
 
   number_is : (o : Operand) → In o (own_operands l) → number o.at ≡ n.place (key o) - base_place unit o.base
   number_is o there =
-      let of = ap t.name (names_unit says.scope says.old l says.names) ∙ says.unit in
+      let of = ap (λ (u : ℕ). t.name u u) (names_unit says.scope says.old l says.names) ∙ says.unit in
       is.lists.are l says.there o there ∙ ap (λ (u : ℕ). n.place (key o) - base_place u o.base) (ap n.place of ∙ is.own_at)
 
   lead_by : (base : Base) (k : K) (number : ℕ) → number ≡ n.place k - base_place unit base → 0 < n.place k - base_place unit base → leads_to s base number ≡ n.place k
@@ -163,5 +163,5 @@ module _ {K P : Type 0} (n : Numbering K) (g : K → P) (unit : ℕ) (t : Tells 
   pub list_again : ListFits n unit a.value.plain a.value.refs → (b : RawAttr) → b.pair.form ≡ a.form → b.pair.name ≡ a.name → number_of b.raw ≡ a.raw → NamesList s b again
   list_again fits b form name raw = (both fits b form name raw).0
 
-  pub unit_again : n.place (t.name l.unit) ≡ s.unit
-  unit_again = ap n.place (ap t.name (names_unit says.scope says.old l says.names) ∙ says.unit) ∙ is.own_at ∙ sym is.unit
+  pub unit_again : n.place (t.name l.unit l.unit) ≡ s.unit
+  unit_again = ap n.place (ap (λ (u : ℕ). t.name u u) (names_unit says.scope says.old l says.names) ∙ says.unit) ∙ is.own_at ∙ sym is.unit

@@ -75,7 +75,7 @@ module _ {K P : Type 0} (n : Numbering K) (g : K → P) (t : Tells K) (number : 
   pub record IsAgain (l : NamedList) : Type 0 where
     pub list : NamedList
     pub there : In list t.named
-    pub is_it : named_with (λ u. n.place (t.name u)) number list ≡ l
+    pub is_it : named_with (λ u. n.place (t.name u u)) number list ≡ l
 
 module _ {K P : Type 0} (n : Numbering K) (g : K → P) (unit : ℕ) (t : Tells K) (own : Own K) (s : MeaningContext P) (is : IsScope n g unit t own s) where
   abbrev Again : NamedList → Type 0
@@ -84,8 +84,8 @@ module _ {K P : Type 0} (n : Numbering K) (g : K → P) (unit : ℕ) (t : Tells 
   says_again : (a : Attr K) → FitsAs OfListIndex n unit a → (says : ListSays t own a) → (b : RawAttr) → b.pair ≡ pair_of a → number_of b.raw ≡ a.raw → (l : NamedList) → NamesList s b l → Again l
   says_again a fits says b pair raw l names =
       let named = list_again n g unit t own s is a says fits b (ap (λ p. p.form) pair) (ap (λ p. p.name) pair) raw in
-      let units : n.place (t.name says.list.unit) ≡ s.unit = unit_again n g unit t own s is a says in
-      let same : named_with (λ u. n.place (t.name u)) is.lists.number says.list ≡ named_with (λ u. s.unit) is.lists.number says.list =
+      let units : n.place (t.name says.list.unit says.list.unit) ≡ s.unit = unit_again n g unit t own s is a says in
+      let same : named_with (λ u. n.place (t.name u u)) is.lists.number says.list ≡ named_with (λ u. s.unit) is.lists.number says.list =
       ap (λ (u : ℕ). record { unit = u; from = says.list.from; slot = says.list.slot; list = (named_with (λ u. s.unit) is.lists.number says.list).list }) units in
       record { list = says.list; there = says.there; is_it = same ∙ one_named s b _ l named names }
 
@@ -157,7 +157,7 @@ pub units_share_none : {K P : Type 0} (n : Numbering K) (g : K → P) (tables : 
     → (units : List (DwUnit K)) → ((k : K) → In k (units_keys units) → In k keys) → Each SoundUnit units → Each (UnitFits n) units → UnitsSay t units
     → NoneShared (lists_of_units around (raw_units n tables units))
 units_share_none {K} n g tables t keys around is within units inside sound fits says =
-    let unit : ℕ → ℕ = λ u. n.place (t.name u) in
+    let unit : ℕ → ℕ = λ u. n.place (t.name u u) in
     let all = map (named_with unit is.lists.number) t.named in
     none_fewer (lists_of_units around (raw_units n tables units)) all
     (λ l there.

@@ -37,10 +37,10 @@ abbrev pub HasPair : Pair → Type 0
 HasPair pair = (bytes : List ℕ) × SpellsPair bytes pair
 
 -- a declaration that can be spelled
-record HasDeclaration (d : Declaration) : Type 0 where
-  some_tag : 0 < d.tag
-  tag_fits : d.tag ≤ 0xffff
-  pairs : Each HasPair d.pairs
+pub record HasDeclaration (d : Declaration) : Type 0 where
+  pub some_tag : 0 < d.tag
+  pub tag_fits : d.tag ≤ 0xffff
+  pub pairs : Each HasPair d.pairs
 
 pub have_pairs : (pairs earlier : List Pair) (bytes : List ℕ) → SpellsItems IsPair EndsPairs earlier pairs bytes → Each HasPair pairs
 have_pairs [] earlier bytes is = tt
@@ -49,7 +49,7 @@ have_pairs (p ∷ pairs) earlier bytes is = ((is.front, is.first), have_pairs pa
 has_declaration : (bytes : List ℕ) (d : Declaration) → SpellsDeclaration bytes d → HasDeclaration d
 has_declaration bytes d is = record { some_tag = is.some_tag; tag_fits = is.tag_fits; pairs = have_pairs d.pairs [] is.pairs_bytes is.pairs }
 
-found_declaration : (table earlier : List Declaration) (bytes : List ℕ) (code : ℕ) (d : Declaration) → SpellsItems IsDeclared EndsTable earlier table bytes → find_decl table code ≡ Some d
+pub found_declaration : (table earlier : List Declaration) (bytes : List ℕ) (code : ℕ) (d : Declaration) → SpellsItems IsDeclared EndsTable earlier table bytes → find_decl table code ≡ Some d
     → HasDeclaration d
 found_declaration [] earlier bytes code d is e = absurd cc
 found_declaration (t ∷ table) earlier bytes code d is e = go (found_declaration table (earlier ++ t ∷ []) is.back code d is.second) (eqb t.code code) e where
@@ -125,11 +125,11 @@ first_stays name (a ∷ attrs) other = by (first_stays name attrs other) (eqb a.
       rest ∙ ap (λ (b : Bool). cond b (Some a) (first_raw name attrs)) (sym not)
   by rest false e = ap (λ (o : Option RawAttr). cond (eqb a.pair.name name) (Some a) o) rest
 
-offset_read : (s : MeaningContext ℕ) (a : RawAttr) (b : Attr ℕ) → MeansAttr s a b → base_in (Some a) ≡ offset_in (Some b)
+offset_read : {P : Type 0} (s : MeaningContext P) (a : RawAttr) (b : Attr P) → MeansAttr s a b → base_in (Some a) ≡ offset_in (Some b)
 offset_read s a b means =
     ap (λ (n : ℕ). cond (eqb n 0x17) (Some (reach (number_of a.raw))) None) (sym means.form) ∙ ap (λ (z : ℤ). cond (eqb b.form 0x17) (Some (reach z)) None) (sym means.raw)
 
-base_read : (s : MeaningContext ℕ) (name : ℕ) (raw : List RawAttr) (attrs : List (Attr ℕ)) → MeanAttrs s raw attrs → base_in (first_raw name raw) ≡ offset_in (first_named name attrs)
+base_read : {P : Type 0} (s : MeaningContext P) (name : ℕ) (raw : List RawAttr) (attrs : List (Attr P)) → MeanAttrs s raw attrs → base_in (first_raw name raw) ≡ offset_in (first_named name attrs)
 unfolding first_raw first_named
 base_read s name [] [] means = refl
 base_read s name [] (b ∷ attrs) means = absurd means
@@ -146,7 +146,7 @@ same_bases a b c d e f p q r =
     ap (λ (o : Option ℕ). record { slots = o; line = c; lists = e }) p ∙ ap (λ (o : Option ℕ). record { slots = b; line = o; lists = e }) q
     ∙ ap (λ (o : Option ℕ). record { slots = b; line = d; lists = o }) r
 
-pub bases_read : (s : MeaningContext ℕ) (attrs : List (Attr ℕ)) → MeanAttrs s (without_siblings s.root.attrs) attrs
+pub bases_read : {P : Type 0} (s : MeaningContext P) (attrs : List (Attr P)) → MeanAttrs s (without_siblings s.root.attrs) attrs
     → (let y : Bases = record { slots = offset_in (first_named 0x72 attrs); line = offset_in (first_named 0x10 attrs); lists = offset_in (first_named 0x8c attrs) } in bases_of s ≡ y)
 bases_read s attrs means = same_bases _ _ _ _ _ _
     (ap base_in (sym (first_stays 0x72 s.root.attrs refl)) ∙ base_read s 0x72 (without_siblings s.root.attrs) attrs means)
@@ -205,7 +205,7 @@ take_bytes (suc n) [] are = tt
 take_bytes (suc n) (b ∷ bytes) are = (are.0, take_bytes n bytes are.1)
 
 -- a signature has eight bytes
-signature_fits : (signature offset : ℕ) (t p : Bool) (bytes : List ℕ) → AreBytes bytes → length bytes ≡ 24 → TypeUnit signature offset ≡ kind_by t p bytes → signature < 2 ^ 64
+pub signature_fits : (signature offset : ℕ) (t p : Bool) (bytes : List ℕ) → AreBytes bytes → length bytes ≡ 24 → TypeUnit signature offset ≡ kind_by t p bytes → signature < 2 ^ 64
 signature_fits signature offset false true bytes are len e = absurd cc
 signature_fits signature offset false false bytes are len e = absurd cc
 signature_fits signature offset true p bytes are len e =
@@ -227,11 +227,11 @@ keys_read {P} s (Entry e f f') (Entry d h k) means =
     ∙ ap (λ (w : List P). place e.at ∷ (map place (places_in f) ++ w)) (keys_read s f' k means.2)
     ∙ ap (λ (w : List P). place e.at ∷ w) (sym (map-append place (places_in f) (places_in f')))
 
-kind_sound : (s : MeaningContext ℕ) (k : RawKind) (m : Kind ℕ) (tag : ℕ) → MeansKind s k m → tag ≡ root_tag k → ((signature offset : ℕ) → k ≡ TypeUnit signature offset → signature < 2 ^ 64)
+pub kind_sound : {P : Type 0} (s : MeaningContext P) (k : RawKind) (m : Kind P) (tag : ℕ) → MeansKind s k m → tag ≡ root_tag k → ((signature offset : ℕ) → k ≡ TypeUnit signature offset → signature < 2 ^ 64)
     → SoundKind m tag
-kind_sound s CompileUnit m tag means e fits = subst (λ (x : Kind ℕ). SoundKind x tag) (sym means) e
-kind_sound s PartialUnit m tag means e fits = subst (λ (x : Kind ℕ). SoundKind x tag) (sym means) e
-kind_sound s (TypeUnit signature offset) m tag means e fits = subst (λ (x : Kind ℕ). SoundKind x tag) (sym means.1) (e, fits signature offset refl)
+kind_sound {P} s CompileUnit m tag means e fits = subst (λ (x : Kind P). SoundKind x tag) (sym means) e
+kind_sound {P} s PartialUnit m tag means e fits = subst (λ (x : Kind P). SoundKind x tag) (sym means) e
+kind_sound {P} s (TypeUnit signature offset) m tag means e fits = subst (λ (x : Kind P). SoundKind x tag) (sym means.1) (e, fits signature offset refl)
 
 pub kind_says : {P : Type 0} (s : MeaningContext P) (k : RawKind) (m : Kind P) → MeansKind s k m → KindSays (map s.around.place s.own) m
 kind_says s CompileUnit m means = subst (KindSays (map s.around.place s.own)) (sym means) tt

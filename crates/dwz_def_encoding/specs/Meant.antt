@@ -75,8 +75,8 @@ pub record WasRead {K : Type 0} (a : Attr K) : Type 0 where
   pub same : a ≡ attr_map name read
 
 -- What units are written for: the sections that they speak of, and what of `.debug_str` of the common file they speak of;
--- `.debug_loclists` as it was read, the lists that units named there, and the names after of places before; the keys of all entries of the
--- file, and of those of the common file.
+-- `.debug_loclists` as it was read, the lists that units named there, and by the place of a unit the names after of places before that it
+-- named; the keys of all entries of the file, and of those of the common file.
 pub record Tells (K : Type 0) : Type 0 where
   pub strs : List ℕ
   pub line_strs : List ℕ
@@ -85,7 +85,7 @@ pub record Tells (K : Type 0) : Type 0 where
   pub common_strs : List ℕ
   pub lists : List ℕ
   pub named : List NamedList
-  pub name : ℕ → K
+  pub name : (unit place : ℕ) → K
   pub all : List K
   pub common : List K
 
@@ -167,7 +167,7 @@ pub record ListSays {K : Type 0} (t : Tells K) (own : Own K) (a : Attr K) : Type
   pub scope : MeaningContext ℕ
   pub section : scope.around.sources.lists ≡ t.lists
   pub base : loclists_base scope ≡ own.bases.lists
-  pub unit : t.name scope.unit ≡ own.at
+  pub unit : t.name scope.unit scope.unit ≡ own.at
   pub old : RawAttr
   pub name : old.pair.name ≡ a.name
   pub form : old.pair.form ≡ a.form
@@ -177,7 +177,7 @@ pub record ListSays {K : Type 0} (t : Tells K) (own : Own K) (a : Attr K) : Type
   pub names : NamesList scope old list
   pub plain : a.value.plain ≡ Loc (map parts_of list.list.exprs)
   pub address : a.value.address ≡ any_with_address list.list.exprs
-  pub refs : a.value.refs ≡ map (λ o. t.name (led_to list.unit o)) (own_operands list)
+  pub refs : a.value.refs ≡ map (λ o. t.name list.unit (led_to list.unit o)) (own_operands list)
   pub operands : OperandsIn t own (joined_parts (map parts_of list.list.exprs)) a.value.refs
 
 -- A reference names an entry of its unit, of any unit of the file, or of the common file, as its form says; a text stands where its
@@ -230,7 +230,7 @@ number_after n name unit o = n.place (name (led_to unit o)) - base_place (n.plac
 -- the section has these numbers in place of those that were read (DWARF 5, 7.7.3), and else the bytes that were there
 pub record AreRenumbered {K : Type 0} (n : Numbering K) (t : Tells K) (new : List ℕ) : Type 0 where
   pub number : ℕ → ℕ
-  pub are : (l : NamedList) → In l t.named → (o : Operand) → In o (own_operands l) → number o.at ≡ number_after n t.name l.unit o
+  pub are : (l : NamedList) → In l t.named → (o : Operand) → In o (own_operands l) → number o.at ≡ number_after n (t.name l.unit) l.unit o
   pub patched : IsPatched t.named number t.lists new
 
 -- The file's own places, and those that the common file gives, are where its keys stand; its sections are those that are spoken of, the

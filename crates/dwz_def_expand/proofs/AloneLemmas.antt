@@ -54,7 +54,7 @@ pub row_later : (code form : ℕ) (b : Bool) → (code == form) ≡ b → form �
 row_later code form true e ne = absurd (ne (let h : code ≡ form = eqb-true code form e in sym h))
 row_later code form false e ne = refl
 
-same_shape : (form : ℕ) → form ≢ 0x1c → form ≢ 0x1d → shape_of form_rows form ≡ shape_of written_rows form
+pub same_shape : (form : ℕ) → form ≢ 0x1c → form ≢ 0x1d → shape_of form_rows form ≡ shape_of written_rows form
 same_shape form a b =
     let x : (0x1c == form) ≡ false = row_later 0x1c form (0x1c == form) refl a in
     let y : (0x1d == form) ≡ false = row_later 0x1d form (0x1d == form) refl b in
@@ -110,22 +110,29 @@ module _ {K : Type 0} (n : Numbering K) (m alone : Mode) (forms : m.forms ≡ (a
         units_may whole abbrevs tables units _ _ is.second_bytes is.second h.1,
       )
 
-pub reads_alone : {K : Type 0} (n : Numbering K) (common : List K) (units : List (DwUnit K)) → AreWritable n common units → Each (UnitFits n) units → Each IsByItself units → ReadsAlone n units
-reads_alone {K} n common units w fit alone =
+-- how such units are read
+abbrev pub alone_mode : {K : Type 0} → List (DwUnit K) → Mode
+alone_mode units = record { entries = (mode_for units).entries; depth = (mode_for units).depth; whole = true; partial = false; forms = own_forms }
+
+pub alone_spelled : {K : Type 0} (n : Numbering K) (common : List K) (units : List (DwUnit K)) → AreWritable n common units → Each (UnitFits n) units → Each IsByItself units
+    → SpellsUnits (sections n units).abbrevs (alone_mode units) 0 (raw_units n (tables_of [] units) units) 0 (sections n units).info
+alone_spelled n common units w fit alone =
     let m = mode_for units in
-    let a : Mode = record { entries = m.entries; depth = m.depth; whole = true; partial = false; forms = own_forms } in
-    let tables = tables_of [] units in
+    let raw = raw_units n (tables_of [] units) units in
     let is = spelled n common units m w fit (is_roomy units) in
-    record {
-      mode = a;
-      whole = refl;
-      partial = refl;
-      forms = refl;
-      spells = record {
-        raw = raw_units n tables units;
-        spelled = units_again (sections n units).abbrevs m a (raw_units n tables units) 0 0 (sections n units).info is
-            (units_may n m a refl refl refl refl refl (sections n units).abbrevs tables units 0 0 (sections n units).info is alone);
-        places = all_raw n tables units;
-        means = λ place t around all about says. means n place units t around all about w.sound fit says;
-      };
-    }
+    units_again (sections n units).abbrevs m (alone_mode units) raw 0 0 (sections n units).info is
+    (units_may n m (alone_mode units) refl refl refl refl refl (sections n units).abbrevs (tables_of [] units) units 0 0 (sections n units).info is alone)
+
+pub reads_alone : {K : Type 0} (n : Numbering K) (common : List K) (units : List (DwUnit K)) → AreWritable n common units → Each (UnitFits n) units → Each IsByItself units → ReadsAlone n units
+reads_alone n common units w fit alone = record {
+  mode = alone_mode units;
+  whole = refl;
+  partial = refl;
+  forms = refl;
+  spells = record {
+    raw = raw_units n (tables_of [] units) units;
+    spelled = alone_spelled n common units w fit alone;
+    places = all_raw n (tables_of [] units) units;
+    means = λ place t around all about says. means n place units t around all about w.sound fit says;
+  };
+}

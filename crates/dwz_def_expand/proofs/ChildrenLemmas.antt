@@ -133,7 +133,7 @@ module _ {P : Type 0} (same : P → P → Bool) (test : IsTest same) (units : Li
   by_value : (p : P) (v : Value P) → v ≡ ref p → is_entry same p v.plain v.refs v.address ≡ true
   by_value p v e = subst (λ (x : Value P). is_entry same p x.plain x.refs x.address ≡ true) (sym e) (test.no p)
 
-  import_from : (e : Node P) (v : DwUnit P) → In v (imported_by same units e) → IsImport units e v
+  pub import_from : (e : Node P) (v : DwUnit P) → In v (imported_by same units e) → IsImport units e v
   unfolding imported_by
   import_from e v is =
       let o = in_filter_from (λ (x : DwUnit P). is_partial x.kind && is_import same x.root.at e) v units is in
@@ -162,7 +162,7 @@ module _ {P : Type 0} (same : P → P → Bool) (test : IsTest same) (units : Li
       let any = any_true (is_import_attr same v.root.at) a.source e.attrs a.there attr in
       in_filter (λ (x : DwUnit P). is_partial x.kind && is_import same x.root.at e) v units h.unit (rw (is_part v.kind h.partial, eq-eqb e.tag 0x3d h.tag, any) refl)
 
-  imported_from : (f : Entries P) (v : DwUnit P) → In v (imported_in same units f) → (d : Node P) × IsChild d f × IsImport units d v
+  pub imported_from : (f : Entries P) (v : DwUnit P) → In v (imported_in same units f) → (d : Node P) × IsChild d f × IsImport units d v
   unfolding imported_in
   imported_from End v h = absurd h
   imported_from (Entry d c n) v h = elim (in_cases v (imported_by same units d) (imported_in same units n) h) [
@@ -170,7 +170,7 @@ module _ {P : Type 0} (same : P → P → Bool) (test : IsTest same) (units : Li
     | inr b ↦ (let o = imported_from n v b in (o.0, inr o.1, o.2))
   ]
 
-  in_imported : (f : Entries P) (d : Node P) (v : DwUnit P) → IsChild d f → IsImport units d v → In v (imported_in same units f)
+  pub in_imported : (f : Entries P) (d : Node P) (v : DwUnit P) → IsChild d f → IsImport units d v → In v (imported_in same units f)
   unfolding imported_in
   in_imported End d v h i = absurd h
   in_imported (Entry x c n) d v (inl e) i = in_left v (imported_by same units x) (imported_in same units n) (import_in x v (subst (λ (y : Node P). IsImport units y v) (sym e) i))
@@ -178,7 +178,7 @@ module _ {P : Type 0} (same : P → P → Bool) (test : IsTest same) (units : Li
 
   -- ---- each once
 
-  once_from : (vs : List (DwUnit P)) (v : DwUnit P) → In v (once same vs) → In v vs
+  pub once_from : (vs : List (DwUnit P)) (v : DwUnit P) → In v (once same vs) → In v vs
   unfolding once
   once_from [] v h = h
   once_from (x ∷ vs) v (inl e) = inl e
@@ -189,7 +189,7 @@ module _ {P : Type 0} (same : P → P → Bool) (test : IsTest same) (units : Li
     pub there : In one (once same vs)
     pub at : one.at ≡ v.at
 
-  in_once : (vs : List (DwUnit P)) (v : DwUnit P) → In v vs → OnceIn vs v
+  pub in_once : (vs : List (DwUnit P)) (v : DwUnit P) → In v vs → OnceIn vs v
   unfolding once
   in_once [] v h = absurd h
   in_once (x ∷ vs) v (inl e) = record { one = x; there = inl refl; at = ap (λ (w : DwUnit P). w.at) e }
@@ -221,10 +221,10 @@ module _ {P : Type 0} (same : P → P → Bool) (test : IsTest same) (units : Li
     by (v ∷ parts) is (inl x) more = absurd (let same_parts = sym is ∙ ap (λ (y : Node P). imported_by same units y) x ∙ none in cc)
     by (v ∷ parts) is (inr r) more = more r
 
-  none_imported : (e : Node P) → imported_by same units e ≡ [] → (v : DwUnit P) → ¬ IsImport units e v
+  pub none_imported : (e : Node P) → imported_by same units e ≡ [] → (v : DwUnit P) → ¬ IsImport units e v
   none_imported e none v i = subst (λ (w : List (DwUnit P)). In v w) none (import_in e v i)
 
-  no_parts : (e : Node P) → ((v : DwUnit P) → ¬ IsImport units e v) → imported_by same units e ≡ []
+  pub no_parts : (e : Node P) → ((v : DwUnit P) → ¬ IsImport units e v) → imported_by same units e ≡ []
   no_parts e none = by (imported_by same units e) (λ v is. none v (import_from e v is)) where
     by : (parts : List (DwUnit P)) → ((v : DwUnit P) → In v parts → ⊥) → parts ≡ []
     by [] h = refl

@@ -24,11 +24,11 @@ common_text : class_of 0x1d ≡ OfCommonText
 unfolding class_rows class_in
 common_text = refl
 
-abbrev Nowhere : ℕ → Type 0
+abbrev pub Nowhere : ℕ → Type 0
 Nowhere form = (form ≢ 0x1c) × (form ≢ 0x1d)
 
 -- a form of another class
-kept_form : (k : Class) (form : ℕ) → class_of form ≡ k → (k ≡ OfCommonEntry → ⊥) → (k ≡ OfCommonText → ⊥) → Nowhere form
+pub kept_form : (k : Class) (form : ℕ) → class_of form ≡ k → (k ≡ OfCommonEntry → ⊥) → (k ≡ OfCommonText → ⊥) → Nowhere form
 kept_form k form e a b = (
   (λ (h : form ≡ 0x1c). a (sym e ∙ ap class_of h ∙ common_entry)),
   (λ (h : form ≡ 0x1d). b (sym e ∙ ap class_of h ∙ common_text)),

@@ -28,7 +28,7 @@ use Rattle.dwz_def_encoding.proofs.ReadAgain.{keys_read}
 pub same_both : (p q : Place) → p.file ≡ q.file → p.at ≡ q.at → p ≡ q
 same_both p q a b = ap (λ (n : ℕ). record { file = n; at = p.at }) a ∙ ap (λ (n : ℕ). record { file = q.file; at = n }) b
 
-test : IsTest same_place
+pub test : IsTest same_place
 test = record {
   yes = λ p q h. (let o = and_parts (p.file == q.file) (p.at == q.at) h in same_both p q (eqb-true p.file q.file o.0) (eqb-true p.at q.at o.1));
   no = λ p. rw (eq-eqb p.file p.file refl, eq-eqb p.at p.at refl) refl;
@@ -36,7 +36,7 @@ test = record {
 
 -- ---- the places of what is read
 
-means_keys : {P : Type 0} (around : Around P) (raw : List RawUnit) (units : List (DwUnit P)) → MeanUnits around raw units → units_keys units ≡ map around.place (all_raw_keys raw)
+pub means_keys : {P : Type 0} (around : Around P) (raw : List RawUnit) (units : List (DwUnit P)) → MeanUnits around raw units → units_keys units ≡ map around.place (all_raw_keys raw)
 unfolding unit_keys units_keys all_raw_keys
 means_keys around [] [] h = refl
 means_keys {P} around (u ∷ raw) (v ∷ units) h =
@@ -54,7 +54,7 @@ pub record KeysOf (number : ℕ) (units : List (DwUnit Place)) : Type 0 where
   pub once : NoneTwice (units_keys units)
   pub file : (p : Place) → In p (units_keys units) → p.file ≡ number
 
-read_keys : (rule : ReadingRule Place) (number : ℕ) (l : Limits) (bytes : List ℕ) (raw : List RawUnit) (doc : Doc Place) → (rule.around bytes raw).place ≡ at_file number → ReadsBy rule l bytes raw doc
+pub read_keys : (rule : ReadingRule Place) (number : ℕ) (l : Limits) (bytes : List ℕ) (raw : List RawUnit) (doc : Doc Place) → (rule.around bytes raw).place ≡ at_file number → ReadsBy rule l bytes raw doc
     → KeysOf number doc.units
 read_keys rule number l bytes raw doc place reads =
     let are : units_keys doc.units ≡ map (at_file number) (all_raw_keys raw) =
@@ -66,16 +66,16 @@ read_keys rule number l bytes raw doc place reads =
       file = λ p is. (let o = in_map_from (at_file number) p (all_raw_keys raw) (subst (λ (w : List Place). In p w) are is) in sym (ap (λ (q : Place). q.file) o.is));
     }
 
-own_place : (common : Option FileRead) (file : FileRead) → ((rule_for (record { file = file; common = common }) 0).around file.bytes file.raw).place ≡ at_file 0
+pub own_place : (common : Option FileRead) (file : FileRead) → ((rule_for (record { file = file; common = common }) 0).around file.bytes file.raw).place ≡ at_file 0
 own_place None file = refl
 own_place (Some c) file = refl
 
-common_keys : (common : Option FileRead) → CommonReads common → KeysOf 1 (units_read common)
+pub common_keys : (common : Option FileRead) → CommonReads common → KeysOf 1 (units_read common)
 unfolding units_keys
 common_keys None h = record { once = tt; file = λ p is. absurd is }
 common_keys (Some c) h = read_keys _ 1 _ c.bytes c.raw c.doc refl h
 
-places_apart : (f : OneFile) → ReadsOne f → NoneTwice (units_keys (f.file.doc.units ++ units_read f.common))
+pub places_apart : (f : OneFile) → ReadsOne f → NoneTwice (units_keys (f.file.doc.units ++ units_read f.common))
 places_apart f reads =
     let own = read_keys (rule_for f 0) 0 _ f.file.bytes f.file.raw f.file.doc (own_place f.common f.file) reads.file in
     let other = common_keys f.common reads.common in

@@ -5,6 +5,7 @@ pub mod SourceLemmas
 pub mod WholeLemmas
 pub mod WorkedExpand
 pub mod RefusalLemmas
+pub mod CopiedLemmas
 pub mod FileLemmas
 pub mod WorkedCommon
 pub mod ChildrenLemmas

@@ -19,7 +19,7 @@ use Rattle.dwz_def_expand.specs.Source.{followed_by, imported_in, inside, is_imp
 
 -- ---- units of a list in which no place stands twice
 
-unit_none : {P : Type 0} (units : List (DwUnit P)) → NoneTwice (units_keys units) → (u : DwUnit P) → In u units → NoneTwice (unit_keys u)
+pub unit_none : {P : Type 0} (units : List (DwUnit P)) → NoneTwice (units_keys units) → (u : DwUnit P) → In u units → NoneTwice (unit_keys u)
 unfolding units_keys
 unit_none [] h u is = absurd is
 unit_none {P} (x ∷ units) h u (inl e) = subst (λ (w : DwUnit P). NoneTwice (unit_keys w)) e (none_left (unit_keys x) (units_keys units) h)
@@ -35,7 +35,7 @@ unit_one {P} (x ∷ units) h u v (inr r) (inl f) k a b =
     absurd (none_both (unit_keys x) (units_keys units) h k (subst (λ (w : DwUnit P). In k (unit_keys w)) (sym f) b) (unit_key units u k r a))
 unit_one (x ∷ units) h u v (inr r) (inr s) k a b = unit_one units (none_right (unit_keys x) (units_keys units) h) u v r s k a b
 
-below_key : {P : Type 0} (u : DwUnit P) (k : P) → In k (keys u.below) → In k (unit_keys u)
+pub below_key : {P : Type 0} (u : DwUnit P) (k : P) → In k (keys u.below) → In k (unit_keys u)
 unfolding unit_keys
 below_key u k h = inr (inr h)
 
@@ -57,7 +57,7 @@ in_whole {P} (x ∷ units) u h = by x.kind refl h (in_whole units u) where
   by Partial e r more = later (more r)
 
 -- the places of entries, and of others behind them
-followed_keys : {P : Type 0} (f last : Entries P) → keys (followed_by f last) ≡ keys f ++ keys last
+pub followed_keys : {P : Type 0} (f last : Entries P) → keys (followed_by f last) ≡ keys f ++ keys last
 unfolding followed_by keys
 followed_keys End last = refl
 followed_keys {P} (Entry e c n) last = ap (λ (w : List P). e.at ∷ w) (ap (λ (w : List P). keys c ++ w) (followed_keys n last) ∙ sym (assoc (keys c) (keys n) (keys last))) where
@@ -68,7 +68,7 @@ followed_keys {P} (Entry e c n) last = ap (λ (w : List P). e.at ∷ w) (ap (λ 
 module _ {P : Type 0} (same : P → P → Bool) (test : IsTest same) (units : List (DwUnit P)) (apart : NoneTwice (units_keys units)) where
   -- ---- partial units that are imported
 
-  abbrev Good : DwUnit P → Type 0
+  abbrev pub Good : DwUnit P → Type 0
   Good v = In v units × (is_partial v.kind ≡ true)
 
   abbrev Apart : DwUnit P → DwUnit P → Type 0
@@ -77,12 +77,12 @@ module _ {P : Type 0} (same : P → P → Bool) (test : IsTest same) (units : Li
   abbrev is_part : Node P → DwUnit P → Bool
   is_part e v = is_partial v.kind && is_import same v.root.at e
 
-  parts_good : (e : Node P) → Each Good (imported_by same units e)
+  pub parts_good : (e : Node P) → Each Good (imported_by same units e)
   unfolding imported_by
   parts_good e = each_of Good (filter (is_part e) units) (λ v is.
       let o = in_filter_from (is_part e) v units is in (o.0, (and_parts (is_partial v.kind) (is_import same v.root.at e) o.1).0))
 
-  imports_good : (f : Entries P) → Each Good (imported_in same units f)
+  pub imports_good : (f : Entries P) → Each Good (imported_in same units f)
   unfolding imported_in
   imports_good End = tt
   imports_good (Entry e c n) = each_append Good (imported_by same units e) (imported_in same units n) (parts_good e) (imports_good n)
@@ -90,7 +90,7 @@ module _ {P : Type 0} (same : P → P → Bool) (test : IsTest same) (units : Li
   abbrev is_other : DwUnit P → DwUnit P → Bool
   is_other v w = not (same w.at v.at)
 
-  once_good : (vs : List (DwUnit P)) → Each Good vs → Each Good (once same vs)
+  pub once_good : (vs : List (DwUnit P)) → Each Good vs → Each Good (once same vs)
   unfolding once
   once_good [] h = tt
   once_good (v ∷ vs) h = (h.0, each_filter Good (is_other v) (once same vs) (once_good vs h.1))

@@ -23,7 +23,7 @@ use Rattle.dwz_def_expand.proofs.SourceLemmas.{in_whole, no_unit, source_none}
 
 -- ---- where a place stands after
 
-has_in : {P : Type 0} (same : P → P → Bool) → IsTest same → (p : P) (ks : List P) → has_key same p ks ≡ true → In p ks
+pub has_in : {P : Type 0} (same : P → P → Bool) → IsTest same → (p : P) (ks : List P) → has_key same p ks ≡ true → In p ks
 unfolding has_key
 has_in same test p [] h = absurd cc
 has_in {P} same test p (k ∷ ks) h = by (same k p) refl h (has_in same test p ks) where
@@ -31,7 +31,7 @@ has_in {P} same test p (k ∷ ks) h = by (same k p) refl h (has_in same test p k
   by true e r more = inl (test.yes k p e)
   by false e r more = inr (more r)
 
-is_there : {P : Type 0} (same : P → P → Bool) → IsTest same → (p : P) (ks : List P) → In p ks → has_key same p ks ≡ true
+pub is_there : {P : Type 0} (same : P → P → Bool) → IsTest same → (p : P) (ks : List P) → In p ks → has_key same p ks ≡ true
 unfolding has_key
 is_there same test p [] h = absurd h
 is_there {P} same test p (k ∷ ks) h = by (same k p) refl h (λ r. is_there same test p ks r) where
@@ -66,7 +66,7 @@ first_at {P} same test s (ks ∷ units) p m h = by (has_key same p ks) refl h (f
   by true e r more = let at : s ≡ m = cc in record { list = ks; nth = inl (at, refl); there = has_in same test p ks e }
   by false e r more = later (more r)
 
-unit_at : {P : Type 0} (same : P → P → Bool) → IsTest same → (units : List (List P)) (n : ℕ) (p : P) (m : ℕ) → unit_for same units n p ≡ Some m → SourceIn 0 units m p
+pub unit_at : {P : Type 0} (same : P → P → Bool) → IsTest same → (units : List (List P)) (n : ℕ) (p : P) (m : ℕ) → unit_for same units n p ≡ Some m → SourceIn 0 units m p
 unfolding unit_for
 unit_at {P} same test units n p m h = by (has_key same p (get_or units n [])) refl h where
   by : (b : Bool) → has_key same p (get_or units n []) ≡ b → (if b then Some n else first_with same 0 units p) ≡ Some m → SourceIn 0 units m p
@@ -77,19 +77,19 @@ unit_at {P} same test units n p m h = by (has_key same p (get_or units n [])) re
   by false e r = first_at same test 0 units p m r
 
 module _ {P : Type 0} (same : P → P → Bool) (test : IsTest same) (us : List (DwUnit P)) where
-  abbrev places : List (List P)
+  abbrev pub places : List (List P)
   places = map entry_keys us
 
   -- what a unit has itself it names there
-  own_copy : (n : ℕ) (p : P) → In p (get_or places n []) → copy_for same places n p ≡ copy n p
+  pub own_copy : (n : ℕ) (p : P) → In p (get_or places n []) → copy_for same places n p ≡ copy n p
   unfolding unit_for
   own_copy n p h = rw (is_there same test p (get_or places n []) h) refl
 
   -- and so its own place, which no entry has
-  abbrev IsNoEntry : P → Type 0
+  abbrev pub IsNoEntry : P → Type 0
   IsNoEntry p = (m : ℕ) → SourceIn 0 places m p → ⊥
 
-  unit_copy : (n : ℕ) (p : P) → IsNoEntry p → copy_for same places n p ≡ copy n p
+  pub unit_copy : (n : ℕ) (p : P) → IsNoEntry p → copy_for same places n p ≡ copy n p
   unit_copy n p alone = by (unit_for same places n p) refl where
     by : (o : Option ℕ) → unit_for same places n p ≡ o → copy (unwrap_or o n) p ≡ copy n p
     by None e = refl
@@ -100,7 +100,7 @@ module _ {P : Type 0} (same : P → P → Bool) (test : IsTest same) (us : List 
   from_nth s (y ∷ some) n u (inl h) = let same = h.0 in omega arith
   from_nth s (y ∷ some) n u (inr h) = let more = from_nth (suc s) some n u h in omega arith
 
-  nth_places : (s : ℕ) (some : List (DwUnit P)) (n : ℕ) (u : DwUnit P) (k : ℕ) → Nth s some n u → n ≡ s + k → get_or (map entry_keys some) k [] ≡ entry_keys u
+  pub nth_places : (s : ℕ) (some : List (DwUnit P)) (n : ℕ) (u : DwUnit P) (k : ℕ) → Nth s some n u → n ≡ s + k → get_or (map entry_keys some) k [] ≡ entry_keys u
   nth_places s [] n u k h e = absurd h
   nth_places s (x ∷ some) n u zero (inl h) e = ap (λ (w : DwUnit P). entry_keys w) h.1
   nth_places s (x ∷ some) n u (suc k) (inl h) e = absurd (let same = h.0 in omega arith)
@@ -109,14 +109,14 @@ module _ {P : Type 0} (same : P → P → Bool) (test : IsTest same) (us : List 
 
   -- ---- names
 
-  abbrev outs : ℕ → List (DwUnit P) → List (DwUnit (Copy P))
+  abbrev pub outs : ℕ → List (DwUnit P) → List (DwUnit (Copy P))
   outs n some = copies same places n some
 
-  same_map : {X Y : Type 0} (f g : X → Y) (xs : List X) → ((x : X) → In x xs → f x ≡ g x) → map f xs ≡ map g xs
+  pub same_map : {X Y : Type 0} (f g : X → Y) (xs : List X) → ((x : X) → In x xs → f x ≡ g x) → map f xs ≡ map g xs
   same_map f g [] h = refl
   same_map {X} {Y} f g (x ∷ xs) h = ap (λ (w : Y). w ∷ map f xs) (h x (inl refl)) ∙ ap (λ (w : List Y). g x ∷ w) (same_map f g xs (λ y is. h y (inr is)))
 
-  mapped_keys : {Q : Type 0} (f : P → Q) (u : DwUnit P) → unit_keys (unit_map f u) ≡ map f (unit_keys u)
+  pub mapped_keys : {Q : Type 0} (f : P → Q) (u : DwUnit P) → unit_keys (unit_map f u) ≡ map f (unit_keys u)
   unfolding unit_keys
   mapped_keys {Q} f u = ap (λ (w : List Q). f u.at ∷ f u.root.at ∷ w) (keys_map f u.below)
 
@@ -125,7 +125,7 @@ module _ {P : Type 0} (same : P → P → Bool) (test : IsTest same) (us : List 
     pub entries : get_or places n [] ≡ entry_keys u
     pub alone : IsNoEntry u.at
 
-  copy_keys : (n : ℕ) (u : DwUnit P) → IsHere n u → unit_keys (unit_map (copy_for same places n) u) ≡ map (copy n) (unit_keys u)
+  pub copy_keys : (n : ℕ) (u : DwUnit P) → IsHere n u → unit_keys (unit_map (copy_for same places n) u) ≡ map (copy n) (unit_keys u)
   unfolding unit_keys
   copy_keys n u here = mapped_keys (copy_for same places n) u ∙ same_map (copy_for same places n) (copy n) (unit_keys u) one where
     one : (p : P) → In p (unit_keys u) → copy_for same places n p ≡ copy n p
@@ -133,7 +133,7 @@ module _ {P : Type 0} (same : P → P → Bool) (test : IsTest same) (us : List 
     one p (inr r) = own_copy n p (subst (λ (w : List P). In p w) (sym here.entries) r)
 
   -- units from a number on are those of the file
-  abbrev AreFrom : ℕ → List (DwUnit P) → Type 0
+  abbrev pub AreFrom : ℕ → List (DwUnit P) → Type 0
   AreFrom n some = (m : ℕ) (u : DwUnit P) → Nth n some m u → IsHere m u
 
   pub all_from : ((u : DwUnit P) → In u us → IsNoEntry u.at) → AreFrom 0 us
@@ -169,7 +169,7 @@ module _ {P : Type 0} (same : P → P → Bool) (test : IsTest same) (us : List 
   HasEntry k = (d : Seen (Copy P)) × In d (all_seen (outs 0 us)) × (d.at ≡ k)
 
   -- an entry stands at each place of a sibling list
-  entry_there : (f : Entries P) (p : P) → In p (keys f) → (d : Seen P) × In d (seen f) × (d.at ≡ p)
+  pub entry_there : (f : Entries P) (p : P) → In p (keys f) → (d : Seen P) × In d (seen f) × (d.at ≡ p)
   unfolding keys seen
   entry_there End p h = absurd h
   entry_there (Entry e f g) p (inl x) = (see e f, inl refl, x)
@@ -178,13 +178,13 @@ module _ {P : Type 0} (same : P → P → Bool) (test : IsTest same) (us : List 
     | inr b ↦ (let o = entry_there g p b in (o.0, inr (in_right o.0 (seen f) (seen g) o.1), o.2))
   ]
 
-  nth_copied : (s : ℕ) (some : List (DwUnit P)) (m : ℕ) (u : DwUnit P) → Nth s some m u → In (unit_map (copy_for same places m) u) (outs s some)
+  pub nth_copied : (s : ℕ) (some : List (DwUnit P)) (m : ℕ) (u : DwUnit P) → Nth s some m u → In (unit_map (copy_for same places m) u) (outs s some)
   unfolding copies
   nth_copied s [] m u h = absurd h
   nth_copied s (x ∷ some) m u (inl e) = inl (ap (λ (k : ℕ). unit_map (copy_for same places k) x) e.0 ∙ ap (λ (w : DwUnit P). unit_map (copy_for same places m) w) e.1)
   nth_copied s (x ∷ some) m u (inr r) = inr (nth_copied (suc s) some m u r)
 
-  nth_source : (s : ℕ) (some : List (DwUnit P)) (m : ℕ) (list : List P) → Nth s (map entry_keys some) m list → (u : DwUnit P) × Nth s some m u × (entry_keys u ≡ list)
+  pub nth_source : (s : ℕ) (some : List (DwUnit P)) (m : ℕ) (list : List P) → Nth s (map entry_keys some) m list → (u : DwUnit P) × Nth s some m u × (entry_keys u ≡ list)
   nth_source s [] m list h = absurd h
   nth_source s (x ∷ some) m list (inl e) = (x, inl (e.0, refl), e.1)
   nth_source s (x ∷ some) m list (inr r) = let o = nth_source (suc s) some m list r in (o.0, inr o.1, o.2)
@@ -297,7 +297,7 @@ module _ {P : Type 0} (same : P → P → Bool) (test : IsTest same) (us : List 
 -- ---- all of it
 
 module _ {P : Type 0} (same : P → P → Bool) (test : IsTest same) (w : WithCommon P) (apart : NoneTwice (units_keys (units_with_common w))) where
-  in_all : (u : DwUnit P) → In u (whole_units w.own) → In u (units_with_common w) × (is_partial u.kind ≡ false)
+  pub in_all : (u : DwUnit P) → In u (whole_units w.own) → In u (units_with_common w) × (is_partial u.kind ≡ false)
   in_all u is = let o = in_whole w.own u is in (in_left u w.own w.common o.0, o.1)
 
   sources_none : (some : List (DwUnit P)) → ((u : DwUnit P) → In u some → In u (whole_units w.own)) → Each (λ u. NoneTwice (unit_keys u)) (map (source_unit same (units_with_common w)) some)
@@ -305,7 +305,7 @@ module _ {P : Type 0} (same : P → P → Bool) (test : IsTest same) (w : WithCo
   sources_none (u ∷ some) into =
       (let o = in_all u (into u (inl refl)) in source_none same test (units_with_common w) apart u o.0 o.1, sources_none some (λ v is. into v (inr is)))
 
-  alone : (u : DwUnit P) → In u (source_units same w) → (m : ℕ) → SourceIn 0 (source_places same w) m u.at → ⊥
+  pub alone : (u : DwUnit P) → In u (source_units same w) → (m : ℕ) → SourceIn 0 (source_places same w) m u.at → ⊥
   alone u is m o =
       let x = in_map_from (source_unit same (units_with_common w)) u (whole_units w.own) is in
       let y = in_map_from (λ (v : DwUnit P). entry_keys v) o.list (source_units same w) (nth_in 0 (source_places same w) m o.list o.nth) in

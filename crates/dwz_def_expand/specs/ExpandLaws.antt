@@ -3,6 +3,7 @@ use Rattle.std.specs.Prelude.{◌≡◌, ◌↔◌, ◌⊎◌, ℕ, List, map, B
 use Rattle.dwz_model.specs.declared.fault.Refusal.{Refusal}
 use Rattle.dwz_def_reading.specs.Documents.{Compile, DwUnit, Node, unit_map}
 use Rattle.dwz_def_reading.specs.Entries.{RawEntry}
+use Rattle.dwz_def_reading.specs.FirstOf.{OfFirst}
 use Rattle.dwz_def_reading.specs.Lists.{Each, In}
 use Rattle.dwz_def_reading.specs.Meanings.{scope_of}
 use Rattle.dwz_def_reading.specs.Places.{at_file}
@@ -13,7 +14,7 @@ use Rattle.dwz_def_tops.specs.Shown.{units_keys}
 use Rattle.dwz_def_cross.specs.Tops.{WithCommon, units_with_common}
 use Rattle.dwz_def_expand.specs.Chosen.{Choice}
 use Rattle.dwz_def_expand.specs.OneFile.{IsStoredIn, OneFile, ReadsOne, around, attr_of, part, said_by_file, same_place, stored_attr}
-use Rattle.dwz_def_expand.specs.Output.{ExpandRefusal, forms}
+use Rattle.dwz_def_expand.specs.Output.{ExpandRefusal, SiteRefusal, forms, sites_of_file}
 use Rattle.dwz_def_expand.specs.Refusals.{AllCopied}
 use Rattle.dwz_def_expand.specs.Source.{expanded, source_unit, source_units}
 
@@ -54,6 +55,12 @@ WholeLaw P =
 -- at most one refusal is the first
 abbrev pub OneExpandRefusalLaw : Type 0
 OneExpandRefusalLaw = (f : OneFile) (p q : Refusal) → ExpandRefusal f p → ExpandRefusal f q → p ≡ q
+
+-- each value of each source can be copied, or not each can, and there is a first that refuses the file
+abbrev pub CopiedLaw : Type 0
+CopiedLaw =
+    (f : OneFile) → AllCopied same_place (forms f) (said_by_file f)
+    ⊎ ((q : Refusal) × OfFirst (SiteRefusal f) (sites_of_file f) q × ¬ AllCopied same_place (forms f) (said_by_file f))
 
 -- where nothing refuses it, each value of each source can be copied, and the new file is whole
 abbrev pub FileLaw : Type 0

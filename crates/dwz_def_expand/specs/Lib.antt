@@ -4,5 +4,6 @@ pub mod Refusals
 pub mod Written
 pub mod OneFile
 pub mod Output
+pub mod Dropped
 pub mod ExpandLaws
 pub mod Alone

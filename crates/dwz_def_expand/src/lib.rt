@@ -5,7 +5,7 @@
 //! form by where its source stood (`Chosen`), and units are written as all units are (`Written`).
 //!
 //! A file that was read beside its common file is seen with the bytes of both (`OneFile`). Of it new sections are written (`Output`), or it is
-//! refused: a value can't be copied (`Refusals`), an operand is too narrow, a section is too large.
+//! refused: a value can't be copied (`Refusals`), an operand is too narrow, a section is too large. `.debug_sup` isn't kept (`Dropped`).
 //!
 //! No code is here: definitions, and laws on them. Where nothing refuses a file, the new one is whole (`expand_laws`, `refusal_laws`), and what
 //! is written reads by itself (`alone_laws`). Read first: `specs/Source.antt`, `specs/Chosen.antt`, `specs/Refusals.antt`.

@@ -89,7 +89,7 @@ whole input changes order can =
     }
 
 -- two files with the same fields but two
-file_fields : (old new : List ℕ) (count : ℕ) → number_at new 16 2 ≡ number_at old 16 2 → number_at new 18 2 ≡ number_at old 18 2 → number_at new 32 8 ≡ number_at old 32 8
+pub file_fields : (old new : List ℕ) (count : ℕ) → number_at new 16 2 ≡ number_at old 16 2 → number_at new 18 2 ≡ number_at old 18 2 → number_at new 32 8 ≡ number_at old 32 8
     → number_at new 48 4 ≡ number_at old 48 4 → number_at new 54 2 ≡ number_at old 54 2 → number_at new 56 2 ≡ number_at old 56 2 → number_at new 58 2 ≡ number_at old 58 2 → number_at new 60 2 ≡ count
     → number_at new 62 2 ≡ number_at old 62 2 → HasSameFields count (file_header old) (file_header new)
 file_fields old new count kind machine programs_at flags program_size programs size counted names = rw (kind, machine, programs_at, flags, program_size, programs, size, counted, names) refl

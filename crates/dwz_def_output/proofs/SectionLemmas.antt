@@ -30,7 +30,7 @@ or_none None other is = (refl, is)
 or_none (Some f) other is = absurd cc
 
 -- no item has a fault where none of others has
-first_none : {X : Type 0} (R : X → X → Type 0) (f g : List X → X → Option Fault) → ((before others : List X) (x y : X) → AllZip R before others → R x y → f before x ≡ None → g others y ≡ None)
+pub first_none : {X : Type 0} (R : X → X → Type 0) (f g : List X → X → Option Fault) → ((before others : List X) (x y : X) → AllZip R before others → R x y → f before x ≡ None → g others y ≡ None)
     → (before others xs ys : List X) → AllZip R before others → AllZip R xs ys → first_in f before xs ≡ None → first_in g others ys ≡ None
 unfolding first_in
 first_none R f g each before others [] [] so_far are is = refl

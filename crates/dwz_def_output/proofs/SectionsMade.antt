@@ -58,7 +58,7 @@ module _ (r : Run) (file : ℕ) (doc : Doc ℕ) (read : FileReads (r.input.bytes
 
 -- ---- address ranges
 
-units_len : (sets : List RangeSet) (numbers : List ℕ) (bytes : List ℕ) → length (with_units sets numbers bytes) ≡ length bytes
+pub units_len : (sets : List RangeSet) (numbers : List ℕ) (bytes : List ℕ) → length (with_units sets numbers bytes) ≡ length bytes
 unfolding with_units
 units_len [] numbers bytes = refl
 units_len (s ∷ sets) [] bytes = refl

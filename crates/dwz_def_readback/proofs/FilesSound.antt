@@ -109,14 +109,14 @@ module _ (scope : TopScope) (docs : List (Doc ℕ)) (input : Stored) (are : AreR
       → Each (OperandsStand (tells r file)) (out_units r.move r.units file)
   file_operands file carried =
       let name : ℕ → EntryName = λ n. name_of_place docs (at_file file n) in
-      out_operands scope (units_of docs) rule is choice r.files whole.old whole.held file (tells r file) name (λ n. refl) (λ k k_in. subst (In k) (sym (fitted_entries r file)) k_in)
+      out_operands scope (units_of docs) rule is choice r.files whole.old whole.held file (tells r file) name (λ unit n. refl) (λ k k_in. subst (In k) (sym (fitted_entries r file)) k_in)
       (OfFile (sources r file)) carried
       (λ i u nth of_file.
       (let told : IsTold (sources_of (input.bytes u.file)) (input.raw u.file) (λ n. name_of_place docs (at_file u.file n))
       (reading (sources r file).lists (lists_named r file) name (all_entry_keys (units_of_file file (units_of docs)))) = record {
         lists = ap (λ (x : ℕ). (sources_of (input.bytes x)).lists) (sym of_file);
         named = ap (λ (x : ℕ). lists_in (sources_of (input.bytes x)) (input.raw x)) (sym of_file);
-        name = λ n. ap (λ (x : ℕ). name_of_place docs (at_file x n)) (sym of_file);
+        name = λ unit n. ap (λ (x : ℕ). name_of_place docs (at_file x n)) (sym of_file);
       } in
       files_read input.bytes input.raw 0 0 0 docs (λ k d at. file_read (sources_of (input.bytes k)) (input.raw k) d.units (are k d at).reads.means) u (nth_in 0 (units_of docs) i u nth) _ told
       (λ k k_in. subst (λ (n : ℕ). In k (all_entry_keys (units_of_file n (units_of docs)))) of_file k_in)))

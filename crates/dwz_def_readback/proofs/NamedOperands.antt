@@ -37,7 +37,7 @@ all_mapped f (u ∷ units) k h = elim (in_cases k (entry_keys u) (all_entry_keys
 pub record IsTold (sources : Sources) (raw : List RawUnit) (names : ℕ → EntryName) (t : Tells EntryName) : Type 0 where
   pub lists : t.lists ≡ sources.lists
   pub named : t.named ≡ lists_in sources raw
-  pub name : (n : ℕ) → t.name n ≡ names n
+  pub name : (unit n : ℕ) → t.name unit n ≡ names n
 
 -- its operands name its entries, as they are named
 named_read : (sources : Sources) (raw : List RawUnit) (units : List (DwUnit ℕ)) (f : ℕ → EntryName) (t : Tells EntryName) → IsTold sources raw f t
@@ -92,7 +92,7 @@ module _ (input : ℕ → List ℕ) (raw : ℕ → List RawUnit) where
             let file = block_file own (named unit top doc.units) u a in
             let own_units : units_of_file u.file block ≡ named unit top doc.units =
             subst (λ (file : ℕ). units_of_file file block ≡ named unit top doc.units) (sym file) (at_own own (named unit top doc.units)) in
-            let names : (n : ℕ) → t.name n ≡ f n = λ n. told.name n ∙ ap
+            let names : (place n : ℕ) → t.name place n ≡ f n = λ place n. told.name place n ∙ ap
             (λ (b : Bool). elim b as (λ _. EntryName) [ true ↦ f n | false ↦ name_from (suc own) (unit + length doc.units) (top + tops_among doc.units) docs (at_file u.file n) ])
             (eq-eqb own u.file (sym file)) in
             let is_told : IsTold (sources_of (input own)) (raw own) f t = record {
@@ -106,8 +106,8 @@ module _ (input : ℕ → List ℕ) (raw : ℕ → List RawUnit) where
             doc.units (read own doc (inl (refl, refl))) own u a
         | inr b ↦
             let later = later_file (suc own) (unit + length doc.units) (top + tops_among doc.units) docs u b in
-            let names : (n : ℕ) → t.name n ≡ name_from (suc own) (unit + length doc.units) (top + tops_among doc.units) docs (at_file u.file n) = λ n.
-            told.name n ∙ ap (λ (b : Bool). elim b as (λ _. EntryName) [ true ↦ f n | false ↦ name_from (suc own) (unit + length doc.units) (top + tops_among doc.units) docs (at_file u.file n) ])
+            let names : (place n : ℕ) → t.name place n ≡ name_from (suc own) (unit + length doc.units) (top + tops_among doc.units) docs (at_file u.file n) = λ place n.
+            told.name place n ∙ ap (λ (b : Bool). elim b as (λ _. EntryName) [ true ↦ f n | false ↦ name_from (suc own) (unit + length doc.units) (top + tops_among doc.units) docs (at_file u.file n) ])
             (ne_eqb own u.file (λ e. omega (arith, e, later))) in
             files_read (suc own) (unit + length doc.units) (top + tops_among doc.units) docs (λ file d nth. read file d (inr nth)) u b t
             (record { lists = told.lists; named = told.named; name = names })

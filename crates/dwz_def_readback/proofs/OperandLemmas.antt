@@ -32,7 +32,7 @@ any_joined (parts ∷ exprs) e = elim (or_cases (list_any is_operand parts) (lis
 pub record Follows {K L : Type 0} (f : K → L) (t : Tells K) (own : Own K) (t' : Tells L) (own' : Own L) : Type 0 where
   pub lists : t'.lists ≡ t.lists
   pub named : t'.named ≡ t.named
-  pub name : (n : ℕ) → t'.name n ≡ f (t.name n)
+  pub name : (unit n : ℕ) → t'.name unit n ≡ f (t.name unit n)
   pub at : own'.at ≡ f own.at
   pub base : own'.bases.lists ≡ own.bases.lists
 
@@ -52,10 +52,10 @@ module _ {K L : Type 0} (f : K → L) (t : Tells K) (own : Own K) (t' : Tells L)
   expr_to (Expr parts) refs go h = parts_to parts refs go h
   expr_to _ refs go h = absurd h
 
-  names_follow : (unit : ℕ) (os : List AnOperand) → map f (map (λ o. t.name (led_to unit o)) os) ≡ map (λ o. t'.name (led_to unit o)) os
+  names_follow : (unit : ℕ) (os : List AnOperand) → map f (map (λ o. t.name unit (led_to unit o)) os) ≡ map (λ o. t'.name unit (led_to unit o)) os
   names_follow unit [] = refl
   names_follow unit (o ∷ os) =
-      ap (λ (k : L). k ∷ map f (map (λ o. t.name (led_to unit o)) os)) (sym (follows.name (led_to unit o))) ∙ ap (λ (w : List L). t'.name (led_to unit o) ∷ w) (names_follow unit os)
+      ap (λ (k : L). k ∷ map f (map (λ o. t.name unit (led_to unit o)) os)) (sym (follows.name unit (led_to unit o))) ∙ ap (λ (w : List L). t'.name unit (led_to unit o) ∷ w) (names_follow unit os)
 
   list_to : (a : Attr K) → Names a.value.plain a.value.refs → ListSays t own a → ListSays t' own' (attr_map f a)
   list_to a go h =
@@ -64,7 +64,7 @@ module _ {K L : Type 0} (f : K → L) (t : Tells K) (own : Own K) (t' : Tells L)
         scope = h.scope;
         section = h.section ∙ sym follows.lists;
         base = h.base ∙ sym follows.base;
-        unit = follows.name h.scope.unit ∙ ap f h.unit ∙ sym follows.at;
+        unit = follows.name h.scope.unit h.scope.unit ∙ ap f h.unit ∙ sym follows.at;
         old = h.old;
         name = h.name;
         form = h.form;

@@ -98,7 +98,7 @@ module _ (scope : TopScope) (units : List (FileUnit EntryName)) (rule : Rule) (i
       subst (λ (s : EntryName). In (f s) (entry_keys (kept_unit m units i u))) o.2 (entry_stays units m old i u nth o.0 o.1 (subst (Stays m) (sym o.2) stays))
 
   -- the location lists and the names of places of the file are told, and its entries
-  module _ (t : Tells EntryName) (name : ℕ → EntryName) (told : (n : ℕ) → t.name n ≡ f (name n)) (into : (k : EntryName) → In k (all_entry_keys (out_units m units file)) → In k t.all) where
+  module _ (t : Tells EntryName) (name : ℕ → EntryName) (told : (place n : ℕ) → t.name place n ≡ f (name n)) (into : (k : EntryName) → In k (all_entry_keys (out_units m units file)) → In k t.all) where
     abbrev pub before : Tells EntryName
     before = reading t.lists t.named name (all_entry_keys (units_of_file file units))
 

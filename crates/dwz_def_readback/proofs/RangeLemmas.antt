@@ -35,12 +35,12 @@ use Rattle.dwz_def_readback.proofs.WithinLemmas.{kept_to}
 -- ---- units that are read
 
 -- a unit that isn't partial begins there
-record WholeAt (raw : List RawUnit) (place : ℕ) : Type 0 where
-  unit : RawUnit
-  there : In unit raw
-  at : unit.at ≡ place
+pub record WholeAt (raw : List RawUnit) (place : ℕ) : Type 0 where
+  pub unit : RawUnit
+  pub there : In unit raw
+  pub at : unit.at ≡ place
 
-whole_at : (raw : List RawUnit) (place : ℕ) → In place (unit_places raw) → WholeAt raw place
+pub whole_at : (raw : List RawUnit) (place : ℕ) → In place (unit_places raw) → WholeAt raw place
 unfolding unit_places
 whole_at [] place h = absurd h
 whole_at (u ∷ raw) place h = elim (in_cases place (place_if_whole u.kind u.at) (unit_places raw) h) [
@@ -153,11 +153,11 @@ module _ (n : Numbering EntryName) (g : EntryName → Place) (common : Option (C
 
 -- ---- sets
 
-set_known : (is_unit : ℕ → Bool) (sets : List RangeSet) (start : ℕ) (bytes : List ℕ) → SpellsSets is_unit sets start bytes → Each (λ s. is_unit s.unit ≡ true) sets
+pub set_known : (is_unit : ℕ → Bool) (sets : List RangeSet) (start : ℕ) (bytes : List ℕ) → SpellsSets is_unit sets start bytes → Each (λ s. is_unit s.unit ≡ true) sets
 set_known is_unit [] start bytes h = tt
 set_known is_unit (s ∷ sets) start bytes h = (ap is_unit h.first.unit ∙ h.first.known, set_known is_unit sets _ h.second_bytes h.second)
 
-are_units : (others : ℕ → Bool) (number : ℕ → ℕ) (is_unit : ℕ → Bool) → ((p : ℕ) → is_unit p ≡ true → (number p < 2 ^ 32) × (others (number p) ≡ true)) → (sets : List RangeSet)
+pub are_units : (others : ℕ → Bool) (number : ℕ → ℕ) (is_unit : ℕ → Bool) → ((p : ℕ) → is_unit p ≡ true → (number p < 2 ^ 32) × (others (number p) ≡ true)) → (sets : List RangeSet)
     → Each (λ s. is_unit s.unit ≡ true) sets
     → AreUnits others (map (λ s. number s.unit) sets)
 are_units others number is_unit good [] h = tt

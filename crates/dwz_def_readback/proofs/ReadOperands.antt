@@ -41,7 +41,7 @@ record Knows (t : Tells ℕ) (w : Own ℕ) (s : MeaningContext ℕ) : Type 0 whe
   own : (n : ℕ) → In n s.own → In n w.keys
   all : (n : ℕ) → In n s.around.all → In n t.all
   lists : s.around.sources.lists ≡ t.lists
-  name : (n : ℕ) → t.name n ≡ n
+  name : (unit n : ℕ) → t.name unit n ≡ n
   at : s.unit ≡ w.at
   base : loclists_base s ≡ w.bases.lists
 
@@ -89,19 +89,19 @@ module _ (t : Tells ℕ) (w : Own ℕ) (s : MeaningContext ℕ) (knows : Knows t
   leads_same FromUnit number = refl
   leads_same FromInfo number = refl
 
-  refs_same : (unit : ℕ) → unit ≡ s.unit → (os : List Operand) → targets s os ≡ map (λ o. t.name (led_to unit o)) os
+  refs_same : (unit : ℕ) → unit ≡ s.unit → (os : List Operand) → targets s os ≡ map (λ o. t.name unit (led_to unit o)) os
   refs_same unit e [] = refl
   refs_same unit e (o ∷ os) =
-      let one : s.around.place (target_of s o) ≡ t.name (led_to unit o) =
-      ap (λ (f : ℕ → ℕ). f (target_of s o)) knows.place ∙ leads_same o.base o.number ∙ ap (λ (u : ℕ). place_counted o.base u o.number) (sym e) ∙ sym (knows.name (led_to unit o)) in
-      ap (λ (k : ℕ). k ∷ targets s os) one ∙ ap (λ (ks : List ℕ). t.name (led_to unit o) ∷ ks) (refs_same unit e os)
+      let one : s.around.place (target_of s o) ≡ t.name unit (led_to unit o) =
+      ap (λ (f : ℕ → ℕ). f (target_of s o)) knows.place ∙ leads_same o.base o.number ∙ ap (λ (u : ℕ). place_counted o.base u o.number) (sym e) ∙ sym (knows.name unit (led_to unit o)) in
+      ap (λ (k : ℕ). k ∷ targets s os) one ∙ ap (λ (ks : List ℕ). t.name unit (led_to unit o) ∷ ks) (refs_same unit e os)
 
   list_says : (r : RawAttr) (b : Attr ℕ) → MeansAttr s r b → (l : NamedList) → l.unit ≡ s.unit → NamesList s r l → In l t.named → b.value ≡ loc_value s l.list → Named (own_operands l) → ListSays t w b
   list_says r b means l unit names there value named = record {
     scope = s;
     section = knows.lists;
     base = knows.base;
-    unit = knows.name s.unit ∙ knows.at;
+    unit = knows.name s.unit s.unit ∙ knows.at;
     old = r;
     name = sym means.name;
     form = sym means.form;
@@ -163,7 +163,7 @@ module _ (t : Tells ℕ) (w : Own ℕ) (s : MeaningContext ℕ) (knows : Knows t
 
 -- what is told of a file is its location lists, the names of places, and its entries
 abbrev pub reading : {K : Type 0} → List ℕ → List NamedList → (ℕ → K) → List K → Tells K
-reading lists named name all = record { strs = []; line_strs = []; offsets = []; line = []; common_strs = []; lists = lists; named = named; name = name; all = all; common = [] }
+reading lists named name all = record { strs = []; line_strs = []; offsets = []; line = []; common_strs = []; lists = lists; named = named; name = λ unit. name; all = all; common = [] }
 
 -- the lists that the units of a file name
 abbrev pub lists_in : Sources → List RawUnit → List NamedList
@@ -185,7 +185,7 @@ module _ (sources : Sources) (all : List ℕ) where
           own = λ n is. subst (In n) (sym (entries_of u v h)) is;
           all = λ n is. subst (In n) same is;
           lists = refl;
-          name = λ n. refl;
+          name = λ unit n. refl;
           at = sym h.place;
           base = ap (λ (b : Bases). b.lists) (bases_read s v.root.attrs h.root.attrs);
         } in (

@@ -1,5 +1,6 @@
 -- Units of a file that means them by itself mean the same with other places, and beside a common file.
 use Rattle.std.proofs.Common.{◌≡◌, ℕ, ℤ, Bool, true, false, List, [], ◌∷◌, map, Option, Some, None, refl, sym, ap, subst, ◌∙◌}
+use Rattle.dwz_model.specs.Lists.{In}
 use Rattle.dwz_model.specs.declared.place.Base.{Base}
 use Rattle.dwz_model.specs.declared.place.Base.TheVariants.{Unit as FromUnit, Info as FromInfo}
 use Rattle.dwz_def_reading.specs.Entries.{RawAttr, RawEntry}
@@ -7,11 +8,11 @@ use Rattle.dwz_def_reading.specs.Rows.{has}
 use Rattle.dwz_def_reading.specs.Trees.{End, Entry, Forest}
 use Rattle.dwz_def_reading.specs.Units.{CompileUnit, PartialUnit, RawKind, RawUnit, TypeUnit}
 use Rattle.dwz_def_reading.specs.declared.exprs.Operand.{Operand}
-use Rattle.dwz_def_reading.specs.Documents.{Attr, DwUnit, Entries, Expr, File, Kind, Loc, Node, Plain, Sec, Text, Value, attr_map, entries_map, kind_map, node_map, only, unit_map, value_map}
+use Rattle.dwz_def_reading.specs.Documents.{Attr, DwUnit, Entries, Expr, File, Kind, Loc, Node, Plain, Sec, Text, Value, attr_map, entries_map, kind_map, node_map, only, ref, unit_map, value_map}
 use Rattle.dwz_def_reading.specs.Exprs.{ExprContext, SpellsExpr, parts_of}
 use Rattle.dwz_def_reading.specs.LocLists.{SpellsList}
 use Rattle.dwz_def_reading.specs.Sequences.{StandsFrom}
-use Rattle.dwz_def_reading.specs.Meanings.{Around, Common, IfSo, IsExpression, IsFileBy, IsLocList, IsTextIn, MeanAttrs, MeanEntries, MeanUnits, MeansAs, MeansKind, MeansNode}
+use Rattle.dwz_def_reading.specs.Meanings.{Around, Common, IfSo, IsCommonEntry, IsExpression, IsFileBy, IsLocList, IsTextIn, MeanAttrs, MeanEntries, MeanUnits, MeansAs, MeansKind, MeansNode}
 use Rattle.dwz_def_reading.specs.Classes.{OfAddress, OfBlock}
 use Rattle.dwz_def_reading.specs.Classes.{Class}
 use Rattle.dwz_def_reading.specs.Classes.{OfCommonEntry, OfCommonText, OfConstant, OfExpression, OfFlag, OfIndex, OfInfoEntry, OfListIndex, OfOffset, OfSignature, OfText, OfTextBySlot, OfTextInLineStr}
@@ -20,14 +21,32 @@ use Rattle.dwz_def_reading.specs.Classes.{OfTextInStr, OfUnitEntry, Unread}
 use Rattle.dwz_def_reading.specs.Classes.{class_of, names_file, names_list}
 use Rattle.dwz_def_reading.specs.Meanings.{offset_of, scope_of, stmt_list, target_of, targets, without_siblings}
 use Rattle.dwz_def_reading.specs.Shared.{operands_of}
+use Rattle.dwz_def_reading.specs.Texts.{IsTextAt}
 
 -- the same sections, with other places, and beside a common file
 abbrev pub beside : {P Q : Type 0} → (P → Q) → Option (Common Q) → Around P → Around Q
 beside f common around = record { sources = around.sources; all = around.all; place = λ n. f (around.place n); common = common }
 
-module _ {P Q : Type 0} (f : P → Q) (common : Option (Common Q)) (s : MeaningContext P) (none : s.around.common ≡ None) where
-  abbrev there : MeaningContext Q
+-- the one common file gives what the other does, with other places
+pub record GivesAs {P Q : Type 0} (f : P → Q) (c : Common P) (d : Common Q) : Type 0 where
+  pub entries : d.entries ≡ c.entries
+  pub place : (n : ℕ) → d.place n ≡ f (c.place n)
+  pub strs : d.strs ≡ c.strs
+
+-- where there was one, there is such a one
+abbrev pub GivesStill : {P Q : Type 0} → (P → Q) → Option (Common P) → Option (Common Q) → Type 0
+GivesStill {P} {Q} f old new = (c : Common P) → old ≡ Some c → (d : Common Q) × (new ≡ Some d) × GivesAs f c d
+
+pub no_common : {P Q : Type 0} (f : P → Q) (old : Option (Common P)) (new : Option (Common Q)) → old ≡ None → GivesStill f old new
+no_common f old new none c e = absurd (let no_ = sym none ∙ e in cc)
+
+module _ {P Q : Type 0} (f : P → Q) (common : Option (Common Q)) (s : MeaningContext P) (gives : GivesStill f s.around.common common) where
+  abbrev pub there : MeaningContext Q
   there = record { around = beside f common s.around; unit = s.unit; root = s.root; own = s.own }
+
+  entry_there : (p : ℕ) (v : Value P) → IsCommonEntry s p v → IsCommonEntry there p (value_map f v)
+  entry_there p v h =
+      let o = gives h.0 h.1 in (o.0, o.1, (subst (In p) (sym o.2.entries) h.2.0, ap (λ (w : Value P). value_map f w) h.2.1 ∙ ap (λ (q : Q). ref q) (sym (o.2.place p))))
 
   only_there : (p : Plain) (v : Value P) → v ≡ only p → value_map f v ≡ only p
   only_there p v e = ap (λ (w : Value P). value_map f w) e
@@ -84,7 +103,7 @@ module _ {P Q : Type 0} (f : P → Q) (common : Option (Common Q)) (s : MeaningC
   offset_there true a v h = list_there (offset_of a) v h
   offset_there false a v h = ap (λ (w : Value P). value_map f w) h
 
-  as_there : (c : Class) (a : RawAttr) (v : Value P) → MeansAs c s a v → MeansAs c there a (value_map f v)
+  pub as_there : (c : Class) (a : RawAttr) (v : Value P) → MeansAs c s a v → MeansAs c there a (value_map f v)
   as_there OfAddress a v h = ap (λ (w : Value P). value_map f w) h
   as_there OfBlock a v h = ap (λ (w : Value P). value_map f w) h
   as_there OfConstant a v h = constant_there (names_file a.pair.name) a v h
@@ -100,8 +119,10 @@ module _ {P Q : Type 0} (f : P → Q) (common : Option (Common Q)) (s : MeaningC
   as_there OfExpression a v h = expr_there a v h
   as_there OfListIndex a v h = record { base = h.base; is_base = h.is_base; offset = h.offset; slot = h.slot; list = list_there _ v h.list }
   as_there OfIndex a v h = ap (λ (w : Value P). value_map f w) h
-  as_there OfCommonEntry a v h = absurd (let e = sym none ∙ h.1 in cc)
-  as_there OfCommonText a v h = absurd (let e = sym none ∙ h.1 in cc)
+  as_there OfCommonEntry a v h = entry_there (offset_of a) v h
+  as_there OfCommonText a v h =
+      let o = gives h.0 h.1 in
+      (o.0, o.1, record { text = h.2.text; stands = subst (λ (w : List ℕ). IsTextAt w (offset_of a) h.2.text) (sym o.2.strs) h.2.stands; value = only_there (Text h.2.text) v h.2.value })
   as_there Unread a v h = absurd h
 
   attrs_there : (raw : List RawAttr) (attrs : List (Attr P)) → MeanAttrs s raw attrs → MeanAttrs there raw (map (attr_map f) attrs)
@@ -129,12 +150,13 @@ pub units_there : {P Q : Type 0} (f : P → Q) (common : Option (Common Q)) (aro
     → MeanUnits (beside f common around) raw (map (unit_map f) units)
 units_there f common around none [] [] h = tt
 units_there f common around none (u ∷ raw) (v ∷ units) h =
-    let s = scope_of around u in (
+    let s = scope_of around u in
+    let gives = no_common f around.common common none in (
       record {
         place = ap f h.0.place;
-        kind = kind_there f common s none u.kind v.kind h.0.kind;
-        root = node_there f common s none u.root v.root h.0.root;
-        below = entries_there f common s none u.below v.below h.0.below;
+        kind = kind_there f common s gives u.kind v.kind h.0.kind;
+        root = node_there f common s gives u.root v.root h.0.root;
+        below = entries_there f common s gives u.below v.below h.0.below;
       },
       units_there f common around none raw units h.1,
     )

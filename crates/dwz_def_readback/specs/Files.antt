@@ -239,7 +239,7 @@ tells_by k r file = record {
   common_strs = texts_bytes (shared_by k r file);
   lists = (sources r file).lists;
   named = lists_named r file;
-  name = name_after r file;
+  name = λ unit. name_after r file;
   all = all_entry_keys (fitted_by k r file);
   common = all_entry_keys (common_fitted_by k r);
 }
@@ -257,7 +257,7 @@ tells_common r = record {
   common_strs = [];
   lists = [];
   named = [];
-  name = name_after r r.common;
+  name = λ unit. name_after r r.common;
   all = all_entry_keys (common_fitted r);
   common = [];
 }

@@ -69,14 +69,14 @@ module _ (f : RunFacts) (facts : AreFacts f) (are : AreRead f.input (docs f)) wh
   file_operands file carried =
       let name : ℕ → EntryName = λ n. name_of_place (docs f) (at_file file n) in
       out_operands f.scope (units f) (rule f) facts.alike facts.choice (file_numbers 0 (docs f)) whole.old whole.held file
-      (tells r file) name (λ n. refl)
+      (tells r file) name (λ unit n. refl)
       (λ k k_in. subst (In k) (sym (fitted_entries r file)) k_in) (OfFile (sources r file)) carried
       (λ i u nth of.
       (let told : IsTold (sources_of (f.input.bytes u.file)) (f.input.raw u.file) (λ n. name_of_place (docs f) (at_file u.file n))
       (reading (sources r file).lists (lists_named r file) name (all_entry_keys (units_of_file file (units f)))) = record {
         lists = ap (λ (x : ℕ). (sources_of (f.input.bytes x)).lists) (sym of);
         named = ap (λ (x : ℕ). lists_in (sources_of (f.input.bytes x)) (f.input.raw x)) (sym of);
-        name = λ n. ap (λ (x : ℕ). name_of_place (docs f) (at_file x n)) (sym of);
+        name = λ unit n. ap (λ (x : ℕ). name_of_place (docs f) (at_file x n)) (sym of);
       } in
       files_read f.input.bytes f.input.raw 0 0 0 (docs f)
       (λ k d at. file_read (sources_of (f.input.bytes k)) (f.input.raw k) d.units (are k d at).reads.means) u

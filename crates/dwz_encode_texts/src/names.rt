@@ -1,17 +1,18 @@
 //! Where the names of spaces stand.
 
-ghost use Rattle.std.specs.Prelude.{◌≡◌, ℕ, ◌<◌, ◌++◌, All, Some, length, map, slice_get, IfOk, OnOk};
+ghost use Rattle.std.specs.Prelude.{◌≡◌, ℕ, ◌<◌, ◌++◌, All, List, Some, length, map, slice_get, IfOk, OnOk};
 ghost use Rattle.dwz_def_reading.specs.Units.{entries_in};
 ghost use Rattle.dwz_def_reading.specs.Meanings.{first_raw};
 ghost use Rattle.dwz_unit.specs.Rows.{EntryRow, rows_of, units_of};
 ghost use Rattle.dwz_graph.specs.Resolved.{around};
 ghost use Rattle.dwz_graph.specs.Files.{docs_of};
+ghost use Rattle.dwz_graph.specs.Index.{Index};
 ghost use Rattle.dwz_graph.specs.Indexed.{AreIndexes};
 ghost use Rattle.dwz_encode_texts.specs.Names.{HaveNames, named_text, names_of_spaces};
 
 use crate::texts::{own_text, slot_bases};
 use dwz_codes::DW_AT_NAME;
-use dwz_graph::{File, Graph, Index, SpaceEntry, first_attr};
+use dwz_graph::{File, Graph, SpaceEntry, first_attr};
 use dwz_layout::TextAt;
 use dwz_model::NoMemory;
 use dwz_unit::Units;
@@ -51,14 +52,11 @@ fn put_names(
 
 /// For each space of all files, by its number, where its name (DWARF 5, 3.2.2, `DW_AT_name`) stands in `.debug_str` of its file. For a
 /// name that isn't stored there, by an offset or by a slot, that is 0.
-pub fn texts_of_spaces(
-    alloc: Global,
-    graph: &Graph,
-    indexes: &[Index],
-) -> Result<Vec<TextAt>, NoMemory>
-    requires { AreIndexes (docs_of graph.now.given) indexes.now }
-    ensures { IfOk result (λ texts. HaveNames graph.now.given indexes.now texts.items) }
+pub fn texts_of_spaces(alloc: Global, graph: &Graph) -> Result<Vec<TextAt>, NoMemory>
+    ensures { (indexes : List Index) → AreIndexes (docs_of graph.now.given) indexes
+        → IfOk result (λ texts. HaveNames graph.now.given indexes texts.items) }
 {
+    let indexes = graph.indexes();
     let mut texts = Vec::new(alloc);
     for (number, file) in graph.files().iter().enumerate() {
         put_names(alloc, &mut texts, file, indexes[number].spaces())?;

@@ -4,7 +4,6 @@ ghost use Rattle.std.specs.Prelude.{◌≡◌, ◌<◌, Some, length, slice_get}
 ghost use Rattle.dwz_explain.specs.Reached.{IsAsked};
 ghost use Rattle.dwz_graph.specs.declared.file.File.{File};
 ghost use Rattle.dwz_graph.specs.Files.{docs_of};
-ghost use Rattle.dwz_graph.specs.Indexed.{AreIndexes};
 ghost use Rattle.dwz_move_files.specs.Outlines.{IsOutline};
 
 use dwz_graph::{File, Graph, Index};
@@ -33,18 +32,13 @@ pub(crate) struct Spot {
 }
 
 /// The files of a graph, with their indexes and the outline of their tops.
-pub(crate) fn asked_of<'g, 'a>(
-    alloc: Global,
-    graph: &'g Graph<'a>,
-    indexes: &'g [Index],
-    tops: &'g Tops,
-) -> Asked<'g, 'a>
-    requires indexes { AreIndexes (docs_of graph.now.given) indexes.now }
-    requires tops { IsOutline (docs_of graph.now.given) tops.now }
+pub(crate) fn asked_of<'g, 'a>(alloc: Global, graph: &'g Graph<'a>, tops: &'g Tops) -> Asked<'g, 'a>
+    requires { IsOutline (docs_of graph.now.given) tops.now }
     ensures asked { IsAsked result }
     ensures graph { result.graph.now.given ≡ graph.now.given }
 {
     let files = graph.files();
+    let indexes = graph.indexes();
     Asked {
         alloc,
         graph,

@@ -7,13 +7,12 @@ ghost use Rattle.dwz_def_tops.specs.Alike.{Movable};
 ghost use Rattle.dwz_def_tops.specs.Spots.{units_of};
 ghost use Rattle.dwz_explain.specs.Answers.{Answers, AnswersTop};
 ghost use Rattle.dwz_graph.specs.Files.{docs_of};
-ghost use Rattle.dwz_graph.specs.Indexed.{AreIndexes};
 ghost use Rattle.dwz_move_files.specs.Outlines.{IsOutline};
 
 use crate::movable::movable_at;
 use crate::texts::explain_text;
 use crate::verdicts::explain;
-use dwz_graph::{Graph, Index, indexes};
+use dwz_graph::Graph;
 use dwz_groups::Tops;
 use dwz_model::{Blob, DEBUG_INFO, GraphErr, NoMemory, Place, Reason, Refusal};
 use dwz_move_files::outline_files;
@@ -21,12 +20,11 @@ use std::alloc::Global;
 use std::thread::Threads;
 
 // The top that begins at a place and may move, or the refusal of the place.
-fn top_at(graph: &Graph, indexes: &[Index], tops: &Tops, place: Place) -> Result<u32, GraphErr>
-    requires indexes { AreIndexes (docs_of graph.now.given) indexes.now }
-    requires tops { IsOutline (docs_of graph.now.given) tops.now }
+fn top_at(graph: &Graph, tops: &Tops, place: Place) -> Result<u32, GraphErr>
+    requires { IsOutline (docs_of graph.now.given) tops.now }
     ensures { AnswersTop (docs_of graph.now.given) (at_file place.file place.offset) result }
 {
-    match movable_at(graph, indexes, tops, place) {
+    match movable_at(graph, tops, place) {
         Some(top) => Ok(top),
         None => Err(GraphErr::Refused(Refusal {
             file: place.file,
@@ -42,13 +40,11 @@ fn text_of<R: Threads + Sync>(
     rt: &R,
     alloc: Global,
     graph: &Graph,
-    indexes: &[Index],
     tops: &Tops,
     workers: u32,
     a: u32,
     b: u32,
 ) -> Result<Blob, NoMemory>
-    requires indexes { AreIndexes (docs_of graph.now.given) indexes.now }
     requires tops { IsOutline (docs_of graph.now.given) tops.now }
     requires workers { (0 < workers) × (workers ≤ 64) }
     requires first { Movable (units_of (docs_of graph.now.given)) a }
@@ -56,8 +52,8 @@ fn text_of<R: Threads + Sync>(
     ensures { (p q : FilePlace) → IsMovableAt (docs_of graph.now.given) p a → IsMovableAt (docs_of graph.now.given) q b
         → IfOk result (IsTextOf (docs_of graph.now.given) p q) }
 {
-    let verdict = explain(rt, alloc, graph, indexes, tops, workers, a, b)?;
-    explain_text(alloc, graph, indexes, tops, a, b, &verdict)
+    let verdict = explain(rt, alloc, graph, tops, workers, a, b)?;
+    explain_text(alloc, graph, tops, a, b, &verdict)
 }
 
 /// Why two tops aren't shared, as it is printed: the tops are those that begin at the two places, in bytes from the first of `.debug_info`
@@ -75,10 +71,9 @@ pub fn explain_places<R: Threads + Sync>(
     requires workers { (0 < workers) × (workers ≤ 64) }
     ensures { Answers (Explains (docs_of graph.now.given) (at_file first.file first.offset) (at_file second.file second.offset)) result }
 {
-    let indexes = indexes(alloc, graph)?;
-    let outline = outline_files(rt, alloc, graph, &indexes, workers)?;
-    let a = top_at(graph, &indexes, &outline.tops, first)?;
-    let b = top_at(graph, &indexes, &outline.tops, second)?;
-    let text = text_of(rt, alloc, graph, &indexes, &outline.tops, workers, a, b)?;
+    let outline = outline_files(rt, alloc, graph, workers)?;
+    let a = top_at(graph, &outline.tops, first)?;
+    let b = top_at(graph, &outline.tops, second)?;
+    let text = text_of(rt, alloc, graph, &outline.tops, workers, a, b)?;
     Ok(text)
 }

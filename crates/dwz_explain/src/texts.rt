@@ -10,7 +10,6 @@ ghost use Rattle.dwz_def_tops.specs.Spots.{Top, tops_of, units_of};
 ghost use Rattle.dwz_explain.specs.Leading.{LeadsOn};
 ghost use Rattle.dwz_explain.specs.Reached.{IsAsked};
 ghost use Rattle.dwz_graph.specs.Files.{docs_of};
-ghost use Rattle.dwz_graph.specs.Indexed.{AreIndexes};
 ghost use Rattle.dwz_move_files.specs.Outlines.{IsOutline};
 ghost use Rattle.dwz_report.specs.Texts;
 
@@ -19,7 +18,7 @@ use crate::differences::{path_of, what_line};
 use crate::lines::{alike_line, depth_line, reference_line};
 use crate::spots::{place_of_top, spot_along, spot_of_top};
 use dwz_def_explain::{Verdict, What};
-use dwz_graph::{Graph, Index};
+use dwz_graph::Graph;
 use dwz_groups::Tops;
 use dwz_model::{Blob, NoMemory};
 use std::alloc::Global;
@@ -97,13 +96,11 @@ fn lines_of(run: &Asked, chain: &[u32], what: &What, a: u32, b: u32) -> Result<V
 pub fn explain_text(
     alloc: Global,
     graph: &Graph,
-    indexes: &[Index],
     tops: &Tops,
     a: u32,
     b: u32,
     verdict: &Verdict,
 ) -> Result<Blob, NoMemory>
-    requires indexes { AreIndexes (docs_of graph.now.given) indexes.now }
     requires tops { IsOutline (docs_of graph.now.given) tops.now }
     requires first { Movable (units_of (docs_of graph.now.given)) a }
     requires second { Movable (units_of (docs_of graph.now.given)) b }
@@ -114,7 +111,7 @@ pub fn explain_text(
     match verdict {
         Verdict::Alike => Ok(Blob::new(alike_line(alloc)?)),
         Verdict::Differ { chain, what } => {
-            let run = asked_of(alloc, graph, indexes, tops);
+            let run = asked_of(alloc, graph, tops);
             let text = lines_of(&run, chain.as_slice(), what, a, b)?;
             Ok(Blob::new(text))
         }

@@ -7,7 +7,6 @@ ghost use Rattle.dwz_def_tops.specs.Alike.{Alike, Movable};
 ghost use Rattle.dwz_def_tops.specs.Spots.{EntryName, FileUnit, Top, tops_of, units_of};
 ghost use Rattle.dwz_explain.specs.Verdicts.{HaveFewTargets, LabelEnds, LeadsApart, TellsDifference};
 ghost use Rattle.dwz_graph.specs.Files.{docs_of};
-ghost use Rattle.dwz_graph.specs.Indexed.{AreIndexes};
 ghost use Rattle.dwz_label.specs.Labels.{label_of};
 ghost use Rattle.dwz_label.specs.Shown.{AreShown, nth_label};
 ghost use Rattle.dwz_label_differences.specs.Told.{IsShort};
@@ -15,7 +14,7 @@ ghost use Rattle.dwz_label_files.specs.LeastLaws.{flags_of};
 ghost use Rattle.dwz_move_files.specs.Outlines.{IsOutline};
 
 use dwz_def_explain::Verdict;
-use dwz_graph::{Graph, Index};
+use dwz_graph::Graph;
 use dwz_groups::{Groups, Tops};
 use dwz_label::{Labels, firsts, nodes};
 use dwz_label_differences::what_differs;
@@ -26,12 +25,10 @@ use std::alloc::Global;
 use std::thread::Threads;
 
 // Tops of files that are kept are short, and have few references.
-fn look_at_tops(graph: &Graph, indexes: &[Index])
-    requires { AreIndexes (docs_of graph.now.given) indexes.now }
+fn look_at_tops(graph: &Graph)
     ensures short { (t : Top) → In t (tops_of (units_of (docs_of graph.now.given))) → IsShort t }
     ensures few { HaveFewTargets (units_of (docs_of graph.now.given)) }
 {
-    let _indexes = indexes;
     let _files = graph.files();
 }
 
@@ -113,13 +110,11 @@ pub fn explain<R: Threads + Sync>(
     rt: &R,
     alloc: Global,
     graph: &Graph,
-    indexes: &[Index],
     tops: &Tops,
     workers: u32,
     a: u32,
     b: u32,
 ) -> Result<Verdict, NoMemory>
-    requires indexes { AreIndexes (docs_of graph.now.given) indexes.now }
     requires tops { IsOutline (docs_of graph.now.given) tops.now }
     requires workers { (0 < workers) × (workers ≤ 64) }
     requires first { Movable (units_of (docs_of graph.now.given)) a }
@@ -127,10 +122,10 @@ pub fn explain<R: Threads + Sync>(
     ensures { (x y : Top) → In x (tops_of (units_of (docs_of graph.now.given))) → In y (tops_of (units_of (docs_of graph.now.given))) → x.number ≡ a
         → y.number ≡ b → IfOk result (IsExplained (units_of (docs_of graph.now.given)) x y) }
 {
-    look_at_tops(graph, indexes);
+    look_at_tops(graph);
     let movable = movable_of(alloc, tops)?;
     let flags = movable.as_slice();
-    let labels = labels(rt, alloc, graph, indexes, flags, workers)?;
+    let labels = labels(rt, alloc, graph, flags, workers)?;
     match chain_of(alloc, &labels, &tops.targets, flags, a, b)? {
         None => Ok(Verdict::Alike),
         Some(apart) => verdict_at(alloc, &labels, &apart),

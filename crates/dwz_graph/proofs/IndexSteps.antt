@@ -32,11 +32,11 @@ AreDocs l [] [] [] = Unit {0}
 AreDocs l (bytes ∷ contents) (f ∷ files) (doc ∷ docs) = (file_meaning l bytes ≡ Ok (units_of f.units, doc)) × AreGiven f.units × AreDocs (limits_after l bytes (units_of f.units)) contents files docs
 AreDocs l _ _ _ = ⊥
 
-record HasDocs (l : Limits) (contents : List (List ℕ)) (files : List File) : Type 0 where
-  docs : List (Doc ℕ)
-  are : AreDocs l contents files docs
+pub record HasDocs (l : Limits) (contents : List (List ℕ)) (files : List File) : Type 0 where
+  pub docs : List (Doc ℕ)
+  pub are : AreDocs l contents files docs
 
-docs_there : (l : Limits) (n : ℕ) (contents : List (List ℕ)) (files : List File) (end : Limits) → AreRead l n contents files end → HasDocs l contents files
+pub docs_there : (l : Limits) (n : ℕ) (contents : List (List ℕ)) (files : List File) (end : Limits) → AreRead l n contents files end → HasDocs l contents files
 docs_there l n [] [] end h = record { docs = []; are = tt }
 docs_there l n [] (f ∷ files) end h = absurd h
 docs_there l n (b ∷ contents) [] end h = absurd h
@@ -55,7 +55,7 @@ all_docs l n [] (f ∷ files) docs h = absurd h
 all_docs l n (b ∷ contents) [] docs h = absurd h
 all_docs l n (b ∷ contents) (f ∷ files) [] h = absurd h
 
-docs_are : (contents : List (List ℕ)) (files : List File) (docs : List (Doc ℕ)) → AreDocs no_files_before contents files docs → docs_of contents ≡ docs
+pub docs_are : (contents : List (List ℕ)) (files : List File) (docs : List (Doc ℕ)) → AreDocs no_files_before contents files docs → docs_of contents ≡ docs
 unfolding docs_of
 docs_are contents files docs h = ap or_none (all_docs no_files_before 0 contents files docs h)
 

@@ -1,7 +1,7 @@
 -- The files of a graph, from what was read of each.
 use Rattle.std.proofs.Common.{◌≡◌, ℕ, ◌^◌, ◌<◌, ◌≤◌, List, [], length, Some, None, Ok, refl, sym, ap, subst, ◌∙◌, arith}
 use Rattle.dwz_def_reading.specs.Documents.{Doc}
-use Rattle.dwz_def_reading.specs.Files.{Limits, file_meaning_by, limits_after, longest_file, no_files_before}
+use Rattle.dwz_def_reading.specs.Files.{Limits, file_meaning_by, files_meaning, limits_after, longest_file, no_files_before}
 use Rattle.dwz_def_reading.specs.Finished.{common_read, rule_of_back}
 use Rattle.dwz_def_reading.specs.Meanings.{Sources, all_places}
 use Rattle.dwz_def_reading.specs.Units.{RawUnit}
@@ -9,7 +9,9 @@ use Rattle.dwz_def_reading.proofs.FileLemmas.{file_agrees_by}
 use Rattle.dwz_graph.specs.declared.file.File.{File}
 use Rattle.dwz_graph.specs.declared.rule.Beside.{Beside}
 use Rattle.dwz_graph.specs.ByRule.{IsReadBy, back_rule, common_rule, numbered_rule}
-use Rattle.dwz_graph.specs.Files.{AreBack, AreKept, AreReadFrom}
+use Rattle.dwz_graph.specs.Files.{AreBack, AreKept, AreReadFrom, docs_of}
+use Rattle.dwz_graph.specs.Index.{Index}
+use Rattle.dwz_graph.specs.Indexed.{AreIndexes, first_starts}
 use Rattle.dwz_unit.specs.declared.mode.FileKind.TheVariants.{Common}
 use Rattle.dwz_unit.specs.Rows.{Source, units_of}
 use Rattle.dwz_graph.proofs.BesideLemmas.{beside_is}
@@ -21,6 +23,13 @@ use Rattle.dwz_graph.proofs.PlaceLemmas.{places_are, places_many}
 pub none_kept : (contents : List (List ℕ)) (files : List File) → contents ≡ [] → files ≡ [] → AreKept contents files
 none_kept contents files none empty =
     subst (λ (fs : List File). AreKept contents fs) (sym empty) (subst (λ (xs : List (List ℕ)). AreKept xs []) (sym none) (record { end = no_files_before; are = refl }))
+
+-- and they have no indexes
+pub none_indexed : (contents : List (List ℕ)) (indexes : List Index) → contents ≡ [] → indexes ≡ [] → AreIndexes (docs_of contents) indexes
+unfolding docs_of files_meaning
+none_indexed contents indexes none empty =
+    subst (λ (xs : List Index). AreIndexes (docs_of contents) xs) (sym empty)
+    (subst (λ (cs : List (List ℕ)). AreIndexes (docs_of cs) []) (sym none) (record { end = first_starts; are = refl }))
 
 -- none may have been written
 pub none_back : (contents : List (List ℕ)) (files : List File) → contents ≡ [] → files ≡ [] → AreBack None contents files

@@ -27,6 +27,7 @@ pub mod ListPasses
 pub mod ListKept
 pub mod ListStates
 pub mod ListGoes
+pub mod QuickSteps
 pub mod PartSteps
 pub mod LineSteps
 pub mod FewRefs
@@ -71,6 +72,7 @@ pub mod ChainLemmas
 pub mod RowUnits
 pub mod IndexRoom
 pub mod IndexSteps
+pub mod IndexesThere
 pub mod StopSteps
 pub mod JoinLemmas
 pub mod StretchLemmas

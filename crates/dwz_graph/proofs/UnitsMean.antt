@@ -147,7 +147,12 @@ module _ (around : Around ℕ) where
   pub has_tops : (s : Starts) (raw : List RawUnit) (said : List (DwUnit ℕ)) (x : Index) → MeanUnits around raw said → x ≡ with_units s.unit 0 raw (nothing_yet s) → HasTops s said x
   has_tops s raw said x h e =
       let same = e ∙ all_mean s raw said h in
-      record { starts_are = ap (λ (w : Index). w.starts) same; tops_are = ap (λ (w : Index). w.tops) same; spaces_are = ap (λ (w : Index). w.spaces) same }
+      record {
+        starts_are = ap (λ (w : Index). w.starts) same;
+        steps_are = ap (λ (w : Index). w.steps) same;
+        tops_are = ap (λ (w : Index). w.tops) same;
+        spaces_are = ap (λ (w : Index). w.spaces) same;
+      }
 
   -- ---- no unit is partial
 

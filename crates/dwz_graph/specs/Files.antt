@@ -21,6 +21,8 @@ use Rattle.dwz_graph.specs.declared.file.File.{File}
 use Rattle.dwz_graph.specs.declared.file.Budget.{Budget}
 use Rattle.dwz_graph.specs.ByRule.{AreReadAs, AreReadBy, IsReadBy, numbered_rule}
 use Rattle.dwz_graph.specs.Given.{AreGiven}
+use Rattle.dwz_graph.specs.Index.{Index}
+use Rattle.dwz_graph.specs.Indexed.{AreIndexes}
 use Rattle.dwz_graph.specs.Named.{units_refs}
 use Rattle.dwz_graph.specs.Parts.{AreParted, HaveLines}
 use Rattle.dwz_graph.specs.Resolved.{AreEntries, place_at, sources_view}
@@ -157,8 +159,9 @@ AreBack (Some bytes) contents files =
     × AreReadFromBy (numbered_rule (rule_of_back (Some (common_read contents bytes units)) 0)) (Back true) (limits_after no_files_before bytes units)
     contents files
 
--- all files of a graph
-pub record AreFilesOf (r : FilesRead) (common : Option File) (given back : List File) : Type 0 where
+-- all files of a graph, and what the entries of those are that were given
+pub record AreFilesOf (r : FilesRead) (common : Option File) (given back : List File) (indexes : List Index) : Type 0 where
   pub common_is : HasCommon (length r.given + length r.back) r.common common
   pub given_are : AreKept r.given given
   pub back_are : AreBack r.common r.back back
+  pub indexes_are : AreIndexes (docs_of r.given) indexes

@@ -6,7 +6,7 @@ use Rattle.dwz_graph.specs.declared.index.SpaceEntry.{SpaceEntry}
 use Rattle.dwz_graph.specs.declared.index.Starts.{Starts}
 use Rattle.dwz_graph.specs.declared.index.Step.{Step}
 use Rattle.dwz_graph.specs.declared.index.TopEntry.{TopEntry}
-use Rattle.dwz_graph.specs.Steps.{all_spaces, all_tops, below_root, is_space}
+use Rattle.dwz_graph.specs.Steps.{all_spaces, all_steps, all_tops, below_root, is_space}
 
 -- what is kept: of each entry the way up, the tops, the spaces, and the numbers that the file begins with
 pub record Index : Type 0 where
@@ -44,8 +44,9 @@ pub record IsIndex (names : List EntryName) (x : Index) : Type 0 where
   pub len : length x.steps ≡ length names
   pub each : (i : ℕ) (s : Step) (name : EntryName) → slice_get x.steps i ≡ Some s → slice_get names i ≡ Some name → Shows names i s name
 
--- the tops and spaces are those of the units, which begin with these numbers
+-- the ways up, the tops and the spaces are those of the units, which begin with these numbers
 pub record HasTops (starts : Starts) (units : List (DwUnit ℕ)) (x : Index) : Type 0 where
   pub starts_are : x.starts ≡ starts
+  pub steps_are : x.steps ≡ all_steps is_space starts 0 (map below_root units)
   pub tops_are : x.tops ≡ all_tops is_space starts 0 (map below_root units)
   pub spaces_are : x.spaces ≡ all_spaces is_space starts 0 (map below_root units)

@@ -6,6 +6,7 @@ pub mod ListParts
 pub mod State
 pub mod Surroundings
 pub mod Resolved
+pub mod Quick
 pub mod Said
 pub mod Operands
 pub mod FileRows

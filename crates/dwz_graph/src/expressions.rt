@@ -1,10 +1,11 @@
 //! Expressions that values are (DWARF 5, 2.5), and the entries that their operands name.
 
-ghost use Rattle.std.specs.Prelude.{◌≡◌, ◌-◌, ◌<◌, ◌≤◌, List, length, IfSome};
+ghost use Rattle.std.specs.Prelude.{◌≡◌, ◌-◌, ◌<◌, ◌≤◌, true, List, length, IfSome};
 ghost use Rattle.dwz_def_reading.specs.Units.{RawUnit, entries_in};
 ghost use Rattle.dwz_forms.specs.RawValues.{raw_view};
 ghost use Rattle.dwz_def_reading.specs.Meanings;
 ghost use Rattle.dwz_def_reading.specs.Shared.{NamedList};
+ghost use Rattle.dwz_expr.specs.Few.{NamesNone};
 ghost use Rattle.dwz_model.specs.declared.fault.ReadErr.TheVariants.{Refused};
 ghost use Rattle.dwz_model.specs.declared.fault.Reason.TheVariants.{BadOperand};
 ghost use Rattle.dwz_graph.specs.Operands.{LooksUp, NamesAll, expr_named, lacks_memory};
@@ -169,4 +170,12 @@ pub(crate) fn add_expression(
         return Ok(());
     }
     add_any(units, around, here, end, raw, state)
+}
+
+/// Whether a value is an expression of plain operators, seen at once.
+#[inline(always)]
+pub(crate) fn is_plain_expression(raw: &Raw) -> bool
+    ensures { result ≡ true → NamesNone (Meanings.bytes_of (raw_view raw.now)) }
+{
+    is_plain(bytes_of(raw))
 }

@@ -15,6 +15,7 @@ ghost use Rattle.dwz_model.specs.declared.fault.Reason.TheVariants.{BadFile};
 ghost use Rattle.dwz_def_reading.specs.Faults.{Answers, info_fault};
 ghost use Rattle.dwz_graph.specs.FileRows.{FindsTable, IfLearns, IsLine, KnowTables, SaysConstant, SaysFile, line_of, number_at};
 ghost use Rattle.dwz_graph.specs.FileRows.{unless_none};
+ghost use Rattle.dwz_graph.specs.Quick.{HasFileAt};
 ghost use Rattle.dwz_graph.specs.Resolved.{sources_view};
 
 use crate::here::Here;
@@ -149,6 +150,20 @@ impl<'a> Files<'a> {
         self.tables.push(table)?;
         self.places.insert(place, number)?;
         Ok(number)
+    }
+
+    /// Whether a value numbers a file of the table that was asked for last, which begins at `line`.
+    #[inline(always)]
+    pub(crate) fn has_at_once(&self, line: Option<u32>, raw: &Raw) -> bool
+        ensures { result ≡ true → HasFileAt self.now line (Meanings.number_of (raw_view raw.now)) }
+    {
+        match line {
+            None => false,
+            Some(place) => match self.places.last_at(place) {
+                None => false,
+                Some(table) => has_row(&self.tables, table, number_of(raw)),
+            },
+        }
     }
 
     /// Goes on where a value that stands at a place numbers a file of its unit, whose line table begins at `line`, if it has one.

@@ -62,3 +62,22 @@ pub(crate) fn find_again(
     hints.keep(place, number);
     Some(number)
 }
+
+/// The same, where it is kept which it is.
+#[inline(always)]
+pub(crate) fn find_hinted(
+    units: &Units,
+    first: u32,
+    end: u32,
+    place: u128,
+    hints: &Hints,
+) -> Option<u32>
+    requires { end ≤ entries_in (units_of units.now) }
+    ensures { IfSome result (λ i. (first ≤ i) × (i < end) × (place_at (units_of units.now) i ≡ place)) }
+{
+    let hint = hints.get(place);
+    if begins_at(units, first, end, place, hint) {
+        return Some(hint);
+    }
+    None
+}

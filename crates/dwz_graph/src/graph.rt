@@ -10,24 +10,27 @@ ghost use Rattle.dwz_def_reading.specs.Shared.{AreRows};
 ghost use Rattle.dwz_graph.specs.ListRows.{AreOfFile, operand_view};
 ghost use Rattle.dwz_def_reading.specs.Files.{Limits, around_of, files_meaning, no_files_before};
 ghost use Rattle.dwz_graph.specs.Files.{AreBack, AreKept, FilesAnswer, HasCommon, HasFile, HasRead, docs_of, said_beside, said_finished};
+ghost use Rattle.dwz_graph.specs.Indexed.{AreIndexes};
 
-use crate::ListOperand;
 use crate::common_file::CommonFile;
 use crate::file::{File, all_left};
+use crate::index_files::indexes_of;
 use crate::readings::{behind, files_by, given_files};
 use crate::rule::Rule;
+use crate::{Index, ListOperand};
 use dwz_model::GraphErr;
 use std::alloc::Global;
 use std::marker::Model;
 use std::thread::Threads;
 
-/// The files of a run, each with its units, and with its references resolved. Clauses see the contents of the files, by the rule by which
-/// they were read; what those say that were given is `docs_of`.
+/// The files of a run, each with its units, and with its references resolved, and what the entries of those are that were given. Clauses
+/// see the contents of the files, by the rule by which they were read; what those say that were given is `docs_of`.
 #[derive(Drop)]
 pub struct Graph<'a> {
     common: Option<CommonFile<'a>>,
     contents: &'a [Vec<u8>],
     files: Vec<File<'a>>,
+    indexes: Vec<Index>,
     back_contents: &'a [Vec<u8>],
     back: Vec<File<'a>>,
 }
@@ -42,7 +45,7 @@ impl<'a> Model for Graph<'a> {
     ghost view = { λ g. record { common = option_map (λ c. c.bytes.now) g.common; given = map (λ v. v.items) g.contents.now; back = map (λ v. v.items) g.back_contents.now } };
 
     ghost invariant = { λ g. AreFilesOf (record { common = option_map (λ c. c.bytes.now) g.common; given = map (λ v. v.items) g.contents.now; back = map (λ v. v.items) g.back_contents.now })
-        (option_map (λ c. c.file) g.common) g.files.items g.back.items };
+        (option_map (λ c. c.file) g.common) g.files.items g.back.items g.indexes.items };
 }
 
 // Files that may have been written, without a common file.
@@ -56,6 +59,7 @@ fn back_alone<'a>(alloc: Global, files: &'a [Vec<u8>]) -> Result<Graph<'a>, Grap
         common: None,
         contents: &files[..0],
         files: Vec::new(alloc),
+        indexes: Vec::new(alloc),
         back_contents: files,
         back,
     })
@@ -79,6 +83,7 @@ fn back_beside<'a>(
         common: Some(common),
         contents: &files[..0],
         files: Vec::new(alloc),
+        indexes: Vec::new(alloc),
         back_contents: files,
         back,
     })
@@ -100,10 +105,12 @@ impl<'a> Graph<'a> {
         ensures contents { IfOk result (λ graph. graph ≡ record { common = None; given = map (λ v. v.items) files.now; back = [] }) }
     {
         let kept = given_files(rt, alloc, files, workers, &all_left())?;
+        let indexes = indexes_of(alloc, &kept)?;
         Ok(Graph {
             common: None,
             contents: files,
             files: kept,
+            indexes,
             back_contents: &files[..0],
             back: Vec::new(alloc),
         })
@@ -126,10 +133,12 @@ impl<'a> Graph<'a> {
         let shared = CommonFile::read(alloc, files.len() as u32, common)?;
         let left = behind(&all_left(), common, &shared.file);
         let kept = given_files(rt, alloc, files, workers, &left)?;
+        let indexes = indexes_of(alloc, &kept)?;
         Ok(Graph {
             common: Some(shared),
             contents: files,
             files: kept,
+            indexes,
             back_contents: &files[..0],
             back: Vec::new(alloc),
         })
@@ -175,6 +184,13 @@ impl<'a> Graph<'a> {
         ensures { AreKept self.now.given result.now }
     {
         self.files.as_slice()
+    }
+
+    /// What the entries of each file that was given are, file by file. Units, tops and spaces are numbered from 0 over all files.
+    pub fn indexes(&self) -> &[Index]
+        ensures { AreIndexes (docs_of self.now.given) result.now }
+    {
+        self.indexes.as_slice()
     }
 
     /// The file with a number of those that were given, as it was read.

@@ -6,8 +6,9 @@
 //! them, and `Graph::read_back` files that may have been written, beside one or without. `Resolved` says of a file what its values name: a
 //! number for each reference and each operand, line tables, operands of location lists.
 //!
-//! `indexes` makes an `Index` for each file, with units, tops and spaces numbered over all of them: `top_of` and `put_path` say where an
-//! entry stands, `space_text` what a space is called. `first_attr` is the first value of a name, `here_of` what a unit's root says.
+//! `Graph::indexes` has an `Index` of each file that was given, with units, tops and spaces numbered over all of them: `top_of` and
+//! `put_path` say where an entry stands, `space_text` what a space is called. `first_attr` is the first value of a name, `here_of` what a
+//! unit's root says.
 //!
 //! Laws: the entry with a number has the name that stands for its place (`name_laws`, `top_laws`); flat rows mean the entries of the
 //! document, in step (`flat_laws`, `step_laws`, `part_laws`); documents with places, from those where numbers stand for these
@@ -39,6 +40,7 @@ mod operands;
 mod parts;
 mod placed;
 mod places;
+mod quick;
 mod ranges;
 mod readings;
 mod references;
@@ -61,7 +63,6 @@ pub use flat::{flat_laws, flat_name_laws, flat_top_laws, part_laws, step_laws};
 pub use graph::Graph;
 pub use here::{Here, here_of};
 pub use index::{Index, SpaceEntry, Starts, TopEntry};
-pub use index_files::indexes;
 pub use operands::ListOperand;
 pub use placed::placed_laws;
 pub use resolving::Resolved;

@@ -329,3 +329,12 @@ pub(crate) fn add_indexed(
     state.lists.slots.push(slot.at)?;
     Ok(())
 }
+
+/// Whether the list at a place was read for the unit.
+#[inline(always)]
+pub(crate) fn is_read_list(around: &Surroundings, here: &Here, place: u128, lists: &Lists) -> bool
+    ensures within { result ≡ true → place < length around.now.sections.lists.now }
+    ensures marked { result ≡ true → WasMarked lists.now.rows.items lists.now.marks.items place here.now.number }
+{
+    place < around.sections.lists.len() as u128 && was_read(lists, place as u64, here.number)
+}

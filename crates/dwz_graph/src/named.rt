@@ -24,16 +24,14 @@ use crate::here::{Here, here_of};
 use crate::kinds::check_kind;
 use crate::lists::{add_indexed, add_offset};
 use crate::parts::Parts;
+use crate::quick::add_quick;
 use crate::references::{add_common, add_entry};
 use crate::sections::offset_of;
 use crate::state::State;
 use crate::strings::{check_text, has_common_text, has_slot_text};
 use crate::surroundings::Surroundings;
 use dwz_bytes::Cursor;
-use dwz_codes::{
-    Class, DW_AT_SIBLING, DW_FORM_DATA1, DW_FORM_DATA2, DW_FORM_IMPLICIT_CONST, DW_FORM_LINE_STRP,
-    DW_FORM_REF4, DW_FORM_STRP, class_of,
-};
+use dwz_codes::{Class, DW_AT_SIBLING, class_of};
 use dwz_forms::Raw;
 use dwz_model::{DEBUG_INFO, Fault, Pair, ReadErr, Reason};
 use dwz_unit::{Stops, Units, known_value, pass_bytes};
@@ -190,7 +188,7 @@ fn add_value<'a>(
     add_attr(units, around, here, at, end, pair, &raw, state)
 }
 
-// The same, of forms that few values have.
+// The same, kept out of the way of values that are told at once.
 #[inline(never)]
 fn add_rare<'a>(
     units: &Units,
@@ -213,48 +211,6 @@ fn add_rare<'a>(
         (attr_named (scope_within around.now (units_of units.now) u) (value_between cursor.old x.1 pair.now x.0))) }
 {
     add_value(units, around, here, pair, cursor, state)
-}
-
-// The same. The forms that most values have are told apart first: what is laid out for one of them asks no more for its form.
-#[inline(always)]
-fn add_stop<'a>(
-    units: &Units,
-    around: &Surroundings<'a, '_>,
-    here: &Here,
-    pair: &Pair,
-    cursor: &mut Cursor,
-    state: &mut State<'a>,
-) -> Result<(), ReadErr>
-    requires here { here.now.end ≤ entries_in (units_of units.now) }
-    requires room { entries_among (common_view around.now.common) (units_of units.now) < 2 ^ 32 }
-    requires read { IsOk (value_at written_rows pair.now cursor.old) }
-    ensures file { state.new.file ≡ state.old.file }
-    ensures read { IfOk (value_at written_rows pair.now cursor.old) (λ x. IfOk result (λ y. cursor.new ≡ x.1)) }
-    ensures learns { IfOk (value_at written_rows pair.now cursor.old) (λ x.
-        IfLearns (numbers_file (value_between cursor.old x.1 pair.now x.0)) here.now.line state.old.files state.new.files result) }
-    ensures goes { IfOk (value_at written_rows pair.now cursor.old) (λ x. (u : RawUnit) (before : List NamedList) → IsHere (units_of units.now) u here.now
-        → StateIn around.now (units_of units.now) u here.now before state.old
-        → Goes (common_view around.now.common) (units_of units.now) (StateIn around.now (units_of units.now) u here.now) before state.old state.new result
-        (attr_named (scope_within around.now (units_of units.now) u) (value_between cursor.old x.1 pair.now x.0))) }
-{
-    match pair.form {
-        DW_FORM_REF4 => add_value(units, around, here, pair, cursor, state),
-        DW_FORM_STRP => add_value(units, around, here, pair, cursor, state),
-        DW_FORM_DATA1 => add_value(units, around, here, pair, cursor, state),
-        DW_FORM_DATA2 => add_value(units, around, here, pair, cursor, state),
-        DW_FORM_IMPLICIT_CONST => add_value(units, around, here, pair, cursor, state),
-        DW_FORM_LINE_STRP => add_value(units, around, here, pair, cursor, state),
-        _ => {
-            let mut aside = Cursor::new(cursor.bytes(), cursor.at());
-            match add_rare(units, around, here, pair, &mut aside, state) {
-                Ok(()) => {
-                    *cursor = aside;
-                    Ok(())
-                }
-                Err(error) => Err(error),
-            }
-        }
-    }
 }
 
 // Adds what an entry names.
@@ -285,7 +241,11 @@ fn add_values<'a>(
     for stop in stops {
         pass_bytes(&mut cursor, stop.skip);
         let pair = &pairs[stop.number];
-        add_stop(units, around, here, pair, &mut cursor, state)?;
+        if !add_quick(units, around, here, pair, &mut cursor, state) {
+            let mut aside = Cursor::new(cursor.bytes(), cursor.at());
+            add_rare(units, around, here, pair, &mut aside, state)?;
+            cursor = aside;
+        }
     }
     Ok(())
 }

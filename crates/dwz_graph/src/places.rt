@@ -1,6 +1,6 @@
 //! The numbers of the line tables that were read, by their places.
 
-ghost use Rattle.std.specs.Prelude.{◌≡◌, ℕ, None, Some, OnOk, cond, nat_eq};
+ghost use Rattle.std.specs.Prelude.{◌≡◌, ℕ, None, Some, IfSome, OnOk, cond, nat_eq};
 ghost use Rattle.dwz_graph.specs.TablePlaces.{number_in};
 
 use dwz_model::NoMemory;
@@ -64,6 +64,23 @@ impl TablePlaces {
             }
         }
         self.look_up(place)
+    }
+
+    /// The number of the table at a place, if it was asked for last.
+    #[inline(always)]
+    pub(crate) fn last_at(&self, place: u32) -> Option<usize>
+        ensures { IfSome result (λ number. number_in self.now place ≡ Some number) }
+    {
+        match self.last {
+            None => None,
+            Some(last) => {
+                if last.place == place {
+                    Some(last.table)
+                } else {
+                    None
+                }
+            }
+        }
     }
 
     fn look_up(&mut self, place: u32) -> Option<usize>

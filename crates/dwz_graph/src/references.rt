@@ -1,6 +1,6 @@
 //! Entries that values name (DWARF 5, 7.5.5, class reference).
 
-ghost use Rattle.std.specs.Prelude.{◌≡◌, ℕ, ◌^◌, ◌<◌, ◌≤◌, List, Option, slice_range};
+ghost use Rattle.std.specs.Prelude.{◌≡◌, ℕ, ◌^◌, ◌<◌, ◌≤◌, true, false, List, Option, slice_range};
 ghost use Rattle.dwz_def_reading.specs.Faults.{info_fault};
 ghost use Rattle.dwz_def_reading.specs.Units.{entries_in};
 ghost use Rattle.dwz_def_reading.specs.Entries.{RawAttr};
@@ -8,11 +8,12 @@ ghost use Rattle.dwz_def_reading.specs.Meanings.{Common, offset_of};
 ghost use Rattle.dwz_def_reading.specs.Meant.{common_entry, entry_among};
 ghost use Rattle.dwz_model.specs.declared.fault.Reason.TheVariants.{BadReference};
 ghost use Rattle.dwz_model.specs.declared.fault.ReadErr.TheVariants.{Refused};
+ghost use Rattle.dwz_graph.specs.Quick.{AddsEntry};
 ghost use Rattle.dwz_graph.specs.Resolved.{NamesEntry, places};
 ghost use Rattle.dwz_graph.specs.Surroundings.{common_view, entries_among};
 ghost use Rattle.dwz_unit.specs.Rows.{units_of};
 
-use crate::find::find_again;
+use crate::find::{find_again, find_hinted};
 use crate::hints::Hints;
 use crate::surroundings::CommonPart;
 use dwz_model::{DEBUG_INFO, Fault, ReadErr, Reason};
@@ -50,6 +51,30 @@ pub(crate) fn add_entry(
             Ok(())
         }
         None => Err(bad_reference(at)),
+    }
+}
+
+/// Adds the entry that begins at a place, where a hint says which it is.
+#[inline(always)]
+pub(crate) fn add_hinted(
+    units: &Units,
+    first: u32,
+    end: u32,
+    place: u128,
+    refs: &mut Vec<u32>,
+    hints: &Hints,
+) -> bool
+    requires { end ≤ entries_in (units_of units.now) }
+    ensures added { result ≡ true → (common : Option (Common ℕ)) (own : List ℕ) (at : ℕ) → slice_range (places (units_of units.now)) first end ≡ own
+        → AddsEntry common (units_of units.now) refs.old.items refs.new.items (entry_among (λ n. n) own at place) }
+    ensures same { result ≡ false → refs.new.items ≡ refs.old.items }
+{
+    match find_hinted(units, first, end, place, hints) {
+        None => false,
+        Some(number) => match refs.push(number) {
+            Ok(()) => true,
+            Err(_) => false,
+        },
     }
 }
 

@@ -8,7 +8,6 @@ ghost use Rattle.dwz_def_tops.specs.Spots.{SpaceName, name_list, tops_of};
 ghost use Rattle.dwz_graph.specs.Chains.{IsSpaceAt};
 ghost use Rattle.dwz_graph.specs.Files.{IsRead, docs_of};
 ghost use Rattle.dwz_graph.specs.Index as Seen;
-ghost use Rattle.dwz_graph.specs.Indexed.{AreIndexes};
 ghost use Rattle.dwz_graph_view.specs.SpaceRows;
 ghost use Rattle.dwz_graph_view.specs.SpaceRows.{HasTopAt, IsWayOut};
 ghost use Rattle.dwz_unit.specs.Rows.{units_of};
@@ -111,14 +110,13 @@ fn put_outward<'a>(
 pub fn spaces_of<'a>(
     alloc: Global,
     graph: &Graph<'a>,
-    indexes: &[Index],
     top: u32,
 ) -> Result<Option<Vec<&'a [u8]>>, NoMemory>
-    requires { AreIndexes (docs_of graph.now.given) indexes.now }
     ensures { IfOk result (λ names. option_map (λ v. map (λ t. t.now) v.items) names
         ≡ option_map name_list (slice_get (tops_of (Spots.units_of (docs_of graph.now.given))) top)) }
 {
     let files = graph.files();
+    let indexes = graph.indexes();
     let Some(TopSpot { file, top }) = find_top(indexes, top) else {
         return Ok(None);
     };

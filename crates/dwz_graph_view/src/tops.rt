@@ -5,7 +5,6 @@ ghost use Rattle.dwz_def_images.specs.After.{at_file, name_of_place};
 ghost use Rattle.dwz_def_tops.specs.Spots.{EntryName};
 ghost use Rattle.dwz_graph.specs.Files.{docs_of};
 ghost use Rattle.dwz_graph.specs.Index.{IsIndex};
-ghost use Rattle.dwz_graph.specs.Indexed.{AreIndexes};
 ghost use Rattle.dwz_graph.specs.Names.{path_in, top_in};
 ghost use Rattle.dwz_graph_view.specs.TopPaths.{IsNamedBy, path_from_top};
 
@@ -15,13 +14,13 @@ use dwz_model::{NoMemory, Numbers, Place};
 use std::alloc::Global;
 
 // The index of the file of a place, and the number there of the entry that begins at the place.
-fn indexed_at<'a>(graph: &Graph, indexes: &'a [Index], place: Place) -> Option<(&'a Index, u32)>
-    requires { AreIndexes (docs_of graph.now.given) indexes.now }
+fn indexed_at<'a>(graph: &'a Graph<'_>, place: Place) -> Option<(&'a Index, u32)>
     ensures found { IfSome result (λ found. IsNamedBy found.0.now found.1
         (name_of_place (docs_of graph.now.given) (at_file place.file place.offset))) }
     ensures none { result ≡ None → top_in (name_of_place (docs_of graph.now.given) (at_file place.file place.offset)) ≡ None }
 {
     let files = graph.files();
+    let indexes = graph.indexes();
     if place.file as usize >= files.len() {
         return None;
     }
@@ -31,11 +30,10 @@ fn indexed_at<'a>(graph: &Graph, indexes: &'a [Index], place: Place) -> Option<(
 
 /// The number of the top, among those of all files, in which the entry stands that begins at a place. None exactly where no entry begins
 /// there, or where it is a root, a space, or an entry of a type unit.
-pub fn top_of(graph: &Graph, indexes: &[Index], place: Place) -> Option<u32>
-    requires { AreIndexes (docs_of graph.now.given) indexes.now }
+pub fn top_of(graph: &Graph, place: Place) -> Option<u32>
     ensures { result ≡ top_in (name_of_place (docs_of graph.now.given) (at_file place.file place.offset)) }
 {
-    let (index, entry) = indexed_at(graph, indexes, place)?;
+    let (index, entry) = indexed_at(graph, place)?;
     index.top_of(entry)
 }
 
@@ -53,16 +51,10 @@ fn path_to(alloc: Global, index: &Index, entry: u32) -> Result<Numbers, NoMemory
 
 /// The child indexes from its top down to the entry that begins at a place: the first is one among the children of the top. A top has none.
 /// None exactly where `top_of` is.
-pub fn path_of(
-    alloc: Global,
-    graph: &Graph,
-    indexes: &[Index],
-    place: Place,
-) -> Result<Option<Numbers>, NoMemory>
-    requires { AreIndexes (docs_of graph.now.given) indexes.now }
+pub fn path_of(alloc: Global, graph: &Graph, place: Place) -> Result<Option<Numbers>, NoMemory>
     ensures { IfOk result (λ path. path ≡ path_from_top (name_of_place (docs_of graph.now.given) (at_file place.file place.offset))) }
 {
-    let Some((index, entry)) = indexed_at(graph, indexes, place) else {
+    let Some((index, entry)) = indexed_at(graph, place) else {
         return Ok(None);
     };
     if index.top_of(entry).is_none() {

@@ -4,13 +4,12 @@ ghost use Rattle.std.specs.Prelude.{◌≡◌, ◌<◌, ◌≤◌, All, length, 
 ghost use Rattle.dwz_def_tops.specs.Spots.{tops_of, units_of};
 ghost use Rattle.dwz_label_files.specs.Shown.{ShowTargets};
 ghost use Rattle.dwz_graph.specs.Files.{docs_of};
-ghost use Rattle.dwz_graph.specs.Indexed.{AreIndexes};
 ghost use Rattle.dwz_label.specs.Nodes.{AreLeast};
 
 use crate::least_alike;
 use crate::tops::labels;
 use dwz_gate::Gate;
-use dwz_graph::{Graph, Index};
+use dwz_graph::Graph;
 use dwz_groups::Tops;
 use dwz_model::{NoMemory, Numbers};
 use std::alloc::Global;
@@ -23,13 +22,11 @@ pub fn least<R: Threads + Sync, G: Gate>(
     rt: &R,
     alloc: Global,
     graph: &Graph,
-    indexes: &[Index],
     tops: &Tops,
     movable: &[bool],
     workers: u32,
     gate: &G,
 ) -> Result<Numbers, NoMemory>
-    requires indexes { AreIndexes (docs_of graph.now.given) indexes.now }
     requires movable { length movable.now ≡ length (tops_of (units_of (docs_of graph.now.given))) }
     requires targets { length tops.now.targets ≡ length (tops_of (units_of (docs_of graph.now.given))) }
     requires inside { All (λ ts. All (λ t. t < length tops.now.targets) ts) tops.now.targets }
@@ -37,6 +34,6 @@ pub fn least<R: Threads + Sync, G: Gate>(
     ensures { ShowTargets (units_of (docs_of graph.now.given)) movable.now tops.now.targets
         → IfOk result (λ least. AreLeast (units_of (docs_of graph.now.given)) least) }
 {
-    let labels = labels(rt, alloc, graph, indexes, movable, workers)?;
+    let labels = labels(rt, alloc, graph, movable, workers)?;
     least_alike(rt, alloc, &labels, movable, &tops.targets, workers, gate)
 }

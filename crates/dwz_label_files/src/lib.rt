@@ -1,8 +1,8 @@
 //! For each top of all files the least one that is alike to it, by labels, nodes and rounds.
 //!
-//! `least` takes the graph, the indexes, flags of what may move and targets, and answers a number for each top, the same for every number
-//! of workers and every gate; `labels` makes the labels of those that may move, `least_alike` goes from labels to the answer. The scope
-//! isn't asked: a plan asks beside for equal files. The law `plan_laws`: by these numbers a plan decides, in either scope, just which tops
+//! `least` takes the graph, flags of what may move and targets, and answers a number for each top, the same for every number of workers
+//! and every gate; `labels` makes the labels of those that may move, `least_alike` goes from labels to the answer. The scope isn't asked: a
+//! plan asks beside for equal files. The law `plan_laws`: by these numbers a plan decides, in either scope, just which tops
 //! are alike.
 //!
 //! Read first: `AreLeast` (`Nodes.antt` of `dwz_label`), `specs/Run.antt`.

@@ -2,8 +2,6 @@
 
 ghost use Rattle.std.specs.Prelude.{◌≡◌, ◌<◌, Some, length, slice_get};
 ghost use Rattle.dwz_label_files.specs.Run.{IsRun};
-ghost use Rattle.dwz_graph.specs.Files.{docs_of};
-ghost use Rattle.dwz_graph.specs.Indexed.{AreIndexes};
 
 use dwz_graph::{File, Graph, Index};
 use std::alloc::Global;
@@ -19,16 +17,12 @@ pub(crate) struct Run<'g, 'a> {
 }
 
 /// The files of a graph, with their indexes.
-pub(crate) fn run_of<'g, 'a>(
-    alloc: Global,
-    graph: &'g Graph<'a>,
-    indexes: &'g [Index],
-) -> Run<'g, 'a>
-    requires { AreIndexes (docs_of graph.now.given) indexes.now }
+pub(crate) fn run_of<'g, 'a>(alloc: Global, graph: &'g Graph<'a>) -> Run<'g, 'a>
     ensures run { IsRun result }
     ensures graph { result.graph.now.given ≡ graph.now.given }
 {
     let files = graph.files();
+    let indexes = graph.indexes();
     Run {
         alloc,
         graph,

@@ -4,7 +4,6 @@ ghost use Rattle.std.specs.Prelude.{◌≡◌, ◌<◌, ◌≤◌, ◌^◌, IfOk
 ghost use Rattle.dwz_def_tops.specs.Spots.{tops_of, units_of};
 ghost use Rattle.dwz_label_files.specs.Run.{labels_of, movable_labels};
 ghost use Rattle.dwz_graph.specs.Files.{docs_of};
-ghost use Rattle.dwz_graph.specs.Indexed.{AreIndexes};
 ghost use Rattle.dwz_label.specs.Shown.{nth_label};
 
 use crate::run::{file_at, index_at, run_of};
@@ -12,28 +11,26 @@ use crate::search::{entry_of, file_of, top_count};
 use crate::top::{TopScratch, put_top_of};
 use crate::unit::unit_row;
 use crate::writer::TopLabels;
-use dwz_graph::{Graph, Index};
+use dwz_graph::Graph;
 use dwz_label::{Labels, labels_by};
 use dwz_model::{Blob, NoMemory};
 use std::alloc::Global;
 use std::thread::Threads;
 
 /// How many tops all files have.
-pub fn count_tops(alloc: Global, graph: &Graph, indexes: &[Index]) -> usize
-    requires { AreIndexes (docs_of graph.now.given) indexes.now }
+pub fn count_tops(alloc: Global, graph: &Graph) -> usize
     ensures { result ≡ length (tops_of (units_of (docs_of graph.now.given))) }
 {
-    top_count(&run_of(alloc, graph, indexes))
+    top_count(&run_of(alloc, graph))
 }
 
 /// The label of the top with a number among those of all files: bytes that are equal for two tops exactly if the languages of their units,
 /// the names of the spaces that they stand in, and their bare trees are.
-pub fn label(alloc: Global, graph: &Graph, indexes: &[Index], top: u32) -> Result<Blob, NoMemory>
-    requires indexes { AreIndexes (docs_of graph.now.given) indexes.now }
-    requires there { top < length (tops_of (units_of (docs_of graph.now.given))) }
+pub fn label(alloc: Global, graph: &Graph, top: u32) -> Result<Blob, NoMemory>
+    requires { top < length (tops_of (units_of (docs_of graph.now.given))) }
     ensures { IfOk result (λ bytes. bytes ≡ nth_label (labels_of graph.now.given) top) }
 {
-    let run = run_of(alloc, graph, indexes);
+    let run = run_of(alloc, graph);
     let file = file_of(&run, top as usize);
     let entry = entry_of(&run, file, top as usize);
     let first = index_at(&run, file).starts().unit;
@@ -50,18 +47,16 @@ pub fn labels<R: Threads + Sync>(
     rt: &R,
     alloc: Global,
     graph: &Graph,
-    indexes: &[Index],
     movable: &[bool],
     workers: u32,
 ) -> Result<Labels, NoMemory>
-    requires indexes { AreIndexes (docs_of graph.now.given) indexes.now }
     requires movable { length movable.now ≡ length (tops_of (units_of (docs_of graph.now.given))) }
     requires workers { (0 < workers) × (workers ≤ 64) }
     ensures labels { IfOk result (λ labels. labels ≡ movable_labels graph.now.given movable.now) }
     ensures len { IfOk result (λ labels. length labels ≡ length (tops_of (units_of (docs_of graph.now.given)))) }
     ensures few { IfOk result (λ labels. length labels ≤ 2 ^ 29) }
 {
-    let run = run_of(alloc, graph, indexes);
+    let run = run_of(alloc, graph);
     let writer = TopLabels::new(&run, movable)?;
     let count = writer.len();
     labels_by(rt, alloc, workers, &writer, count)

@@ -1,7 +1,7 @@
 //! What is settled of planned files before they are laid, and the lists that a layout looks into.
 //!
-//! `settle_files` takes graph, indexes and plan and answers `SettledFiles`: marks of tops, spaces, pinned spaces, line tables of partial
-//! units, which files are written and which import. `known_of` makes `EntryTable` (`dwz_layout`): of each entry where it is written and what
+//! `settle_files` takes graph and plan and answers `SettledFiles`: marks of tops, spaces, pinned spaces, line tables of partial units,
+//! which files are written and which import. `known_of` makes `EntryTable` (`dwz_layout`): of each entry where it is written and what
 //! its references, texts and numbers of files are after. `with_texts` gives the same lists other places of texts. They are called by
 //! `dwz_run_files`.
 //!

@@ -1,17 +1,18 @@
 //! What is settled of planned files.
 
-ghost use Rattle.std.specs.Prelude.{◌≡◌, ◌<◌, ◌^◌, length, map, IfOk};
+ghost use Rattle.std.specs.Prelude.{◌≡◌, ◌<◌, ◌^◌, List, length, map, IfOk};
 ghost use Rattle.dwz_def_tops.specs.Spots.{file_numbers};
 ghost use Rattle.dwz_def_readback.specs.Files.{imports_common};
 ghost use Rattle.dwz_law_layout.specs.Facts.{RunFacts, docs, move, units};
 ghost use Rattle.dwz_graph.specs.Files.{docs_of};
+ghost use Rattle.dwz_graph.specs.Index.{Index};
 ghost use Rattle.dwz_graph.specs.Indexed.{AreIndexes};
 ghost use Rattle.dwz_layout_order.specs.declared.orders.Settled.{Settled as Lent};
 ghost use Rattle.dwz_layout_order.specs.Ordered.{AreSettled};
 ghost use Rattle.dwz_law_layout.specs.Settled.{IsSettled};
 ghost use Rattle.dwz_layout_input.specs.Settled.{AreFactsOf, ArePlanned, Lends};
 
-use dwz_graph::{Graph, Index};
+use dwz_graph::Graph;
 use dwz_layout_order::{Marks, Settled, TopMark, changed_files, importing_files, marks_of};
 use dwz_model::NoMemory;
 use dwz_plan::Scope;
@@ -64,18 +65,17 @@ impl SettledFiles {
 pub fn settle_files(
     alloc: Global,
     graph: &Graph,
-    indexes: &[Index],
     scope: Scope,
     planned: PlannedFiles,
 ) -> Result<SettledFiles, NoMemory>
     requires few { length graph.now.given < 2 ^ 32 }
-    requires indexes { AreIndexes (docs_of graph.now.given) indexes.now }
     requires planned { ArePlanned scope (docs_of graph.now.given) planned }
     ensures scope { IfOk result (λ r. r.scope ≡ scope) }
     ensures planned { IfOk result (λ r. r.planned ≡ planned) }
-    ensures settled { IfOk result (λ r. (f : RunFacts) (s : Lent) → AreFactsOf graph.now.given indexes.now scope planned f → Lends r s
-        → IsSettled f s) }
-    ensures importing { IfOk result (λ r. (f : RunFacts) → AreFactsOf graph.now.given indexes.now scope planned f
+    ensures settled { (indexes : List Index) → AreIndexes (docs_of graph.now.given) indexes
+        → IfOk result (λ r. (f : RunFacts) (s : Lent) → AreFactsOf graph.now.given indexes scope planned f → Lends r s → IsSettled f s) }
+    ensures importing { (indexes : List Index) → AreIndexes (docs_of graph.now.given) indexes
+        → IfOk result (λ r. (f : RunFacts) → AreFactsOf graph.now.given indexes scope planned f
         → r.importing.items ≡ map (imports_common (move f) (units f)) (file_numbers 0 (docs f))) }
     ensures fits { IfOk result (λ r. (s : Lent) → Lends r s → AreSettled s) }
 {
@@ -83,9 +83,9 @@ pub fn settle_files(
     let tops = &planned.tops;
     let plan = &planned.plan;
     let marks = marks_of(alloc, tops, plan)?;
-    let pinned = pinned_spaces(alloc, graph, indexes)?;
-    let spaces = spaces_of_files(alloc, graph, indexes)?;
-    let lines = part_lines(alloc, graph, indexes, tops, plan)?;
+    let pinned = pinned_spaces(alloc, graph)?;
+    let spaces = spaces_of_files(alloc, graph)?;
+    let lines = part_lines(alloc, graph, tops, plan)?;
     let written = changed_files(alloc, tops, plan, files)?;
     let importing = importing_files(alloc, tops, plan, files)?;
     Ok(SettledFiles {

@@ -1,7 +1,7 @@
 //! The units that are written, file by file, with their entries in order; which files these are, and which import from the common file.
 //!
-//! `orders_of_files` takes graph, indexes and what is settled (`Settled`), and answers for the common file and for each file that is
-//! written its units as `FileItems` (`dwz_layout`). It calls `put_units` for old units and `part_items` for partial ones. `changed_files`
+//! `orders_of_files` takes graph and what is settled (`Settled`), and answers for the common file and for each file that is written its
+//! units as `FileItems` (`dwz_layout`). It calls `put_units` for old units and `part_items` for partial ones. `changed_files`
 //! and `importing_files` are flags for each file; `marks_of`, `space_rows`, `number_lists`, `top_spaces` and `parts_of_files` the lists
 //! that an order is made by. A walk over a unit goes from sibling to sibling, past what is below tops.
 //!

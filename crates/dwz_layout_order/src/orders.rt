@@ -1,10 +1,11 @@
 //! What is written of all files, in order.
 
-ghost use Rattle.std.specs.Prelude.{◌≡◌, ◌+◌, ◌<◌, ◌≤◌, ◌^◌, [], All, None, length, slice_index_or, IfOk, OnOk};
+ghost use Rattle.std.specs.Prelude.{◌≡◌, ◌+◌, ◌<◌, ◌≤◌, ◌^◌, [], All, List, None, length, slice_index_or, IfOk, OnOk};
 ghost use Rattle.dwz_def_tops.specs.Spots.{units_of};
 ghost use Rattle.dwz_def_reading.specs.Units.{entries_in};
 ghost use Rattle.dwz_law_files.specs.Few.{HasSmallNumbers};
 ghost use Rattle.dwz_graph.specs.Files.{docs_of};
+ghost use Rattle.dwz_graph.specs.Index.{Index};
 ghost use Rattle.dwz_graph.specs.Indexed.{AreIndexes};
 ghost use Rattle.dwz_layout_order.specs.Marks.{flag_at};
 ghost use Rattle.dwz_layout_order.specs.Ordered.{AreOrders, AreSettled, FilePut, from_index, next_index};
@@ -156,17 +157,17 @@ fn put_file(
 pub fn orders_of_files(
     alloc: Global,
     graph: &Graph,
-    indexes: &[Index],
     settled: &Settled,
 ) -> Result<Vec<FileItems>, NoMemory>
     requires few { length graph.now.given < 2 ^ 32 }
-    requires indexes { AreIndexes (docs_of graph.now.given) indexes.now }
     requires settled { AreSettled settled.now }
     requires files { All (λ part. part.file ≤ length graph.now.given) settled.now.plan.now.partials }
     requires imports { length (units_of (docs_of graph.now.given)) ≤ length settled.now.plan.now.imports }
-    ensures { IfOk result (λ orders. AreOrders graph.now.given indexes.now settled.now orders.items) }
+    ensures { (indexes : List Index) → AreIndexes (docs_of graph.now.given) indexes
+        → IfOk result (λ orders. AreOrders graph.now.given indexes settled.now orders.items) }
 {
     let files = graph.files();
+    let indexes = graph.indexes();
     let parts = parts_of_files(alloc, files.len() as u32, settled.plan.partials())?;
     let common = parts_items(alloc, settled, parts.get(files.len()))?;
     let mut orders = Vec::new(alloc);

@@ -8,7 +8,6 @@ ghost use Rattle.dwz_def_tops.specs.Spots.{Top, tops_of, units_of};
 ghost use Rattle.dwz_def_reading.specs.Units.{entries_in};
 ghost use Rattle.dwz_graph.specs.Files.{docs_of};
 ghost use Rattle.dwz_graph.specs.Index.{Index};
-ghost use Rattle.dwz_graph.specs.Indexed.{AreIndexes};
 ghost use Rattle.dwz_move_files.specs.Named.{AreNamed};
 ghost use Rattle.dwz_def_reading.specs.Documents.{Doc};
 ghost use Rattle.dwz_move_files.specs.Drafts.{AreInto, AreWithin, IsDraft, IsRowOf};
@@ -231,17 +230,12 @@ pub(crate) fn put_file(
 }
 
 /// What is gathered of the tops of all files.
-pub(crate) fn gather(
-    alloc: Global,
-    graph: &Graph,
-    indexes: &[Index],
-    named: &Named,
-) -> Result<Draft, NoMemory>
+pub(crate) fn gather(alloc: Global, graph: &Graph, named: &Named) -> Result<Draft, NoMemory>
     requires few { length graph.now.given < 2 ^ 32 }
-    requires indexes { AreIndexes (docs_of graph.now.given) indexes.now }
     ensures { AreNamed (units_of (docs_of graph.now.given)) named.now
         → IfOk result (IsDraft (docs_of graph.now.given) 0 (length (tops_of (units_of (docs_of graph.now.given))))) }
 {
+    let indexes = graph.indexes();
     let mut draft = nothing(alloc);
     let mut operands = Vec::new(alloc);
     for (number, file) in graph.files().iter().enumerate() {

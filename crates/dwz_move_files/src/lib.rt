@@ -1,6 +1,6 @@
 //! The tops of all files, in order of place: unit, weight, targets, which are pinned and which may move.
 //!
-//! `outline_files` takes the graph and the indexes and answers an `Outline`: `Tops` of `dwz_groups`, the same for every number of workers.
+//! `outline_files` takes the graph and answers an `Outline`: `Tops` of `dwz_groups`, the same for every number of workers.
 //! Before it `named_tops` finds which tops operands of expressions and of location lists name; one pass over the values of all entries
 //! each. `dwz_label_files` and `dwz_plan_files` read it.
 //!

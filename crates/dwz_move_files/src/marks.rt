@@ -101,10 +101,10 @@ fn mark_file(
 
 /// For each top of all files whether an operand of an expression or of a location list names an entry of it, and whether one that is a
 /// ULEB128 number does. One pass over the values of all entries.
-pub fn named_tops(alloc: Global, graph: &Graph, indexes: &[Index]) -> Result<Named, NoMemory>
-    requires { AreIndexes (docs_of graph.now.given) indexes.now }
+pub fn named_tops(alloc: Global, graph: &Graph) -> Result<Named, NoMemory>
     ensures { IfOk result (AreNamed (units_of (docs_of graph.now.given))) }
 {
+    let indexes = graph.indexes();
     let mut named = Named {
         by_any: unset_flags(alloc, indexes)?,
         by_uleb: unset_flags(alloc, indexes)?,

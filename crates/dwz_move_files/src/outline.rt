@@ -3,14 +3,12 @@
 ghost use Rattle.std.specs.Prelude.{◌≡◌, ℕ, ◌<◌, ◌≤◌, ◌++◌, ◌^◌, List, length, map, replicate, IfOk, OnOk};
 ghost use Rattle.dwz_def_tops.specs.Spots.{units_of};
 ghost use Rattle.dwz_graph.specs.Files.{docs_of};
-ghost use Rattle.dwz_graph.specs.Index.{Index};
-ghost use Rattle.dwz_graph.specs.Indexed.{AreIndexes};
 ghost use Rattle.dwz_move_files.specs.Outlines.{IsOutline};
 ghost use Rattle.dwz_move_files.specs.Rows.{with_flags};
 
 use crate::named_tops;
 use crate::parts::gather_by;
-use dwz_graph::{Graph, Index};
+use dwz_graph::Graph;
 use dwz_groups::{TopRow, TopRows, Tops, group};
 use dwz_model::{NoMemory, Numbers};
 use dwz_move::movable_by;
@@ -61,17 +59,15 @@ pub fn outline_files<R: Threads + Sync>(
     rt: &R,
     alloc: Global,
     graph: &Graph,
-    indexes: &[Index],
     workers: u32,
 ) -> Result<Outline, NoMemory>
     requires few { length graph.now.given < 2 ^ 32 }
-    requires indexes { AreIndexes (docs_of graph.now.given) indexes.now }
     requires workers { (0 < workers) × (workers ≤ 64) }
     ensures tops { IfOk result (λ o. IsOutline (docs_of graph.now.given) o.tops) }
 {
     let files = graph.files();
-    let named = named_tops(alloc, graph, indexes)?;
-    let draft = gather_by(rt, alloc, graph, indexes, &named, workers)?;
+    let named = named_tops(alloc, graph)?;
+    let draft = gather_by(rt, alloc, graph, &named, workers)?;
     let targets = group(alloc, draft.rows.len(), draft.pairs.as_slice())?;
     let movable = movable_by(alloc, &targets, draft.binds.as_slice())?;
     let mut rows = draft.rows;

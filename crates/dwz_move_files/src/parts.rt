@@ -11,7 +11,7 @@ ghost use Rattle.dwz_def_reading.specs.Documents.{Doc};
 ghost use Rattle.dwz_move_files.specs.Drafts.{AreParts, IsDraft, IsFileDraft};
 
 use crate::draft::{Draft, gather, nothing, put_file};
-use dwz_graph::{Graph, Index};
+use dwz_graph::Graph;
 use dwz_model::NoMemory;
 use dwz_move::Named;
 use std::alloc::{AllocError, Global};
@@ -19,20 +19,14 @@ use std::thread;
 use std::thread::Threads;
 
 // What is gathered of the tops of the file with a number.
-fn part_at(
-    alloc: Global,
-    graph: &Graph,
-    indexes: &[Index],
-    named: &Named,
-    k: usize,
-) -> Result<Draft, NoMemory>
+fn part_at(alloc: Global, graph: &Graph, named: &Named, k: usize) -> Result<Draft, NoMemory>
     requires at { k < length graph.now.given }
     requires few { length graph.now.given < 2 ^ 32 }
-    requires indexes { AreIndexes (docs_of graph.now.given) indexes.now }
-    ensures { AreNamed (units_of (docs_of graph.now.given)) named.now
-        → IfOk result (IsFileDraft (docs_of graph.now.given) indexes.now k) }
+    ensures { (indexes : List Index) → AreIndexes (docs_of graph.now.given) indexes → AreNamed (units_of (docs_of graph.now.given)) named.now
+        → IfOk result (IsFileDraft (docs_of graph.now.given) indexes k) }
 {
     let files = graph.files();
+    let indexes = graph.indexes();
     let mut draft = nothing(alloc);
     let mut operands = Vec::new(alloc);
     put_file(
@@ -48,21 +42,13 @@ fn part_at(
 }
 
 // Puts it into a slot, which is left empty where memory ran out.
-fn fill(
-    alloc: Global,
-    graph: &Graph,
-    indexes: &[Index],
-    named: &Named,
-    k: usize,
-    slot: &mut Option<Draft>,
-)
+fn fill(alloc: Global, graph: &Graph, named: &Named, k: usize, slot: &mut Option<Draft>)
     requires at { k < length graph.now.given }
     requires few { length graph.now.given < 2 ^ 32 }
-    requires indexes { AreIndexes (docs_of graph.now.given) indexes.now }
-    ensures { AreNamed (units_of (docs_of graph.now.given)) named.now
-        → IfSome slot.new (IsFileDraft (docs_of graph.now.given) indexes.now k) }
+    ensures { (indexes : List Index) → AreIndexes (docs_of graph.now.given) indexes → AreNamed (units_of (docs_of graph.now.given)) named.now
+        → IfSome slot.new (IsFileDraft (docs_of graph.now.given) indexes k) }
 {
-    *slot = part_at(alloc, graph, indexes, named, k).ok();
+    *slot = part_at(alloc, graph, named, k).ok();
 }
 
 // Fills the slots, of which there is one for each file.
@@ -70,23 +56,21 @@ fn fill_slots<R: Threads + Sync>(
     rt: &R,
     alloc: Global,
     graph: &Graph,
-    indexes: &[Index],
     named: &Named,
     workers: u32,
     slots: &mut [Option<Draft>],
 )
     requires len { length slots.old ≡ length graph.now.given }
     requires few { length graph.now.given < 2 ^ 32 }
-    requires indexes { AreIndexes (docs_of graph.now.given) indexes.now }
     requires workers { 0 < workers }
-    ensures { AreNamed (units_of (docs_of graph.now.given)) named.now → (k : ℕ) (d : _) → k < length slots.old
-        → IfSome (slice_index_or slots.new k d) (IsFileDraft (docs_of graph.now.given) indexes.now k) }
+    ensures { (indexes : List Index) → AreIndexes (docs_of graph.now.given) indexes → AreNamed (units_of (docs_of graph.now.given)) named.now
+        → (k : ℕ) (d : _) → k < length slots.old → IfSome (slice_index_or slots.new k d) (IsFileDraft (docs_of graph.now.given) indexes k) }
 {
     let each = |k: usize, slot: &mut Option<Draft>|
-        requires { (k < length graph.now.given) × (length graph.now.given < 2 ^ 32) × AreIndexes (docs_of graph.now.given) indexes.now }
-        ensures { AreNamed (units_of (docs_of graph.entry.now.given)) named.entry.now
-            → IfSome slot.exit.now (IsFileDraft (docs_of graph.entry.now.given) indexes.entry.now k) }
-    { fill(alloc, graph, indexes, named, k, slot) };
+        requires { (k < length graph.now.given) × (length graph.now.given < 2 ^ 32) }
+        ensures { (indexes : List Index) → AreIndexes (docs_of graph.entry.now.given) indexes
+            → AreNamed (units_of (docs_of graph.entry.now.given)) named.entry.now → IfSome slot.exit.now (IsFileDraft (docs_of graph.entry.now.given) indexes k) }
+    { fill(alloc, graph, named, k, slot) };
     thread::for_each_mut(rt, slots, workers as usize, &each);
 }
 
@@ -106,27 +90,17 @@ fn parts_of<R: Threads + Sync>(
     rt: &R,
     alloc: Global,
     graph: &Graph,
-    indexes: &[Index],
     named: &Named,
     workers: u32,
 ) -> Result<Vec<Option<Draft>>, NoMemory>
     requires few { length graph.now.given < 2 ^ 32 }
-    requires indexes { AreIndexes (docs_of graph.now.given) indexes.now }
     requires workers { 0 < workers }
     ensures len { IfOk result (λ parts. vec_len parts ≡ length graph.now.given) }
-    ensures are { AreNamed (units_of (docs_of graph.now.given)) named.now
-        → IfOk result (λ parts. AreParts (docs_of graph.now.given) indexes.now 0 parts.items) }
+    ensures are { (indexes : List Index) → AreIndexes (docs_of graph.now.given) indexes → AreNamed (units_of (docs_of graph.now.given)) named.now
+        → IfOk result (λ parts. AreParts (docs_of graph.now.given) indexes 0 parts.items) }
 {
     let mut slots = empty_slots(alloc, graph.files().len())?;
-    fill_slots(
-        rt,
-        alloc,
-        graph,
-        indexes,
-        named,
-        workers,
-        slots.as_mut_slice(),
-    );
+    fill_slots(rt, alloc, graph, named, workers, slots.as_mut_slice());
     Ok(slots)
 }
 
@@ -160,19 +134,17 @@ pub(crate) fn gather_by<R: Threads + Sync>(
     rt: &R,
     alloc: Global,
     graph: &Graph,
-    indexes: &[Index],
     named: &Named,
     workers: u32,
 ) -> Result<Draft, NoMemory>
     requires few { length graph.now.given < 2 ^ 32 }
-    requires indexes { AreIndexes (docs_of graph.now.given) indexes.now }
     requires workers { 0 < workers }
     ensures { AreNamed (units_of (docs_of graph.now.given)) named.now
         → IfOk result (IsDraft (docs_of graph.now.given) 0 (length (tops_of (units_of (docs_of graph.now.given))))) }
 {
     if workers == 1 || graph.files().len() < 2 {
-        return gather(alloc, graph, indexes, named);
+        return gather(alloc, graph, named);
     }
-    let parts = parts_of(rt, alloc, graph, indexes, named, workers)?;
+    let parts = parts_of(rt, alloc, graph, named, workers)?;
     join_parts(alloc, parts)
 }

@@ -1,7 +1,7 @@
 //! The plan of the files of a run, their spaces by number, what is pinned, and the line tables of partial units.
 //!
-//! `plan_files` goes from the graph and the indexes to `PlannedFiles`: the tops of all files and their plan, the same for every number of
-//! workers and every gate. `spaces_of_files` gives `Spaces`: which space stands in which, in which each top stands, and a number for each
+//! `plan_files` goes from the graph to `PlannedFiles`: the tops of all files and their plan, the same for every number of workers and every
+//! gate. `spaces_of_files` gives `Spaces`: which space stands in which, in which each top stands, and a number for each
 //! name list; `pinned_spaces` which spaces a ULEB128 operand names; `part_lines` the line table that the root of each partial unit names
 //! (DWARF 5, 3.1.1). `settle_files` of `dwz_layout_input` calls the last three.
 //!

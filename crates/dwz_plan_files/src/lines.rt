@@ -7,7 +7,6 @@ ghost use Rattle.std.specs.Prelude.{◌≡◌, ℕ, List, length, slice_get, IfO
 ghost use Rattle.dwz_def_tops.specs.Alike.{IsAlike, TopScope};
 ghost use Rattle.dwz_def_tops.specs.Spots.{file_numbers, units_of};
 ghost use Rattle.dwz_graph.specs.Files.{docs_of};
-ghost use Rattle.dwz_graph.specs.Indexed.{AreIndexes};
 ghost use Rattle.dwz_layout_numbers.specs.Owners.{move_of};
 ghost use Rattle.dwz_def_plan.specs.Homes.{IsChoice, Rule};
 ghost use Rattle.dwz_def_plan.specs.Moves.{line_attrs};
@@ -60,16 +59,16 @@ fn part_line(files: &[File], indexes: &[Index], tops: &Tops, part: &Partial) -> 
 pub fn part_lines(
     alloc: Global,
     graph: &Graph,
-    indexes: &[Index],
     tops: &Tops,
     plan: &Plan,
 ) -> Result<Vec<Option<u32>>, NoMemory>
-    ensures { (scope : TopScope) (rule : Rule) → AreIndexes (docs_of graph.now.given) indexes.now
-        → IsAlike scope (units_of (docs_of graph.now.given)) rule.alike → IsChoice (units_of (docs_of graph.now.given)) rule
-        → ShowsTops (units_of (docs_of graph.now.given)) tops.now → ShowsPlan rule (units_of (docs_of graph.now.given)) (length (docs_of graph.now.given))
-        plan.now → IfOk result (λ lines. AreLines (move_of rule (docs_of graph.now.given)) lines.items) }
+    ensures { (scope : TopScope) (rule : Rule) → IsAlike scope (units_of (docs_of graph.now.given)) rule.alike
+        → IsChoice (units_of (docs_of graph.now.given)) rule → ShowsTops (units_of (docs_of graph.now.given)) tops.now
+        → ShowsPlan rule (units_of (docs_of graph.now.given)) (length (docs_of graph.now.given)) plan.now
+        → IfOk result (λ lines. AreLines (move_of rule (docs_of graph.now.given)) lines.items) }
 {
     let files = graph.files();
+    let indexes = graph.indexes();
     let partials = plan.partials();
     let mut lines = Vec::with_capacity(alloc, partials.len())?;
     for part in partials {

@@ -5,6 +5,7 @@ ghost use Rattle.dwz_def_tops.specs.Spots.{units_of};
 ghost use Rattle.dwz_def_reading.specs.Units.{RawUnit, entries_in};
 ghost use Rattle.dwz_graph.specs.Files.{docs_of};
 ghost use Rattle.dwz_graph.specs.Spaces.{IsOwn};
+ghost use Rattle.dwz_graph.specs.Index.{Index};
 ghost use Rattle.dwz_graph.specs.Indexed.{AreIndexes};
 ghost use Rattle.dwz_def_reading.specs.Documents.{Node};
 ghost use Rattle.dwz_def_reading.specs.Meanings.{MeaningContext};
@@ -17,7 +18,7 @@ ghost use Rattle.dwz_def_tops.specs.Spaces as Seen;
 ghost use Rattle.dwz_unit.specs.Rows.{EntryRow, rows_of, units_of as raw_units};
 ghost use Rattle.dwz_plan_files.specs.Names.{HaveNumbers, IsFound, Reads, WasHere, look};
 
-use dwz_graph::{Graph, Here, Index, InputSections, SpaceEntry, here_of, space_text};
+use dwz_graph::{Graph, Here, InputSections, SpaceEntry, here_of, space_text};
 use dwz_model::NoMemory;
 use dwz_unit::Units;
 use std::alloc::Global;
@@ -103,13 +104,15 @@ fn put_texts<'t>(
 
 /// For each space of all files, by its number, the number of its name: equal names alone have one number. Takes n log n comparisons of
 /// names, and copies none.
-pub fn space_texts(alloc: Global, graph: &Graph, indexes: &[Index]) -> Result<Vec<u32>, NoMemory>
-    requires { AreIndexes (docs_of graph.now.given) indexes.now }
-    ensures len { IfOk result (λ texts. length texts.items ≡ length (all_spaces indexes.now)) }
-    ensures few { OnOk result (length (all_spaces indexes.now) ≤ 2 ^ 29) }
-    ensures numbers { IfOk result (λ texts. NumbersTexts (rows_from 0 (all_spaces indexes.now)) (said_of (units_of (docs_of graph.now.given)))
+pub fn space_texts(alloc: Global, graph: &Graph) -> Result<Vec<u32>, NoMemory>
+    ensures len { (indexes : List Index) → AreIndexes (docs_of graph.now.given) indexes
+        → IfOk result (λ texts. length texts.items ≡ length (all_spaces indexes)) }
+    ensures few { (indexes : List Index) → AreIndexes (docs_of graph.now.given) indexes → OnOk result (length (all_spaces indexes) ≤ 2 ^ 29) }
+    ensures numbers { (indexes : List Index) → AreIndexes (docs_of graph.now.given) indexes
+        → IfOk result (λ texts. NumbersTexts (rows_from 0 (all_spaces indexes)) (said_of (units_of (docs_of graph.now.given)))
         texts.items) }
 {
+    let indexes = graph.indexes();
     let mut seen = BTreeMap::new(alloc);
     let mut texts = Vec::new(alloc);
     for (number, file) in graph.files().iter().enumerate() {

@@ -9,7 +9,6 @@ ghost use Rattle.dwz_law_files.specs.Across.{IsFileAmong, file_units, name_at};
 ghost use Rattle.dwz_def_tops.specs.Alike.{any_attr};
 ghost use Rattle.dwz_def_tops.specs.Spots.{EntryName, same_spot, units_of};
 ghost use Rattle.dwz_graph.specs.Files.{docs_of};
-ghost use Rattle.dwz_graph.specs.Indexed.{AreIndexes};
 ghost use Rattle.dwz_def_reading.specs.Documents.{DwUnit, unit_map};
 ghost use Rattle.dwz_def_reading.specs.Meanings.{Around};
 ghost use Rattle.dwz_def_reading.specs.Meant.{units_meaning};
@@ -178,10 +177,10 @@ fn unset_flags(alloc: Global, indexes: &[Index]) -> Result<Vec<bool>, NoMemory>
 
 /// For each space of all files, by its number, whether an operand of an expression or of a location list names it that is a ULEB128
 /// number. A pass over the values of all entries, beside that for tops, where there are spaces.
-pub fn pinned_spaces(alloc: Global, graph: &Graph, indexes: &[Index]) -> Result<Vec<bool>, NoMemory>
-    requires { AreIndexes (docs_of graph.now.given) indexes.now }
+pub fn pinned_spaces(alloc: Global, graph: &Graph) -> Result<Vec<bool>, NoMemory>
     ensures { IfOk result (λ flags. ArePinned (units_of (docs_of graph.now.given)) flags.items) }
 {
+    let indexes = graph.indexes();
     let flags = unset_flags(alloc, indexes)?;
     if flags.is_empty() {
         return Ok(flags);

@@ -3,7 +3,6 @@
 ghost use Rattle.std.specs.Prelude.{◌≡◌, ◌<◌, ◌≤◌, ◌^◌, length, IfOk};
 ghost use Rattle.dwz_def_tops.specs.Spots.{units_of};
 ghost use Rattle.dwz_graph.specs.Files.{docs_of};
-ghost use Rattle.dwz_graph.specs.Indexed.{AreIndexes};
 ghost use Rattle.dwz_label_files.specs.LeastLaws.{flags_of};
 ghost use Rattle.dwz_move_files.specs.Outlines.{IsOutline};
 ghost use Rattle.dwz_plan.specs.Shows.{ShowsPlan};
@@ -11,7 +10,7 @@ ghost use Rattle.dwz_plan_files.specs.Fits.{FitsFiles};
 ghost use Rattle.dwz_plan_files.specs.Rules.{rule_by};
 
 use dwz_gate::Gate;
-use dwz_graph::{Graph, Index};
+use dwz_graph::Graph;
 use dwz_groups::Tops;
 use dwz_label_files::least;
 use dwz_model::NoMemory;
@@ -34,18 +33,16 @@ fn tops_of<R: Threads + Sync>(
     rt: &R,
     alloc: Global,
     graph: &Graph,
-    indexes: &[Index],
     workers: u32,
 ) -> Result<Tops, NoMemory>
     requires few { length graph.now.given < 2 ^ 32 }
-    requires indexes { AreIndexes (docs_of graph.now.given) indexes.now }
     requires workers { (0 < workers) × (workers ≤ 64) }
     ensures outline { IfOk result (λ tops. IsOutline (docs_of graph.now.given) tops) }
     ensures files { IfOk result (λ tops. tops.files ≡ length (docs_of graph.now.given)) }
     ensures few_rows { IfOk result (λ tops. length tops.rows < 2 ^ 32) }
     ensures few_units { IfOk result (λ tops. length tops.files_of_units < 2 ^ 32) }
 {
-    let outline = outline_files(rt, alloc, graph, indexes, workers)?;
+    let outline = outline_files(rt, alloc, graph, workers)?;
     let mut tops = outline.tops;
     tops.files = graph.files().len() as u32;
     Ok(tops)
@@ -65,22 +62,20 @@ pub fn plan_files<R: Threads + Sync, G: Gate>(
     rt: &R,
     alloc: Global,
     graph: &Graph,
-    indexes: &[Index],
     scope: Scope,
     workers: u32,
     gate: &G,
 ) -> Result<PlannedFiles, NoMemory>
     requires few { length graph.now.given < 2 ^ 32 }
-    requires indexes { AreIndexes (docs_of graph.now.given) indexes.now }
     requires workers { (0 < workers) × (workers ≤ 64) }
     ensures outline { IfOk result (λ p. IsOutline (docs_of graph.now.given) p.tops) }
     ensures plan { IfOk result (λ p. let docs = docs_of graph.now.given in ShowsPlan (rule_by scope docs) (units_of docs) (length docs) p.plan) }
     ensures fits { IfOk result (λ p. FitsFiles scope (docs_of graph.now.given) p.tops p.plan) }
 {
-    let tops = tops_of(rt, alloc, graph, indexes, workers)?;
+    let tops = tops_of(rt, alloc, graph, workers)?;
     let movable = movable_of(alloc, &tops)?;
     let flags = movable.as_slice();
-    let least = least(rt, alloc, graph, indexes, &tops, flags, workers, gate)?;
+    let least = least(rt, alloc, graph, &tops, flags, workers, gate)?;
     let plan = Plan::make(alloc, &tops, least.as_slice(), scope)?;
     Ok(PlannedFiles { tops, plan })
 }

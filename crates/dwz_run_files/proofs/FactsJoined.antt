@@ -57,7 +57,7 @@ module _ (contents : List (List ℕ)) (files : List File) (prunes : List Bool) (
   joined = record {
     contents = contents;
     files = files;
-    indexes = a.indexes.items;
+    indexes = a.indexes.now;
     scope = alike_scope a.settled.scope;
     input = stored_of contents prunes;
     planned = a.settled.planned.plan;
@@ -74,7 +74,7 @@ module _ (contents : List (List ℕ)) (files : List File) (prunes : List Bool) (
 
   pub facts : AreFacts joined
   facts =
-      planned_facts contents a.indexes.items a.settled.scope a.settled.planned joined j.settled.planned theirs stored a.settled.written.items
+      planned_facts contents a.indexes.now a.settled.scope a.settled.planned joined j.settled.planned theirs stored a.settled.written.items
       j.listed.numbers
       (j.settled.flags.are joined theirs) j.listed.numbered (record { commons = refl; parts = refl; olds = refl })
 

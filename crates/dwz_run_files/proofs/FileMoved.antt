@@ -106,8 +106,8 @@ module _ (f : RunFacts) (w : LaidRun) (is : IsWork f w) (n rank : ℕ) (has : Ha
   pub in_files : n < length p.files.now
   in_files = got_below p.files.now n read.x (ap (λ (xs : List File). slice_get xs n) (sym is.works.files_are) ∙ read.has.file)
 
-  pub in_indexes : n < length p.run.indexes.items
-  in_indexes = got_below p.run.indexes.items n read.index (ap (λ (xs : List Index). slice_get xs n) (sym is.works.indexes_are)
+  pub in_indexes : n < length p.run.indexes.now
+  in_indexes = got_below p.run.indexes.now n read.index (ap (λ (xs : List Index). slice_get xs n) (sym is.works.indexes_are)
       ∙ read.has.index_is)
 
   pub in_starts : n < length w.starts.now
@@ -145,7 +145,7 @@ module _ (f : RunFacts) (w : LaidRun) (is : IsWork f w) (rank place : ℕ) (m : 
   abbrev Here : AllMade → ℕ → Type 0
   Here a first = FileIs (places (run f)) k a.places a.roots first m.units.now (file_view m.laid.now) (file_out (run f) n)
 
-  pub is_moved : slice_get w.prepared.now.files.now n ≡ Some m.file.now → slice_get w.prepared.now.run.indexes.items n ≡ Some m.index.now
+  pub is_moved : slice_get w.prepared.now.files.now n ≡ Some m.file.now → slice_get w.prepared.now.run.indexes.now n ≡ Some m.index.now
       → slice_get w.starts.now n ≡ Some m.start → slice_get w.prepared.now.ordered.firsts.items place ≡ Some m.first
       → slice_get files_in place ≡ Some m.units.now → slice_get w.layout.now.files place ≡ Some (file_view m.laid.now) → IsMoved f w m
   is_moved file index start first_at units_at laid_there =

@@ -69,7 +69,7 @@ module _ (contents : List (List ℕ)) (files : List File) (prunes : List Bool) (
         input_is = refl;
         scope_is = ap (λ (x : SettledRun). alike_scope x.settled.scope) (sym of_run);
         files_are = sym of_files;
-        indexes_are = ap (λ (x : SettledRun). x.indexes.items) (sym of_run);
+        indexes_are = ap (λ (x : SettledRun). x.indexes.now) (sym of_run);
         plan_is = ap (λ (x : SettledRun). x.settled.planned.plan) (sym of_run);
       };
       ready = record {

@@ -36,11 +36,11 @@ use Rattle.dwz_run_files.specs.SettledRun.{IsSettledRun, AreListedAsRead, AreThe
 
 -- P holds of what is settled where it holds of the indexes, the scope and the plan that it was made of
 settled_so : (P : List Index → Scope → PlannedFiles → Type 0) (a : SettledRun) (xs : List Index) (sharing : Scope) (p : PlannedFiles)
-    → xs ≡ a.indexes.items → a.settled.scope ≡ sharing → a.settled.planned ≡ p → P xs sharing p
-    → P a.indexes.items a.settled.scope a.settled.planned
+    → xs ≡ a.indexes.now → a.settled.scope ≡ sharing → a.settled.planned ≡ p → P xs sharing p
+    → P a.indexes.now a.settled.scope a.settled.planned
 settled_so P a xs sharing p indexes scope planned holds =
-    subst (λ (q : PlannedFiles). P a.indexes.items a.settled.scope q) (sym planned)
-    (subst (λ (w : Scope). P a.indexes.items w p) (sym scope) (subst (λ (ys : List Index). P ys sharing p) indexes holds))
+    subst (λ (q : PlannedFiles). P a.indexes.now a.settled.scope q) (sym planned)
+    (subst (λ (w : Scope). P a.indexes.now w p) (sym scope) (subst (λ (ys : List Index). P ys sharing p) indexes holds))
 
 abbrev Settles : List (List ℕ) → SettledRun → List Index → Scope → PlannedFiles → Type 0
 Settles contents a xs sharing p =
@@ -53,7 +53,7 @@ Imports contents a xs sharing p =
 
 pub run_settled : (contents : List (List ℕ)) (files : List File) (a : SettledRun) (xs : List Index) (sharing : Scope) (p : PlannedFiles)
     → AreKept contents files
-    → xs ≡ a.indexes.items → a.settled.scope ≡ sharing → a.settled.planned ≡ p → AreIndexes (docs_of contents) a.indexes.items
+    → xs ≡ a.indexes.now → a.settled.scope ≡ sharing → a.settled.planned ≡ p → AreIndexes (docs_of contents) a.indexes.now
     → ArePlanned sharing (docs_of contents) p → Settles contents a xs sharing p → Imports contents a xs sharing p
     → ((s : Settled) → Lends a.settled s → AreSettled s) → (s : Settled) → Lends a.settled s → IsSettledRun contents a
 run_settled contents files a xs sharing p kept indexes scope planned indexed are settles imports fits s lends =
@@ -63,7 +63,7 @@ run_settled contents files a xs sharing p kept indexes scope planned indexed are
       planned = settled_so (λ ys w q. ArePlanned w (docs_of contents) q) a xs sharing p indexes scope planned are;
       settled = settled;
       fits = fits;
-      flags = flags_are contents files a.indexes.items a.settled.scope a.settled.planned a.settled s kept lends settled;
+      flags = flags_are contents files a.indexes.now a.settled.scope a.settled.planned a.settled s kept lends settled;
       importing = settled_so (Imports contents a) a xs sharing p indexes scope planned imports;
     }
 
@@ -72,7 +72,7 @@ docs_many contents a is =
     let f : RunFacts = record {
       contents = contents;
       files = [];
-      indexes = a.indexes.items;
+      indexes = a.indexes.now;
       scope = alike_scope a.settled.scope;
       input = stored_of contents [];
       planned = a.settled.planned.plan;
@@ -99,7 +99,7 @@ parts_within contents a s is lends =
 -- lists that were made of the files by these steps
 pub all_listed : {E : Type 0} (contents : List (List ℕ)) (files : List File) (a : SettledRun) (xs : List Index) (flags : List Bool)
     (numbers : UnitNumbers)
-    (t : TextsAt) (r : Result EntryTable E) → xs ≡ a.indexes.items → flags ≡ a.settled.written.items
+    (t : TextsAt) (r : Result EntryTable E) → xs ≡ a.indexes.now → flags ≡ a.settled.written.items
     → AreNumbersOf (docs_of contents) a.settled.planned.plan flags numbers → t.files ≡ map texts_in_file files
     → HaveNames contents xs t.spaces
     → ((f : RunFacts) → AreMade f files xs a.settled.planned.plan numbers → IfOk r (λ k. AreListed f t k))

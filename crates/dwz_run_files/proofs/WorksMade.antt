@@ -46,7 +46,7 @@ pub parts_few : (contents : List (List ℕ)) (prunes : List Bool) (all : ReadyRu
 parts_few contents prunes all r = (let fits = r.ready.fits in let parts = fits.few_parts in let rows = fits.few_rows in omega
     (arith, parts, rows))
 
-module _ (f : RunFacts) (p : PreparedFiles) (works : WorksOf f p) (xs : List Index) (same : xs ≡ p.run.indexes.items) where
+module _ (f : RunFacts) (p : PreparedFiles) (works : WorksOf f p) (xs : List Index) (same : xs ≡ p.run.indexes.now) where
   facts : AreFacts f
   facts = works.ready.can.facts
 
@@ -66,7 +66,7 @@ module _ (f : RunFacts) (p : PreparedFiles) (works : WorksOf f p) (xs : List Ind
 
 -- the files are laid by these lists
 pub work_made : (f : RunFacts) (w : LaidRun) → WorksOf f w.prepared.now → (xs : List Index) (os : List (List UnitItems)) (ss ts : List ℕ)
-    → xs ≡ w.prepared.now.run.indexes.items → os ≡ w.prepared.now.ordered.orders.items → w.layout.now ≡ made_of w.prepared.now.known os
+    → xs ≡ w.prepared.now.run.indexes.now → os ≡ w.prepared.now.ordered.orders.items → w.layout.now ≡ made_of w.prepared.now.known os
     → w.starts.now ≡ ss → ss ≡ starts_from 0 xs → w.tops.now ≡ ts → ts ≡ tops_from 0 xs → IsWork f w
 work_made f w works xs os ss ts indexes orders layout starts begin tops there =
     let same : xs ≡ f.indexes = indexes ∙ sym works.indexes_are in

@@ -23,7 +23,7 @@ pub record AreFactsOf (contents : List (List ℕ)) (prunes : List Bool) (p : Pre
   pub input_is : f.input ≡ stored_of contents prunes
   pub scope_is : f.scope ≡ alike_scope p.run.settled.scope
   pub files_are : f.files ≡ p.files.now
-  pub indexes_are : f.indexes ≡ p.run.indexes.items
+  pub indexes_are : f.indexes ≡ p.run.indexes.now
   pub plan_is : f.planned ≡ p.run.settled.planned.plan
 
 -- of a file that is prunable just the texts stay that are used, with their slots; and of any other all stay

@@ -25,16 +25,16 @@ use Rattle.dwz_run_files.specs.declared.ordered.OrderedFiles.{OrderedFiles}
 
 -- facts of these files, which share so
 abbrev pub AreTheirs : List (List ℕ) → SettledRun → RunFacts → Type 0
-AreTheirs contents a f = AreFactsOf contents a.indexes.items a.settled.scope a.settled.planned f
+AreTheirs contents a f = AreFactsOf contents a.indexes.now a.settled.scope a.settled.planned f
 
 -- The files with these contents have these indexes, and they are planned and settled, in that scope; and there is a flag for each that
 -- says whether it imports from the common file.
 pub record IsSettledRun (contents : List (List ℕ)) (a : SettledRun) : Type 0 where
-  pub indexed : AreIndexes (docs_of contents) a.indexes.items
+  pub indexed : AreIndexes (docs_of contents) a.indexes.now
   pub planned : ArePlanned a.settled.scope (docs_of contents) a.settled.planned
   pub settled : (f : RunFacts) (s : Settled) → AreTheirs contents a f → Lends a.settled s → IsSettled f s
   pub fits : (s : Settled) → Lends a.settled s → AreSettled s
-  pub flags : HasFlags contents a.indexes.items a.settled.scope a.settled.planned a.settled
+  pub flags : HasFlags contents a.indexes.now a.settled.scope a.settled.planned a.settled
   pub importing : (f : RunFacts) → AreTheirs contents a f
       → a.settled.importing.items ≡ map (imports_common (move f) (units f)) (file_numbers 0 (docs f))
 
@@ -42,7 +42,7 @@ pub record IsSettledRun (contents : List (List ℕ)) (a : SettledRun) : Type 0 w
 pub record IsInOrder (contents : List (List ℕ)) (a : SettledRun) (orders : List (List UnitItems)) : Type 0 where
   pub lent : Settled
   pub lends : Lends a.settled lent
-  pub are : AreOrders contents a.indexes.items lent orders
+  pub are : AreOrders contents a.indexes.now lent orders
 
 -- so it is, and the files have these ranks and the orders these first units
 pub record AreOrdered (contents : List (List ℕ)) (a : SettledRun) (o : OrderedFiles) : Type 0 where
@@ -57,5 +57,5 @@ pub record AreListedAsRead (contents : List (List ℕ)) (files : List File) (a :
   pub numbered : AreNumbersOf (docs_of contents) a.settled.planned.plan a.settled.written.items numbers
   pub texts : TextsAt
   pub texts_are : texts.files ≡ map texts_in_file files
-  pub names : HaveNames contents a.indexes.items texts.spaces
-  pub listed : (f : RunFacts) → AreMade f files a.indexes.items a.settled.planned.plan numbers → AreListed f texts k
+  pub names : HaveNames contents a.indexes.now texts.spaces
+  pub listed : (f : RunFacts) → AreMade f files a.indexes.now a.settled.planned.plan numbers → AreListed f texts k

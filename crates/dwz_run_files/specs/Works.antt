@@ -27,7 +27,7 @@ pub record WorksOf (f : RunFacts) (p : PreparedFiles) : Type 0 where
   pub ready : IsReady f p
   pub few : length p.files.now < 2 ^ 32
   pub files_are : f.files ≡ p.files.now
-  pub indexes_are : f.indexes ≡ p.run.indexes.items
+  pub indexes_are : f.indexes ≡ p.run.indexes.now
   pub plan_is : f.planned ≡ p.run.settled.planned.plan
 
 -- they are laid, and their entries and tops are counted so

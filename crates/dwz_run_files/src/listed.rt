@@ -1,7 +1,8 @@
 //! The lists that a layout looks into, where texts stand as they were read.
 
-ghost use Rattle.std.specs.Prelude.{◌≡◌, ◌<◌, ◌^◌, length, map, IfOk};
+ghost use Rattle.std.specs.Prelude.{◌≡◌, ◌<◌, ◌^◌, List, length, map, IfOk};
 ghost use Rattle.dwz_graph.specs.Files.{AreKept, docs_of};
+ghost use Rattle.dwz_graph.specs.Index.{Index};
 ghost use Rattle.dwz_graph.specs.Indexed.{AreIndexes};
 ghost use Rattle.dwz_encode_texts.specs.Files.{texts_in_file};
 ghost use Rattle.dwz_encode_texts.specs.Names.{HaveNames};
@@ -10,7 +11,7 @@ ghost use Rattle.dwz_run_files.specs.SettledRun.{AreListedAsRead, IsSettledRun};
 use crate::number_units;
 use crate::settled::SettledRun;
 use dwz_encode_texts::{texts_of_files, texts_of_spaces};
-use dwz_graph::{File, Graph, Index};
+use dwz_graph::{File, Graph};
 use dwz_layout::EntryTable;
 use dwz_layout_input::{FileTexts, known_of};
 use dwz_model::NoMemory;
@@ -29,20 +30,15 @@ fn no_numbers(alloc: Global, count: usize) -> Result<Vec<Vec<u32>>, NoMemory>
 
 // Where the texts of files and the names of their spaces stand, as they were read. Where names stand in the common file, and the numbers
 // of its paths, isn't known yet.
-fn texts_of(
-    alloc: Global,
-    graph: &Graph,
-    files: &[File],
-    indexes: &[Index],
-) -> Result<FileTexts, NoMemory>
-    requires { AreIndexes (docs_of graph.now.given) indexes.now }
+fn texts_of(alloc: Global, graph: &Graph, files: &[File]) -> Result<FileTexts, NoMemory>
     ensures files { IfOk result (λ t. map (λ texts. texts.items) t.files.items ≡ map texts_in_file files.now) }
-    ensures spaces { IfOk result (λ t. HaveNames graph.now.given indexes.now t.spaces.items) }
+    ensures spaces { (indexes : List Index) → AreIndexes (docs_of graph.now.given) indexes
+        → IfOk result (λ t. HaveNames graph.now.given indexes t.spaces.items) }
     ensures commons { IfOk result (λ t. length t.commons.items ≡ length t.spaces.items) }
     ensures numbers { IfOk result (λ t. length t.numbers.items ≡ length files.now) }
 {
     let texts = texts_of_files(alloc, files)?;
-    let spaces = texts_of_spaces(alloc, graph, indexes)?;
+    let spaces = texts_of_spaces(alloc, graph)?;
     let commons = spaces.as_slice().to_vec(alloc)?;
     let numbers = no_numbers(alloc, files.len())?;
     Ok(FileTexts {
@@ -65,10 +61,10 @@ pub(crate) fn list_run<'u, 'a>(
     requires run { IsSettledRun graph.now.given run.now }
     ensures { IfOk result (AreListedAsRead graph.now.given files.now run.now) }
 {
-    let indexes = run.indexes.as_slice();
+    let indexes = run.indexes;
     let plan = &run.settled.planned.plan;
     let written = run.settled.written.as_slice();
     let numbers = number_units(alloc, graph, plan, written)?;
-    let texts = texts_of(alloc, graph, files, indexes)?;
+    let texts = texts_of(alloc, graph, files)?;
     known_of(alloc, files, indexes, plan, numbers, texts)
 }

@@ -57,7 +57,7 @@ fn lay_files<R: Threads + Sync>(
         → IfOk result (λ laid. IsNewCommon (run f) laid.common) }
     ensures files { (f : RunFacts) → WorksOf f prepared.now → IfOk result (λ laid. AreNewFiles (run f) laid.files.items) }
 {
-    let indexes = prepared.run.indexes.as_slice();
+    let indexes = prepared.run.indexes;
     let layout = Layout::make(alloc, &prepared.known, &prepared.ordered.orders)?;
     let starts = starts(alloc, indexes)?;
     let tops = tops(alloc, indexes)?;

@@ -39,12 +39,13 @@ pub(crate) fn moved_file<'w, 'u, 'a>(
     ensures moved { (f : RunFacts) → IsWork f work.now → HasRank f number rank → IsMoved f work.now result }
 {
     let prepared = work.prepared;
+    let indexes = prepared.run.indexes;
     let ordered = &prepared.ordered;
     let place = rank as usize + 1;
     FileAfter {
         number,
         file: &prepared.files[number],
-        index: &prepared.run.indexes[number],
+        index: &indexes[number],
         start: work.starts[number],
         first: ordered.firsts[place],
         units: ordered.orders[place].as_slice(),

@@ -44,7 +44,7 @@ fn orders_of(alloc: Global, graph: &Graph, run: &SettledRun) -> Result<Vec<FileI
     ensures { IfOk result (λ orders. IsInOrder graph.now.given run.now orders.items) }
 {
     let settled = run.settled.as_settled();
-    orders_of_files(alloc, graph, &run.indexes, &settled)
+    orders_of_files(alloc, graph, &settled)
 }
 
 /// What is written of settled files.

@@ -31,7 +31,7 @@ pub struct PreparedFiles<'u, 'a> {
     /// The files as they were read.
     pub files: &'u [File<'a>],
     /// What is settled of them.
-    pub run: SettledRun,
+    pub run: SettledRun<'u>,
     /// What is written of them, in order.
     pub ordered: OrderedFiles,
     /// The lists that a layout looks into: each text is where it stands after.

@@ -4,7 +4,7 @@ ghost use Rattle.std.specs.Prelude.{◌≡◌, ◌<◌, ◌≤◌, ◌^◌, leng
 ghost use Rattle.dwz_run_files.specs.SettledRun.{IsSettledRun};
 
 use dwz_gate::Gate;
-use dwz_graph::{Graph, Index, indexes};
+use dwz_graph::{Graph, Index};
 use dwz_layout_input::{SettledFiles, settle_files};
 use dwz_model::NoMemory;
 use dwz_plan::Scope;
@@ -14,30 +14,30 @@ use std::thread::Threads;
 
 /// The files of a run, each by itself or all together: what their entries are, and what is settled of them.
 #[derive(Drop)]
-pub struct SettledRun {
+pub struct SettledRun<'g> {
     /// What the entries of each file are.
-    pub indexes: Vec<Index>,
+    pub indexes: &'g [Index],
     /// What is settled of the files, with their plan.
     pub settled: SettledFiles,
 }
 
 /// Plans and settles files that share so.
-pub(crate) fn settle_run<R: Threads + Sync, G: Gate>(
+pub(crate) fn settle_run<'g, R: Threads + Sync, G: Gate>(
     rt: &R,
     alloc: Global,
-    graph: &Graph,
+    graph: &'g Graph<'_>,
     scope: Scope,
     workers: u32,
     gate: &G,
-) -> Result<SettledRun, NoMemory>
+) -> Result<SettledRun<'g>, NoMemory>
     requires few { length graph.now.given < 2 ^ 32 }
     requires workers { (0 < workers) × (workers ≤ 64) }
     ensures settled { IfOk result (IsSettledRun graph.now.given) }
     ensures scope { IfOk result (λ run. run.settled.scope ≡ scope) }
 {
-    let indexes = indexes(alloc, graph)?;
-    let planned = plan_files(rt, alloc, graph, &indexes, scope, workers, gate)?;
-    let settled = settle_files(alloc, graph, &indexes, scope, planned)?;
+    let indexes = graph.indexes();
+    let planned = plan_files(rt, alloc, graph, scope, workers, gate)?;
+    let settled = settle_files(alloc, graph, scope, planned)?;
     // What these say is known of what is settled.
     let _files = graph.files();
     let _lent = settled.as_settled();

@@ -1,13 +1,11 @@
 //! The units and the entries of a file, a line for each.
 
 ghost use Rattle.std.specs.Prelude.{◌≡◌, ◌<◌, length, map};
-ghost use Rattle.dwz_graph.specs.Files.{docs_of};
-ghost use Rattle.dwz_graph.specs.Indexed.{AreIndexes};
 
 use crate::tops::show_top;
 use crate::values::show_value;
 use dwz_codes::{Row, attribute_names, forms, tag_names};
-use dwz_graph::{Graph, Index, indexes};
+use dwz_graph::Graph;
 use dwz_graph_view::{AttrView, EntryView, UnitView, attr, entry, section, unit, units};
 use dwz_model::{DEBUG_INFO, Place, UnitKind};
 use std::alloc::Global;
@@ -65,15 +63,12 @@ fn show_entry(
     rt: &impl Print,
     alloc: Global,
     graph: &Graph,
-    indexes: &[Index],
     place: Place,
     view: &EntryView,
-) -> anyhow::Result<()>
-    requires { AreIndexes (docs_of graph.now.given) indexes.now }
-{
+) -> anyhow::Result<()> {
     print!(rt; "  0x{:x}:", place.offset)?;
     show_name(rt, tag_names().find(u64::from(view.tag)), view.tag)?;
-    show_top(rt, alloc, graph, indexes, place)?;
+    show_top(rt, alloc, graph, place)?;
     println!(rt)?;
     for index in 0..view.attrs {
         if let Some(attr) = attr(alloc, graph, place, index)? {
@@ -96,11 +91,10 @@ pub(crate) fn show_entries(
     let Some(info) = section(contents, graph, 0, DEBUG_INFO) else {
         return Ok(());
     };
-    let indexes = indexes(alloc, graph)?;
     for offset in 0..u32::try_from(info.len())? {
         let place = Place { file: 0, offset };
         if let Some(view) = entry(graph, place) {
-            show_entry(rt, alloc, graph, indexes.as_slice(), place, &view)?;
+            show_entry(rt, alloc, graph, place, &view)?;
         }
     }
     Ok(())

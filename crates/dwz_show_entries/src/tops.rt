@@ -1,25 +1,14 @@
 //! The tops in which entries stand.
 
-ghost use Rattle.dwz_graph.specs.Files.{docs_of};
-ghost use Rattle.dwz_graph.specs.Indexed.{AreIndexes};
-
 use crate::values::show_text;
-use dwz_graph::{Graph, Index};
+use dwz_graph::Graph;
 use dwz_graph_view::{path_of, spaces_of, top_of};
 use dwz_model::Place;
 use std::alloc::Global;
 
 // The names of the spaces around a top, the outermost first.
-fn show_spaces(
-    rt: &impl Print,
-    alloc: Global,
-    graph: &Graph,
-    indexes: &[Index],
-    top: u32,
-) -> anyhow::Result<()>
-    requires { AreIndexes (docs_of graph.now.given) indexes.now }
-{
-    if let Some(names) = spaces_of(alloc, graph, indexes, top)? {
+fn show_spaces(rt: &impl Print, alloc: Global, graph: &Graph, top: u32) -> anyhow::Result<()> {
+    if let Some(names) = spaces_of(alloc, graph, top)? {
         for name in names.as_slice() {
             print!(rt; " in")?;
             show_text(rt, name)?;
@@ -33,23 +22,20 @@ pub(crate) fn show_top(
     rt: &impl Print,
     alloc: Global,
     graph: &Graph,
-    indexes: &[Index],
     place: Place,
-) -> anyhow::Result<()>
-    requires { AreIndexes (docs_of graph.now.given) indexes.now }
-{
-    let Some(top) = top_of(graph, indexes, place) else {
+) -> anyhow::Result<()> {
+    let Some(top) = top_of(graph, place) else {
         return Ok(());
     };
     print!(rt; ", top {top}")?;
-    let Some(path) = path_of(alloc, graph, indexes, place)? else {
+    let Some(path) = path_of(alloc, graph, place)? else {
         return Ok(());
     };
     for index in path.as_slice() {
         print!(rt; ".{index}")?;
     }
     if path.as_slice().is_empty() {
-        show_spaces(rt, alloc, graph, indexes, top)?;
+        show_spaces(rt, alloc, graph, top)?;
     }
     Ok(())
 }

@@ -1,6 +1,6 @@
 //! Labels of the tops of a small file, worked out by hand.
 
-use dwz_graph::{Graph, indexes};
+use dwz_graph::Graph;
 use dwz_label_files::{count_tops, label};
 use std::test::Fail;
 
@@ -43,12 +43,11 @@ fn labels_say_what_tops_have(rt: HostRuntime) -> Result<(), Fail> {
     let alloc = rt.alloc();
     let files = [hex::decode(alloc, FILE)?];
     let graph = Graph::read(&rt, alloc, &files, 1)?;
-    let indexes = indexes(alloc, &graph)?;
-    let count = count_tops(alloc, &graph, &indexes);
+    let count = count_tops(alloc, &graph);
     assert!(rt; count == 5);
     for (top, want) in LABELS {
         assert!(rt; (top as usize) < count);
-        let found = label(alloc, &graph, &indexes, top)?;
+        let found = label(alloc, &graph, top)?;
         assert!(rt; found.as_slice() == want, "of top {top}");
     }
     Ok(())

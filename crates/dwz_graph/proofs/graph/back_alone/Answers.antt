@@ -8,7 +8,7 @@ use Rattle.dwz_unit.specs.declared.mode.FileKind.TheVariants.{Back}
 use Rattle.dwz_graph.proofs.BesideLemmas.{alone_fails, alone_says}
 use Rattle.dwz_graph.proofs.ContentLemmas.{content}
 use Rattle.dwz_graph.proofs.GraphLemmas.{by_read}
-use Rattle.dwz_graph.proofs.KeptLemmas.{none_kept}
+use Rattle.dwz_graph.proofs.KeptLemmas.{none_indexed, none_kept}
 use Rattle.dwz_graph.proofs.graph.back_alone.Goals as goal
 
 pub returns-in_err-back-clause-answers : goal.returns-in_err-back-clause-answers
@@ -25,6 +25,7 @@ invariant_of-result c =
       common_is = tt;
       given_are = none_kept [] c.new.result.items refl c.new.ensures.items;
       back_are = subst (λ (l : Limits). AreReadFromBy (back_rule None) (Back false) l files c.in_ok-back.back.items) c.all_left.ensures c.in_ok-back.ensures;
+      indexes_are = none_indexed [] c.new-2.result.items refl c.new-2.ensures.items;
     }
 
 pub returns-clause-answers : goal.returns-clause-answers

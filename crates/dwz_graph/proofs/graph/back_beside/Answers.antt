@@ -11,7 +11,7 @@ use Rattle.dwz_unit.specs.Rows.{units_of}
 use Rattle.dwz_graph.proofs.BesideLemmas.{common_fails, common_says, finished_common_fails, finished_files_fail, finished_says}
 use Rattle.dwz_graph.proofs.ContentLemmas.{content}
 use Rattle.dwz_graph.proofs.GraphLemmas.{by_read}
-use Rattle.dwz_graph.proofs.KeptLemmas.{IsSeen, common_known, none_kept, seen_rule, short_bytes}
+use Rattle.dwz_graph.proofs.KeptLemmas.{IsSeen, common_known, none_indexed, none_kept, seen_rule, short_bytes}
 use Rattle.dwz_graph.proofs.graph.back_beside.Goals as goal
 
 pub returns-in_err-common-clause-answers : goal.returns-in_err-common-clause-answers
@@ -81,6 +81,7 @@ invariant_of-result c =
           (subst (λ (k : ℕ). IsReadBy common_rule Common no_files_before k bytes f) many r);
       given_are = none_kept [] c.new.result.items refl c.new.ensures.items;
       back_are = subst (λ (w : List ℕ). AreBack (Some w) files items) (sym c.in_ok-common.ensures.bytes) (raw, r.doc, r.means, placed);
+      indexes_are = none_indexed [] c.new-2.result.items refl c.new-2.ensures.items;
     }
 
 pub returns-clause-answers : goal.returns-clause-answers

@@ -1,14 +1,18 @@
-use Rattle.std.proofs.Common.{◌+◌, ◌∷◌, ◌++◌, [], ℕ, length, ap, ◌∙◌, arith}
+use Rattle.std.proofs.Common.{◌+◌, ◌∷◌, ◌++◌, [], ℕ, List, length, ap, ◌∙◌, arith}
+use Rattle.dwz_graph.specs.Files.{docs_of}
+use Rattle.dwz_graph.specs.Index.{Index}
+use Rattle.dwz_graph.proofs.IndexesThere.{of_indexes}
+use Rattle.dwz_layout_order.specs.Ordered.{AreOrders}
 use Rattle.dwz_layout_order.proofs.FileSteps.{all_put, file_is_small, many, one_more, starts, steps_many, units_within}
 use Rattle.dwz_layout_order.proofs.PartSteps.{files_low, numbers_low, numbers_of, parts_put}
 use Rattle.dwz_layout_order.proofs.orders.orders_of_files.Goals as goal
 
 pub overflow_cast-files : goal.overflow_cast-files
-overflow_cast-files c = (let m = (many c.args.graph.now.given c.files-files.result.now c.args.indexes.now c.files-files.ensures c.requires.indexes).0 in let few = c.requires.few in omega arith)
+overflow_cast-files c = (let m = (many c.args.graph.now.given c.files-files.result.now c.indexes-indexes.result.now c.files-files.ensures c.indexes-indexes.ensures).0 in let few = c.requires.few in omega arith)
 
 pub parts_of_files-requires-clause-files : goal.parts_of_files-requires-clause-files
 parts_of_files-requires-clause-files c =
-    let m = (many c.args.graph.now.given c.files-files.result.now c.args.indexes.now c.files-files.ensures c.requires.indexes).0 in
+    let m = (many c.args.graph.now.given c.files-files.result.now c.indexes-indexes.result.now c.files-files.ensures c.indexes-indexes.ensures).0 in
     files_low (length c.files-files.result.now) (length c.args.graph.now.given) c.args.settled.now.plan.now.partials c.partials.result.now c.partials.ensures m c.requires.files
 
 pub get-requires : goal.get-requires
@@ -29,15 +33,15 @@ loop-number-init c =
     let n = length files in
     let numbers = c.get.ensures ∙ (numbers_of s n n c.partials.result.now c.in_ok-parts.parts c.partials.ensures c.in_ok-parts.ensures (omega arith)).1 in
     let common = c.in_ok-common.common.items in
-    starts c.args.graph.now.given files c.args.indexes.now c.files-files.ensures c.requires.indexes s common c.push.new.self.items
+    starts c.args.graph.now.given files c.indexes-indexes.result.now c.files-files.ensures c.indexes-indexes.ensures s common c.push.new.self.items
     (parts_put s n c.get.result.now common numbers c.in_ok-common.ensures)
     (c.in_ok-push.ensures.items ∙ (λ i. c.new-orders.ensures.items i ++ c.new.ensures i ∷ []))
 
 pub bounds-indexes-number : goal.bounds-indexes-number
-bounds-indexes-number c = (let m = (many c.args.graph.now.given c.files-files.result.now c.args.indexes.now c.files-files.ensures c.requires.indexes).1 in omega arith)
+bounds-indexes-number c = (let m = (many c.args.graph.now.given c.files-files.result.now c.indexes-indexes.result.now c.files-files.ensures c.indexes-indexes.ensures).1 in omega arith)
 
 pub overflow_cast-number : goal.overflow_cast-number
-overflow_cast-number c = (let m = (many c.args.graph.now.given c.files-files.result.now c.args.indexes.now c.files-files.ensures c.requires.indexes).0 in let few = c.requires.few in omega arith)
+overflow_cast-number c = (let m = (many c.args.graph.now.given c.files-files.result.now c.indexes-indexes.result.now c.files-files.ensures c.indexes-indexes.ensures).0 in let few = c.requires.few in omega arith)
 
 pub put_file-requires-clause-there : goal.put_file-requires-clause-there
 put_file-requires-clause-there c =
@@ -51,19 +55,19 @@ put_file-requires-clause-numbers c =
 
 pub put_file-requires-clause-small : goal.put_file-requires-clause-small
 put_file-requires-clause-small c =
-    (file_is_small c.args.graph.now.given c.files-files.result.now c.args.indexes.now c.files-files.ensures c.requires.indexes c.args.settled.now c.loop-number.number c.loop-number.start
+    (file_is_small c.args.graph.now.given c.files-files.result.now c.indexes-indexes.result.now c.files-files.ensures c.indexes-indexes.ensures c.args.settled.now c.loop-number.number c.loop-number.start
     c.loop-number.orders.items c.loop-number.invariant
     c.index-files-number.result c.index-indexes-number.result c.loop-number-test.true c.index-files-number.is c.index-indexes-number.is).0
 
 pub put_file-requires-clause-few_units : goal.put_file-requires-clause-few_units
 put_file-requires-clause-few_units c =
-    (file_is_small c.args.graph.now.given c.files-files.result.now c.args.indexes.now c.files-files.ensures c.requires.indexes c.args.settled.now c.loop-number.number c.loop-number.start
+    (file_is_small c.args.graph.now.given c.files-files.result.now c.indexes-indexes.result.now c.files-files.ensures c.indexes-indexes.ensures c.args.settled.now c.loop-number.number c.loop-number.start
     c.loop-number.orders.items c.loop-number.invariant
     c.index-files-number.result c.index-indexes-number.result c.loop-number-test.true c.index-files-number.is c.index-indexes-number.is).1
 
 pub put_file-requires-clause-imports : goal.put_file-requires-clause-imports
 put_file-requires-clause-imports c =
-    let inside = units_within c.args.graph.now.given c.files-files.result.now c.args.indexes.now c.files-files.ensures c.requires.indexes c.args.settled.now c.loop-number.number c.loop-number.start
+    let inside = units_within c.args.graph.now.given c.files-files.result.now c.indexes-indexes.result.now c.files-files.ensures c.indexes-indexes.ensures c.args.settled.now c.loop-number.number c.loop-number.start
     c.loop-number.orders.items c.loop-number.invariant
     c.index-files-number.result c.index-indexes-number.result c.loop-number-test.true c.index-files-number.is c.index-indexes-number.is in
     let all = c.requires.imports in
@@ -71,20 +75,20 @@ put_file-requires-clause-imports c =
 
 pub len-start-requires : goal.len-start-requires
 len-start-requires c =
-    let small = (file_is_small c.args.graph.now.given c.files-files.result.now c.args.indexes.now c.files-files.ensures c.requires.indexes c.args.settled.now c.loop-number.number c.loop-number.start
+    let small = (file_is_small c.args.graph.now.given c.files-files.result.now c.indexes-indexes.result.now c.files-files.ensures c.indexes-indexes.ensures c.args.settled.now c.loop-number.number c.loop-number.start
     c.loop-number.orders.items c.loop-number.invariant
     c.index-files-number.result c.index-indexes-number.result c.loop-number-test.true c.index-files-number.is c.index-indexes-number.is).0.entries in
-    let steps = steps_many c.args.graph.now.given c.files-files.result.now c.args.indexes.now c.files-files.ensures c.requires.indexes c.args.settled.now c.loop-number.number c.loop-number.start
+    let steps = steps_many c.args.graph.now.given c.files-files.result.now c.indexes-indexes.result.now c.files-files.ensures c.indexes-indexes.ensures c.args.settled.now c.loop-number.number c.loop-number.start
     c.loop-number.orders.items c.loop-number.invariant
     c.index-files-number.result c.index-indexes-number.result c.loop-number-test.true c.index-files-number.is c.index-indexes-number.is in
     omega arith
 
 pub overflow_add-start : goal.overflow_add-start
 overflow_add-start c =
-    let small = (file_is_small c.args.graph.now.given c.files-files.result.now c.args.indexes.now c.files-files.ensures c.requires.indexes c.args.settled.now c.loop-number.number c.loop-number.start
+    let small = (file_is_small c.args.graph.now.given c.files-files.result.now c.indexes-indexes.result.now c.files-files.ensures c.indexes-indexes.ensures c.args.settled.now c.loop-number.number c.loop-number.start
     c.loop-number.orders.items c.loop-number.invariant
     c.index-files-number.result c.index-indexes-number.result c.loop-number-test.true c.index-files-number.is c.index-indexes-number.is).0.entries in
-    let steps = steps_many c.args.graph.now.given c.files-files.result.now c.args.indexes.now c.files-files.ensures c.requires.indexes c.args.settled.now c.loop-number.number c.loop-number.start
+    let steps = steps_many c.args.graph.now.given c.files-files.result.now c.indexes-indexes.result.now c.files-files.ensures c.indexes-indexes.ensures c.args.settled.now c.loop-number.number c.loop-number.start
     c.loop-number.orders.items c.loop-number.invariant
     c.index-files-number.result c.index-indexes-number.result c.loop-number-test.true c.index-files-number.is c.index-indexes-number.is in
     let len = c.len-start.ensures in
@@ -92,11 +96,16 @@ overflow_add-start c =
 
 pub loop-number-preserved : goal.loop-number-preserved
 loop-number-preserved c =
-    one_more c.args.graph.now.given c.files-files.result.now c.args.indexes.now c.files-files.ensures c.requires.indexes c.args.settled.now c.loop-number.number c.loop-number.start
+    one_more c.args.graph.now.given c.files-files.result.now c.indexes-indexes.result.now c.files-files.ensures c.indexes-indexes.ensures c.args.settled.now c.loop-number.number c.loop-number.start
     c.loop-number.orders.items c.loop-number.invariant
     c.index-files-number.result c.index-indexes-number.result c.loop-number-test.true c.index-files-number.is c.index-indexes-number.is
     c.put_file.new.orders.items (c.loop-number.start + c.len-start.result) (ap (λ (k : ℕ). c.loop-number.start + k) c.len-start.ensures) c.in_ok-put_file.ensures
 
 pub returns : goal.returns
-returns c = all_put c.args.graph.now.given c.files-files.result.now c.args.indexes.now c.files-files.ensures c.requires.indexes c.args.settled.now c.loop-number.number c.loop-number.start
-    c.loop-number.orders.items (omega arith) c.loop-number.invariant
+returns c =
+    let contents = c.args.graph.now.given in
+    let s = c.args.settled.now in
+    let orders = c.loop-number.orders.items in
+    of_indexes (docs_of contents) (λ (xs : List Index). AreOrders contents xs s orders) c.indexes-indexes.result.now c.indexes-indexes.ensures
+    (all_put contents c.files-files.result.now c.indexes-indexes.result.now c.files-files.ensures c.indexes-indexes.ensures s c.loop-number.number c.loop-number.start orders (omega arith)
+    c.loop-number.invariant)

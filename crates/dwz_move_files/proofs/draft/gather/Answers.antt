@@ -6,30 +6,30 @@ use Rattle.dwz_move_files.proofs.OutlineFileSteps.{all_gathered, begin, few_step
 use Rattle.dwz_move_files.proofs.draft.gather.Goals as goal
 
 pub loop-number-init : goal.loop-number-init
-loop-number-init c = λ named. begin c.args.graph.now.given c.args.indexes.now _ (c.nothing-draft.ensures (docs_of c.args.graph.now.given) 0)
+loop-number-init c = λ named. begin c.args.graph.now.given c.indexes-indexes.result.now _ (c.nothing-draft.ensures (docs_of c.args.graph.now.given) 0)
 
 pub bounds-indexes-number : goal.bounds-indexes-number
-bounds-indexes-number c = below c.args.graph.now.given c.files-file-items.result.now c.args.indexes.now c.loop-number.number c.files-file-items.ensures c.requires.indexes c.loop-number-test.true
+bounds-indexes-number c = below c.args.graph.now.given c.files-file-items.result.now c.indexes-indexes.result.now c.loop-number.number c.files-file-items.ensures c.indexes-indexes.ensures c.loop-number-test.true
 
 pub put_file-requires-clause-few : goal.put_file-requires-clause-few
 put_file-requires-clause-few c =
-    few_steps c.args.graph.now.given c.files-file-items.result.now c.args.indexes.now c.loop-number.number c.file-item.result c.index-indexes-number.result c.files-file-items.ensures c.requires.indexes
+    few_steps c.args.graph.now.given c.files-file-items.result.now c.indexes-indexes.result.now c.loop-number.number c.file-item.result c.index-indexes-number.result c.files-file-items.ensures c.indexes-indexes.ensures
     c.loop-number-test.true c.file-item.is c.index-indexes-number.is
 
 pub put_file-requires-clause-room : goal.put_file-requires-clause-room
 put_file-requires-clause-room c =
-    room c.args.graph.now.given c.files-file-items.result.now c.args.indexes.now c.loop-number.number c.file-item.result c.index-indexes-number.result c.files-file-items.ensures c.requires.indexes
+    room c.args.graph.now.given c.files-file-items.result.now c.indexes-indexes.result.now c.loop-number.number c.file-item.result c.index-indexes-number.result c.files-file-items.ensures c.indexes-indexes.ensures
     c.loop-number-test.true c.file-item.is c.index-indexes-number.is
 
 pub put_file-requires-clause-tops : goal.put_file-requires-clause-tops
 put_file-requires-clause-tops c =
-    tops_within c.args.graph.now.given c.files-file-items.result.now c.args.indexes.now c.loop-number.number c.file-item.result c.index-indexes-number.result c.files-file-items.ensures c.requires.indexes
+    tops_within c.args.graph.now.given c.files-file-items.result.now c.indexes-indexes.result.now c.loop-number.number c.file-item.result c.index-indexes-number.result c.files-file-items.ensures c.indexes-indexes.ensures
     c.loop-number-test.true c.file-item.is c.index-indexes-number.is
 
 pub loop-number-preserved : goal.loop-number-preserved
 loop-number-preserved c = λ named. (
     let contents = c.args.graph.now.given in
-    file_more contents c.files-file-items.result.now c.args.indexes.now c.loop-number.number c.file-item.result c.index-indexes-number.result c.files-file-items.ensures c.requires.indexes
+    file_more contents c.files-file-items.result.now c.indexes-indexes.result.now c.loop-number.number c.file-item.result c.index-indexes-number.result c.files-file-items.ensures c.indexes-indexes.ensures
     c.loop-number-test.true c.file-item.is c.index-indexes-number.is
     c.loop-number.draft c.put_file.new.draft (c.loop-number.invariant named)
     (λ bytes is d. c.in_ok-put_file.ensures contents bytes is named 0 c.index-indexes-number.result.starts.top (omega arith) d))
@@ -38,7 +38,7 @@ pub returns : goal.returns
 returns c = λ named. (
     let files = c.files-file-items.result.now in
     let high : length files ≤ c.loop-number.number = omega arith in
-    all_gathered c.args.graph.now.given files c.args.indexes.now c.loop-number.number c.files-file-items.ensures c.requires.indexes high (omega arith) c.loop-number.draft (c.loop-number.invariant named))
+    all_gathered c.args.graph.now.given files c.indexes-indexes.result.now c.loop-number.number c.files-file-items.ensures c.indexes-indexes.ensures high (omega arith) c.loop-number.draft (c.loop-number.invariant named))
 
 pub overflow_cast-number : goal.overflow_cast-number
 overflow_cast-number c = (let many = files_few c.args.graph.now.given c.files-file-items.result.now c.files-file-items.ensures in omega arith)

@@ -9,30 +9,30 @@ use Rattle.dwz_move_files.proofs.marks.named_tops.Goals as goal
 pub loop-number-init : goal.loop-number-init
 loop-number-init c = (
     let docs = docs_of c.args.graph.now.given in
-    let indexes = c.args.indexes.now in
+    let indexes = c.indexes-indexes.result.now in
     record {
-      any = files_begin docs indexes names_in_unit c.in_ok-unset_flags.field-0.items (c.in_ok-unset_flags.ensures docs c.requires);
-      uleb = files_begin docs indexes (λ n. pinned_in (is_in n)) c.in_ok-unset_flags-2.field-0.items (c.in_ok-unset_flags-2.ensures docs c.requires);
+      any = files_begin docs indexes names_in_unit c.in_ok-unset_flags.field-0.items (c.in_ok-unset_flags.ensures docs c.indexes-indexes.ensures);
+      uleb = files_begin docs indexes (λ n. pinned_in (is_in n)) c.in_ok-unset_flags-2.field-0.items (c.in_ok-unset_flags-2.ensures docs c.indexes-indexes.ensures);
     })
 
 pub bounds-indexes-number : goal.bounds-indexes-number
-bounds-indexes-number c = below c.args.graph.now.given c.files-file-items.result.now c.args.indexes.now c.loop-number.number c.files-file-items.ensures c.requires c.loop-number-test.true
+bounds-indexes-number c = below c.args.graph.now.given c.files-file-items.result.now c.indexes-indexes.result.now c.loop-number.number c.files-file-items.ensures c.indexes-indexes.ensures c.loop-number-test.true
 
 pub mark_file-requires : goal.mark_file-requires
-mark_file-requires c = few c.args.graph.now.given c.files-file-items.result.now c.args.indexes.now c.loop-number.number c.file-item.result c.index-indexes-number.result c.files-file-items.ensures c.requires
+mark_file-requires c = few c.args.graph.now.given c.files-file-items.result.now c.indexes-indexes.result.now c.loop-number.number c.file-item.result c.index-indexes-number.result c.files-file-items.ensures c.indexes-indexes.ensures
     c.loop-number-test.true c.file-item.is c.index-indexes-number.is
 
 pub loop-number-preserved : goal.loop-number-preserved
 loop-number-preserved c = (
     let contents = c.args.graph.now.given in
     let files = c.files-file-items.result.now in
-    let indexes = c.args.indexes.now in
+    let indexes = c.indexes-indexes.result.now in
     let count = (starts_at (docs_of contents) indexes (length indexes)).top in
     record {
-      any = marked contents files indexes c.loop-number.number c.file-item.result c.index-indexes-number.result c.files-file-items.ensures c.requires c.loop-number-test.true c.file-item.is
+      any = marked contents files indexes c.loop-number.number c.file-item.result c.index-indexes-number.result c.files-file-items.ensures c.indexes-indexes.ensures c.loop-number-test.true c.file-item.is
           c.index-indexes-number.is
           names_in_unit count c.loop-number.named.by_any.items c.mark_file.new.named.by_any.items c.loop-number.invariant.any c.in_ok-mark_file.ensures.any;
-      uleb = marked contents files indexes c.loop-number.number c.file-item.result c.index-indexes-number.result c.files-file-items.ensures c.requires c.loop-number-test.true c.file-item.is
+      uleb = marked contents files indexes c.loop-number.number c.file-item.result c.index-indexes-number.result c.files-file-items.ensures c.indexes-indexes.ensures c.loop-number-test.true c.file-item.is
           c.index-indexes-number.is
           (λ n. pinned_in (is_in n)) count c.loop-number.named.by_uleb.items c.mark_file.new.named.by_uleb.items c.loop-number.invariant.uleb c.in_ok-mark_file.ensures.uleb;
     })
@@ -42,10 +42,10 @@ unfolding is_pinned
 returns c = (
     let contents = c.args.graph.now.given in
     let files = c.files-file-items.result.now in
-    let indexes = c.args.indexes.now in
+    let indexes = c.indexes-indexes.result.now in
     let k = c.loop-number.number in
     let high : length files ≤ k = omega arith in
     record {
-      any = files_all contents files indexes k c.files-file-items.ensures c.requires high (omega arith) names_in_unit c.loop-number.named.by_any.items c.loop-number.invariant.any;
-      uleb = files_all contents files indexes k c.files-file-items.ensures c.requires high (omega arith) (λ n. pinned_in (is_in n)) c.loop-number.named.by_uleb.items c.loop-number.invariant.uleb;
+      any = files_all contents files indexes k c.files-file-items.ensures c.indexes-indexes.ensures high (omega arith) names_in_unit c.loop-number.named.by_any.items c.loop-number.invariant.any;
+      uleb = files_all contents files indexes k c.files-file-items.ensures c.indexes-indexes.ensures high (omega arith) (λ n. pinned_in (is_in n)) c.loop-number.named.by_uleb.items c.loop-number.invariant.uleb;
     })

@@ -4,6 +4,7 @@ use Rattle.std.specs.Vec.{with_items}
 use Rattle.dwz_def_tops.specs.Spots.{units_of}
 use Rattle.dwz_graph.specs.Files.{docs_of}
 use Rattle.dwz_graph.proofs.FileLemmas.{files_few}
+use Rattle.dwz_graph.proofs.IndexesThere.{indexes_there}
 use Rattle.dwz_groups.specs.declared.groups.Edge.{Edge}
 use Rattle.dwz_groups.specs.declared.tops.TopRow.{TopRow}
 use Rattle.dwz_groups.specs.Groups.{grouped}
@@ -32,7 +33,8 @@ movable_by-requires-clause-few g c =
     let len_is : c.len.result ≡ length c.in_ok-draft.draft.rows.items = omega (arith, c.len.ensures, c.in_ok-draft.draft.rows.ok.0) in
     let made = c.in_ok-targets.ensures ∙ (λ i. grouped (len_is i) (c.as_slice.ensures.value i)) in
     let len = long docs draft d c.in_ok-targets.targets made in
-    let few = tops_few c.args.graph.now.given c.files-files.result.now c.args.indexes.now c.files-files.ensures c.requires.indexes in
+    let there = indexes_there c.args.graph.now.given c.files-files.result.now c.files-files.ensures in
+    let few = tops_few c.args.graph.now.given c.files-files.result.now there.indexes c.files-files.ensures there.are in
     omega arith
 
 pub movable_by-requires-clause-len : goal.movable_by-requires-clause-len

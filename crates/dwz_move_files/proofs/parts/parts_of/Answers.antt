@@ -17,12 +17,11 @@ pub returns-clause-len : goal.returns-clause-len
 returns-clause-len g c = (let many = files_few c.args.graph.now.given c.files.result.now c.files.ensures in omega (arith, many, c.in_ok-slots.ensures))
 
 pub returns-clause-are : goal.returns-clause-are
-returns-clause-are g c = λ named. (
+returns-clause-are g c = λ indexes are named. (
     let docs = docs_of c.args.graph.now.given in
-    let indexes = c.args.indexes.now in
     let new : List (Option Draft) = c.fill_slots.new.slots in
     let len : length new ≡ length c.as_mut_slice.result.now = c.fill_slots.auto.slots in
-    let each = c.fill_slots.ensures named in
+    let each = c.fill_slots.ensures indexes are named in
     subst (λ (parts : List (Option Draft)). AreParts docs indexes 0 parts)
     (sym (with_items_is c.in_ok-slots.slots new (omega (arith, c.in_ok-slots.slots.ok.0, ap (λ (w : List (Option Draft)). length w) c.as_mut_slice.ensures.value, len))))
     (each_part docs indexes new 0

@@ -1,5 +1,6 @@
 use Rattle.std.proofs.Common.{length, arith}
 use Rattle.dwz_graph.specs.Files.{docs_of}
+use Rattle.dwz_graph.proofs.IndexesThere.{indexes_there}
 use Rattle.dwz_law_files.proofs.FileCounts.{are_many}
 use Rattle.dwz_move_files.proofs.FilesLow.{tops_few}
 use Rattle.dwz_plan_files.proofs.OutlineNeeds.{rows_many, units_many, with_files}
@@ -8,27 +9,33 @@ use Rattle.dwz_plan_files.proofs.planned.tops_of.Goals as goal
 
 pub overflow_cast-tops : goal.overflow_cast-tops
 overflow_cast-tops g c =
-    let many = are_many c.args.graph.now.given c.files.result.now c.args.indexes.now c.files.ensures c.requires.indexes in
+    let there = indexes_there c.args.graph.now.given c.files.result.now c.files.ensures in
+    let many = are_many c.args.graph.now.given c.files.result.now there.indexes c.files.ensures there.are in
     let files = many.0 in
     let contents = many.2 in
     omega arith
 
 pub returns-clause-outline : goal.returns-clause-outline
 returns-clause-outline g c =
-    let many = are_many c.args.graph.now.given c.files.result.now c.args.indexes.now c.files.ensures c.requires.indexes in
+    let there = indexes_there c.args.graph.now.given c.files.result.now c.files.ensures in
+    let many = are_many c.args.graph.now.given c.files.result.now there.indexes c.files.ensures there.are in
     with_files (docs_of c.args.graph.now.given) c.in_ok-outline.outline.tops (length c.files.result.now) c.in_ok-outline.ensures.tops many.0
 
 pub returns-clause-files : goal.returns-clause-files
-returns-clause-files g c = (are_many c.args.graph.now.given c.files.result.now c.args.indexes.now c.files.ensures c.requires.indexes).0
+returns-clause-files g c =
+    let there = indexes_there c.args.graph.now.given c.files.result.now c.files.ensures in
+    (are_many c.args.graph.now.given c.files.result.now there.indexes c.files.ensures there.are).0
 
 pub returns-clause-few_rows : goal.returns-clause-few_rows
 returns-clause-few_rows g c =
+    let there = indexes_there c.args.graph.now.given c.files.result.now c.files.ensures in
     let many = rows_many (docs_of c.args.graph.now.given) c.in_ok-outline.outline.tops c.in_ok-outline.ensures.tops in
-    let few = tops_few c.args.graph.now.given c.files.result.now c.args.indexes.now c.files.ensures c.requires.indexes in
+    let few = tops_few c.args.graph.now.given c.files.result.now there.indexes c.files.ensures there.are in
     omega (arith, many, few)
 
 pub returns-clause-few_units : goal.returns-clause-few_units
 returns-clause-few_units g c =
+    let there = indexes_there c.args.graph.now.given c.files.result.now c.files.ensures in
     let many = units_many (docs_of c.args.graph.now.given) c.in_ok-outline.outline.tops c.in_ok-outline.ensures.tops in
-    let few = units_small c.args.graph.now.given c.files.result.now c.args.indexes.now c.files.ensures c.requires.indexes in
+    let few = units_small c.args.graph.now.given c.files.result.now there.indexes c.files.ensures there.are in
     omega (arith, many, few)

@@ -14,11 +14,14 @@ offset_bounds-prepared-number c =
 pub bounds-prepared-number : goal.bounds-prepared-number
 bounds-prepared-number c = (let r = c.requires in in_files r.0 c.args.work.now r.1 c.args.number c.args.rank r.2)
 
-pub index-requires : goal.index-requires
-index-requires c =
+pub offset_bounds-indexes-number : goal.offset_bounds-indexes-number
+offset_bounds-indexes-number c =
     let r = c.requires in
-    let below = in_indexes r.0 c.args.work.now r.1 c.args.number c.args.rank r.2 in
-    omega (arith, below, c.args.work.now.prepared.now.run.indexes.ok.0)
+    let below = in_files r.0 c.args.work.now r.1 c.args.number c.args.rank r.2 in
+    let few = r.1.works.few in omega (arith, below, few)
+
+pub bounds-indexes-number : goal.bounds-indexes-number
+bounds-indexes-number c = (let r = c.requires in in_indexes r.0 c.args.work.now r.1 c.args.number c.args.rank r.2)
 
 pub offset_bounds-work-number : goal.offset_bounds-work-number
 offset_bounds-work-number c =
@@ -29,14 +32,14 @@ offset_bounds-work-number c =
 pub bounds-work-number : goal.bounds-work-number
 bounds-work-number c = (let r = c.requires in in_starts r.0 c.args.work.now r.1 c.args.number c.args.rank r.2)
 
-pub index-requires-2 : goal.index-requires-2
-index-requires-2 c =
+pub index-requires : goal.index-requires
+index-requires c =
     let r = c.requires in
     let below = in_firsts r.0 c.args.work.now r.1 c.args.number c.args.rank r.2 in
     omega (arith, below, c.args.work.now.prepared.now.ordered.firsts.ok.0)
 
-pub index-requires-3 : goal.index-requires-3
-index-requires-3 c =
+pub index-requires-2 : goal.index-requires-2
+index-requires-2 c =
     let r = c.requires in
     let below = in_orders r.0 c.args.work.now r.1 c.args.number c.args.rank r.2 in
     omega (arith, below, c.args.work.now.prepared.now.ordered.orders.ok.0)
@@ -56,10 +59,10 @@ returns-clause-moved c f is has =
     let low_firsts : rank + 1 < length p.ordered.firsts.items = (let b = in_firsts f w is n rank has in omega (arith, b)) in
     let low_orders : rank + 1 < length p.ordered.orders.items = (let b = in_orders f w is n rank has in omega (arith, b)) in
     let units : slice_get p.ordered.orders.items (rank + 1) ≡ Some c.as_slice.result.now =
-    item_got p.ordered.orders.items (rank + 1) c.index-3.result.now low_orders c.index-3.ensures
+    item_got p.ordered.orders.items (rank + 1) c.index-2.result.now low_orders c.index-2.ensures
     ∙ ap (λ (us : List UnitItems). Some us) (sym c.as_slice.ensures) in
     is_moved f w is rank (rank + 1) _ has behind (slice_get-get_or p.files.now n c.index-prepared-number.result
     (in_files f w is n rank has))
-    (item_got p.run.indexes.items n c.index.result.now (in_indexes f w is n rank has) c.index.ensures)
+    (item_got p.run.indexes.now n c.index-indexes-number.result (in_indexes f w is n rank has) c.index-indexes-number.is)
     (slice_get-get_or w.starts.now n 0 (in_starts f w is n rank has))
-    (item_got p.ordered.firsts.items (rank + 1) c.index-2.result.now low_firsts c.index-2.ensures) units c.file.ensures
+    (item_got p.ordered.firsts.items (rank + 1) c.index.result.now low_firsts c.index.ensures) units c.file.ensures

@@ -2,8 +2,9 @@ use Rattle.std.proofs.Common.{◌≡◌, ℕ, ◌+◌, List, [], length, map, So
 use Rattle.std.proofs.lemmas.List.{length-map}
 use Rattle.std.proofs.lemmas.Result.{err_from_is_err_and}
 use Rattle.dwz_def_reading.specs.Files.{Limits, file_meaning_by, files_meaning, limits_after, no_files_before, refused_in}
+use Rattle.dwz_graph.specs.declared.file.File.{File}
 use Rattle.dwz_graph.specs.ByRule.{IsReadBy, common_rule}
-use Rattle.dwz_graph.specs.Files.{AreBack, AreReadFrom, FilesFail, limits_view, said_beside}
+use Rattle.dwz_graph.specs.Files.{AreBack, AreKept, AreReadFrom, FilesFail, limits_view, said_beside}
 use Rattle.dwz_unit.specs.declared.mode.FileKind.TheVariants.{Common}
 use Rattle.dwz_unit.specs.Rows.{units_of}
 use Rattle.dwz_graph.proofs.BesideLemmas.{beside_common_fails, beside_files_fail, beside_says, common_fails, common_says}
@@ -52,7 +53,21 @@ invariant_of-result g c =
       given_are = kept_behind bytes raw files items kept;
       back_are = subst (λ (w : List ℕ). AreBack (Some w) [] c.new.result.items) (sym c.in_ok-shared.ensures.bytes)
           (none_beside bytes raw r.doc [] c.new.result.items r.means refl c.new.ensures.items);
+      indexes_are = c.in_ok-indexes.ensures files (subst (λ (fs : List File). AreKept files fs) (sym c.deref.ensures.value) (kept_behind bytes raw files items kept));
     }
+
+pub indexes_of-requires : goal.indexes_of-requires
+indexes_of-requires g c =
+    let files : List (List ℕ) = map content c.args.files.now in
+    let n = length c.args.files.now in
+    let bytes : List ℕ = c.args.common.now in
+    let f = c.in_ok-shared.shared.file in
+    let raw = units_of f.units in
+    let r : IsReadBy common_rule Common no_files_before n bytes f = c.in_ok-shared.ensures.read in
+    let next : limits_view c.behind-left.result ≡ limits_after no_files_before bytes raw = c.behind-left.ensures r.elf ∙ ap (λ (l : Limits). limits_after l bytes raw) c.all_left.ensures in
+    let items = c.in_ok-kept.kept.items in
+    let kept : AreReadFrom (limits_after no_files_before bytes raw) files items = subst (λ (l : Limits). AreReadFrom l files items) next c.in_ok-kept.ensures in
+    (files, subst (λ (fs : List File). AreKept files fs) (sym c.deref.ensures.value) (kept_behind bytes raw files items kept))
 
 pub returns-clause-answers : goal.returns-clause-answers
 returns-clause-answers g c =

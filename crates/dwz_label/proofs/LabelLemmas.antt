@@ -53,7 +53,7 @@ two_code m n k l r s e =
     let y = number_code n l r s x.1 in
     (x.0, y.0, y.1)
 
-plain_code : Code plain_label
+pub plain_code : Code plain_label
 plain_code (Num w (pos m)) (Num v (pos n)) r s e = let c = two_code w m v n r s (tails e) in ((λ i. Num (c.0 i) (pos (c.1 i))), c.2)
 plain_code (Num w (negsuc m)) (Num v (negsuc n)) r s e = let c = two_code w m v n r s (tails e) in ((λ i. Num (c.0 i) (negsuc (c.1 i))), c.2)
 plain_code (Flag a) (Flag b) r s e = let c = flag_code a b r s (tails e) in (ap (λ (x : Bool). Flag x) c.0, c.1)

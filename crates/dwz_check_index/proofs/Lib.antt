@@ -1,0 +1,13 @@
+pub mod BelowBuilding
+pub mod ListBuilding
+pub mod UnitBuilding
+pub mod Shown
+pub mod ListShown
+pub mod ListMeans
+pub mod UnitShown
+pub mod UnitsShown
+pub mod WayLemmas
+pub mod EntryRows
+pub mod MapLemmas
+pub mod BothLemmas
+pub mod TwoNames

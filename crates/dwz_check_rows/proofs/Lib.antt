@@ -1,0 +1,4 @@
+pub mod KeyLemmas
+pub mod ListLemmas
+pub mod UnitLemmas
+pub mod NumberLemmas

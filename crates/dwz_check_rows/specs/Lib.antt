@@ -1,0 +1,4 @@
+pub mod UnitRows
+pub mod Keys
+pub mod Rows
+pub mod Texts

@@ -1,0 +1,7 @@
+pub mod Answer
+pub mod CrossNames
+pub mod CrossLabels
+pub mod CrossNodes
+pub mod CrossRows
+pub mod CrossLists
+pub mod CheckLaws

@@ -1,0 +1,10 @@
+//! Tests of the steps by which two files are compared: their rows by hand, and by chance beside the plain way.
+//!
+//! They stand on the libraries as their users do, as in `dwz_test_base`. Definitions of files and of what they mean are below what is tested
+//! here, so these tests stand in a crate of their own.
+#![tactic(auto)]
+
+#[cfg(test)]
+mod expect;
+#[cfg(test)]
+mod rows_of_units;

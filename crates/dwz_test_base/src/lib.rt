@@ -1,8 +1,9 @@
-//! Tests of the crates that know nothing of DWARF but codes and bytes: bytes, the shared table, nodes, rounds, chains, and batches of jobs.
+//! Tests of the crates that know nothing of DWARF but codes and bytes: bytes, the shared table, nodes, rounds, chains, what
+//! units take, and batches of jobs.
 //!
 //! A module for each crate that it tests. A crate with tests of its own is proved twice, so these stand on the libraries as their users do.
 //! What no clause says is tested here: that calls succeed with ample memory, that two workers are at work at once (`Watch`), the published
-//! hashes of FNV-1a, and small graphs that were worked out by hand. A test ends where memory runs out, so no test hands on an error; graphs
+//! hashes of FNV-1a, and small graphs and rows that were worked out by hand. A test ends where memory runs out, so no test hands on an error; graphs
 //! are texts, of which only one function is proved (`graph`).
 #![tactic(auto)]
 
@@ -28,5 +29,11 @@ mod rounds;
 mod shapes;
 #[cfg(test)]
 mod table;
+#[cfg(test)]
+mod taken;
+#[cfg(test)]
+mod taken_plain;
+#[cfg(test)]
+mod taken_rows;
 #[cfg(test)]
 mod watch;

@@ -1,0 +1,10 @@
+pub mod MarkFacts
+pub mod EdgeFacts
+pub mod WatchFacts
+pub mod TableFacts
+pub mod OrderFacts
+pub mod FitFacts
+pub mod MissFacts
+pub mod TakenFacts
+pub mod ImageFacts
+pub mod BlockFacts

@@ -1,0 +1,5 @@
+pub mod Takes
+pub mod Images
+pub mod Blocked
+pub mod Steps
+pub mod Tables

@@ -125,7 +125,8 @@ class File:
         for at in range(segments_at, segments_at + size * count, size or 1):
             offset, = struct.unpack_from("<Q", self.data, at + 8)
             length, = struct.unpack_from("<Q", self.data, at + 32)
-            end = max(end, offset + length)
+            if length:  # a file with debug information alone has segments without bytes
+                end = max(end, offset + length)
         for _, kind, flags, _, at, length, *_ in self.headers:
             if flags & LOADED and kind not in (NULL, NOBITS):
                 end = max(end, at + length)

@@ -7,4 +7,6 @@
 #[cfg(test)]
 mod expect;
 #[cfg(test)]
+mod fitting;
+#[cfg(test)]
 mod rows_of_units;

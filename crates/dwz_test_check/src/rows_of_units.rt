@@ -1,75 +1,16 @@
 //! Whether two files mean the same, by rows of their units: small files that were worked out by hand, and many beside the plain way, which
 //! looks for each item of one unit among those of the other. And the line of each answer.
 
-ghost use Rattle.std.specs.Prelude.{ℕ, ◌<◌, IsTrue};
-ghost use Rattle.dwz_model.specs.Lists.{Each};
-ghost use Rattle.dwz_check_rows.specs.UnitRows.{AreColumns, IsInside};
+ghost use Rattle.std.specs.Prelude.{ℕ, ◌<◌};
 
 use crate::expect::holds;
+use crate::fitting::fit;
 use dwz_check_rows::{Columns, RowKind, UnitNodes, check_text, compare};
 use dwz_def_check::Same;
 use dwz_groups::{Edge, Groups, group};
 use dwz_model::{DwzList, at_or};
 use std::alloc::Global;
 use std::process::Abort;
-
-// ---- columns that fit
-
-fn is_inside(unit: &UnitNodes, count: usize) -> bool
-    ensures { IsTrue result → IsInside count unit.now }
-{
-    let kind = match unit.kind {
-        RowKind::Compile { root, spaces_end } => {
-            (root as usize) < count && spaces_end as usize <= count
-        }
-        RowKind::OfType { .. } => (unit.top as usize) < count,
-        RowKind::Partial => true,
-    };
-    unit.tops_end as usize <= count && kind
-}
-
-fn are_inside(units: &[UnitNodes], count: usize) -> bool
-    ensures { IsTrue result → Each (IsInside count) units.now }
-{
-    for unit in units {
-        if !is_inside(unit, count) {
-            return false;
-        }
-    }
-    true
-}
-
-fn are_imported(imports: &Groups, count: usize) -> bool
-    ensures { IsTrue result → Each (Each (λ y. y < count)) imports.now }
-{
-    for unit in 0..imports.len() {
-        if !imports
-            .get(unit)
-            .iter()
-            .all(|import| (*import as usize) < count)
-        {
-            return false;
-        }
-    }
-    true
-}
-
-// Whether each node has an item in each column of nodes, and each unit in each column of units, and what units have is there.
-fn fit(columns: &Columns, count: usize) -> bool
-    ensures { IsTrue result → AreColumns count columns.now }
-{
-    let units = columns.units.len();
-    if columns.names.len() != count || columns.plain.len() != count {
-        return false;
-    }
-    if units > 1000 || columns.old > units || columns.new > units - columns.old {
-        return false;
-    }
-    if columns.paths.len() != units || columns.imports.len() != units {
-        return false;
-    }
-    are_inside(columns.units.as_slice(), count) && are_imported(&columns.imports, units)
-}
 
 // ---- files that are written down
 

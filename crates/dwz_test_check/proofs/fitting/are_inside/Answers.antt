@@ -3,7 +3,7 @@ use Rattle.dwz_check_rows.specs.UnitRows.{IsInside}
 use Rattle.dwz_check_rows.specs.declared.columns.RowKind.TheVariants.{Compile}
 use Rattle.dwz_check_rows.specs.declared.columns.UnitNodes.{UnitNodes}
 use Rattle.dwz_test_check.proofs.RowLemmas.{all_of, one_more}
-use Rattle.dwz_test_check.proofs.rows_of_units.are_inside.Goals as goal
+use Rattle.dwz_test_check.proofs.fitting.are_inside.Goals as goal
 
 -- what is read where there is no item
 abbrev first_unit : UnitNodes

@@ -2,7 +2,7 @@ use Rattle.std.proofs.Common.{◌<◌, [], get_or, arith}
 use Rattle.dwz_model.specs.Lists.{Each}
 use Rattle.dwz_model.proofs.Members.{each_below}
 use Rattle.dwz_test_check.proofs.RowLemmas.{each_from_all}
-use Rattle.dwz_test_check.proofs.rows_of_units.are_imported.Goals as goal
+use Rattle.dwz_test_check.proofs.fitting.are_imported.Goals as goal
 
 pub returns : goal.returns
 returns c = λ _. each_below (Each (λ y. y < c.args.count)) c.args.imports.now

@@ -92,7 +92,7 @@ pub struct UnitStart {
 /// units and their spaces in order; and where those of each unit begin. Clauses see these lists; `IsCrossIndex` says which names they show.
 #[derive(Drop)]
 pub struct CrossIndex {
-    pub(crate) steps: Vec<Step>,
+    pub steps: Vec<Step>,
     pub(crate) tops: Vec<TopEntry>,
     pub(crate) lone: Vec<u32>,
     pub(crate) units: Vec<UnitStart>,

@@ -14,8 +14,8 @@ use Rattle.dwz_def_reading.proofs.EndLemmas.{rows_end}
 use Rattle.dwz_def_reading.proofs.NamedLemmas.{units_name, units_some}
 use Rattle.dwz_def_reading.proofs.PassLemmas.{none_pass}
 use Rattle.dwz_def_reading.proofs.WriteOver.{rows_patched, written_len}
-use Rattle.dwz_graph.specs.declared.operands.ListOperand.{ListOperand}
-use Rattle.dwz_graph.specs.ListRows.{operand_view}
+use Rattle.dwz_graph_resolve.specs.declared.operands.ListOperand.{ListOperand}
+use Rattle.dwz_graph_resolve.specs.ListRows.{operand_view}
 use Rattle.dwz_encode_sections.specs.Numbers.{EndIn, spots, with_numbers}
 
 -- ---- one by one

@@ -1,7 +1,7 @@
 -- Operands of location lists with other numbers (DWARF 5, 2.6.2 and 7.7.3).
 use Rattle.std.specs.Prelude.{◌≡◌, ℕ, ◌+◌, ◌≤◌, List, length, map}
-use Rattle.dwz_graph.specs.declared.operands.ListOperand.{ListOperand}
-use Rattle.dwz_graph.specs.ListRows.{operand_view}
+use Rattle.dwz_graph_resolve.specs.declared.operands.ListOperand.{ListOperand}
+use Rattle.dwz_graph_resolve.specs.ListRows.{operand_view}
 use Rattle.dwz_def_reading.specs.Lists.{Each}
 use Rattle.dwz_def_reading.specs.Units.{RawUnit}
 use Rattle.dwz_def_reading.specs.declared.exprs.Operand.{Operand}

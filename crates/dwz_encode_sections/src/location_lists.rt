@@ -6,7 +6,7 @@ ghost use Rattle.std.specs.Prelude.{◌≡◌, IfOk, length};
 ghost use Rattle.dwz_encode_sections.specs.Numbers.{EndIn, with_numbers};
 
 use crate::numbers::put_number;
-use dwz_graph::ListOperand;
+use dwz_graph_resolve::ListOperand;
 use dwz_model::NoMemory;
 use std::alloc::Global;
 

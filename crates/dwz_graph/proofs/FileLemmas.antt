@@ -20,12 +20,12 @@ use Rattle.dwz_def_reading.specs.NamedLists.{lists_of_units}
 use Rattle.dwz_def_reading.specs.Ranges.{RangeSet}
 use Rattle.dwz_def_reading.specs.Rules.{ReadingRule}
 use Rattle.dwz_def_reading.specs.Shared.{AreRows, ListOperand}
-use Rattle.dwz_graph.specs.Said.{behind_sets, behind_units, kept, said}
+use Rattle.dwz_graph_resolve.specs.Said.{behind_sets, behind_units, kept, said}
 use Rattle.dwz_def_reading.specs.Units.{RawUnit, units_at}
 use Rattle.dwz_def_reading.proofs.CaseFacts.{or_left, or_right}
 use Rattle.dwz_def_reading.proofs.RangeBytes.{bytes_short as in_bytes}
 use Rattle.dwz_elf.specs.Reads.{GivesOrRefuses}
-use Rattle.dwz_graph.specs.Named.{map_ok, units_refs}
+use Rattle.dwz_graph_resolve.specs.Named.{map_ok, units_refs}
 use Rattle.dwz_graph.specs.declared.file.File.{File}
 use Rattle.dwz_graph.specs.Files.{AreKept, IsRead}
 use Rattle.dwz_graph.proofs.OneAfter.{many_as}

@@ -10,8 +10,8 @@ use Rattle.dwz_graph.specs.declared.file.Headed.{Headed}
 use Rattle.dwz_graph.specs.declared.file.Opened.{Opened}
 use Rattle.dwz_graph.specs.declared.rule.Rule.{Rule}
 use Rattle.dwz_graph.specs.ByRule.{IsGoodRule, IsHeaded, IsOpened, common_of, kind_of, rule_view}
-use Rattle.dwz_graph.specs.Resolved.{sources_view}
-use Rattle.dwz_graph.specs.Surroundings.{common_view, entries_among}
+use Rattle.dwz_graph_resolve.specs.Resolved.{sources_view}
+use Rattle.dwz_graph_resolve.specs.Surroundings.{common_view, entries_among}
 use Rattle.dwz_unit.specs.Rows.{Source, units_of}
 use Rattle.dwz_graph.proofs.FileLemmas.{IsGood, bytes_short, content_short, units_fail, units_read}
 use Rattle.dwz_graph.proofs.RuleLemmas.{around_known, own_few, room_among}

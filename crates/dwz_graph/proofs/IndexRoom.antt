@@ -14,7 +14,7 @@ use Rattle.dwz_def_reading.specs.Documents.{Doc, DwUnit}
 use Rattle.dwz_def_reading.specs.Files.{Limits, around_of, debug_abbrev, debug_info, file_meaning, file_meaning_by, longest_file, section_of}
 use Rattle.dwz_def_reading.specs.Meanings.{Around, MeanUnits, places_in, places_of}
 use Rattle.dwz_def_reading.proofs.FileLemmas.{file_agrees, file_agrees_by}
-use Rattle.dwz_graph.proofs.PlaceLemmas.{ascend_long, unit_and_entries, units_and_entries_ascend}
+use Rattle.dwz_graph_resolve.proofs.PlaceLemmas.{ascend_long, unit_and_entries, units_and_entries_ascend}
 
 below_many : (f : Forest RawEntry) → length (places_in f) ≡ size f
 unfolding places_in

@@ -9,7 +9,7 @@ use Rattle.dwz_def_reading.specs.Files.{Limits, around_of, file_meaning, files_m
 use Rattle.dwz_def_reading.specs.Meanings.{Around}
 use Rattle.dwz_def_reading.specs.Meant.{units_meaning}
 use Rattle.dwz_graph.specs.declared.file.File.{File}
-use Rattle.dwz_graph.specs.Given.{AreGiven}
+use Rattle.dwz_graph_resolve.specs.Given.{AreGiven}
 use Rattle.dwz_graph.specs.Files.{AreKept, AreRead, docs_of, or_none}
 use Rattle.dwz_graph.proofs.GraphLemmas.{step}
 use Rattle.dwz_unit.specs.Rows.{units_of}

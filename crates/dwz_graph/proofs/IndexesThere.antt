@@ -8,12 +8,12 @@ use Rattle.dwz_graph.specs.declared.file.File.{File}
 use Rattle.dwz_graph.specs.declared.index.Starts.{Starts}
 use Rattle.dwz_graph.specs.Building.{nothing_yet, with_units}
 use Rattle.dwz_graph.specs.Files.{AreKept, docs_of}
-use Rattle.dwz_graph.specs.Given.{AreGiven}
+use Rattle.dwz_graph_resolve.specs.Given.{AreGiven}
 use Rattle.dwz_graph.specs.Index.{Index}
 use Rattle.dwz_graph.specs.Indexed.{AreIndexed, AreIndexes, IsIndexOf, first_starts, starts_behind}
 use Rattle.dwz_graph.proofs.IndexSteps.{AreDocs, docs_are, docs_there}
 use Rattle.dwz_graph.proofs.TopNameLemmas.{means_units}
-use Rattle.dwz_graph.proofs.UnitStarts.{all_whole}
+use Rattle.dwz_graph_resolve.proofs.UnitStarts.{all_whole}
 use Rattle.dwz_graph.proofs.UnitsMean.{has_tops, is_index}
 
 -- ---- no more than one

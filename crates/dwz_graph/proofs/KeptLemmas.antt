@@ -17,7 +17,7 @@ use Rattle.dwz_unit.specs.Rows.{Source, units_of}
 use Rattle.dwz_graph.proofs.BesideLemmas.{beside_is}
 use Rattle.dwz_graph.proofs.EnoughRoom.{none_leave_more, read_before}
 use Rattle.dwz_graph.proofs.IndexRoom.{entries_within}
-use Rattle.dwz_graph.proofs.PlaceLemmas.{places_are, places_many}
+use Rattle.dwz_graph_resolve.proofs.PlaceLemmas.{places_are, places_many}
 
 -- none are given
 pub none_kept : (contents : List (List ℕ)) (files : List File) → contents ≡ [] → files ≡ [] → AreKept contents files

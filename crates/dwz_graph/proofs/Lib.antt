@@ -1,36 +1,3 @@
-pub mod RowLemmas
-pub mod RootLemmas
-pub mod NamedLemmas
-pub mod PlaceLemmas
-pub mod SurroundingLemmas
-pub mod NamedSteps
-pub mod CommonSteps
-pub mod UnitThere
-pub mod ValueSteps
-pub mod TextLemmas
-pub mod TextSteps
-pub mod StateLemmas
-pub mod Answering
-pub mod SearchLemmas
-pub mod UnitStarts
-pub mod SetSteps
-pub mod StandLemmas
-pub mod ApartLemmas
-pub mod PassLemmas
-pub mod SharedLaw
-pub mod OperandSteps
-pub mod FileSteps
-pub mod ListSteps
-pub mod ConstantSteps
-pub mod MarkLemmas
-pub mod ListPasses
-pub mod ListKept
-pub mod ListStates
-pub mod ListGoes
-pub mod QuickSteps
-pub mod PartSteps
-pub mod LineSteps
-pub mod FewRefs
 mod SharedRows
 pub mod PlainBeside
 mod SupLemmas
@@ -41,6 +8,7 @@ mod FilesBy
 pub mod AheadLemmas
 mod EnoughRoom
 mod RuleLemmas
+mod AloneLemmas
 mod KeptLemmas
 mod BesideLemmas
 pub mod FileLemmas
@@ -48,7 +16,6 @@ pub mod GraphLemmas
 mod RoomLemmas
 pub mod TreeLemmas
 pub mod StepLemmas
-pub mod MapKeys
 pub mod NameLemmas
 pub mod TopThere
 pub mod PartLemmas
@@ -73,8 +40,5 @@ pub mod RowUnits
 pub mod IndexRoom
 pub mod IndexSteps
 pub mod IndexesThere
-pub mod StopSteps
-pub mod JoinLemmas
-pub mod StretchLemmas
 mod OpenedLemmas
 mod HeadedLemmas

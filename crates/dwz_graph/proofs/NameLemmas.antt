@@ -4,8 +4,8 @@ use Rattle.std.specs.Prelude.{slice_index}
 use Rattle.dwz_def_reading.specs.Units.{RawUnit}
 use Rattle.dwz_def_tops.specs.Spots.{EntryName}
 use Rattle.dwz_graph.specs.Rows.{AreNamed, AreTargets, row_names}
-use Rattle.dwz_graph.proofs.PlaceLemmas.{places_many}
-use Rattle.dwz_graph.specs.Resolved.{AreEntries, place_at, places}
+use Rattle.dwz_graph_resolve.proofs.PlaceLemmas.{places_many}
+use Rattle.dwz_graph_resolve.specs.Resolved.{AreEntries, place_at, places}
 
 pub places_target : (raw : List RawUnit) (numbers ps more : List ℕ) → AreEntries raw numbers → map (place_at raw) numbers ≡ ps ++ more → AreTargets raw numbers ps
 places_target raw numbers [] more low is = tt

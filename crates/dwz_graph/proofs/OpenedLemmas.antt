@@ -8,14 +8,14 @@ use Rattle.dwz_def_reading.specs.NamedLists.{lists_of_units}
 use Rattle.dwz_def_reading.specs.Shared.{AreRows}
 use Rattle.dwz_def_reading.specs.Units.{entries_in}
 use Rattle.dwz_graph.specs.declared.file.Opened.{Opened}
-use Rattle.dwz_graph.specs.declared.resolving.Resolved.{Resolved}
+use Rattle.dwz_graph_resolve.specs.declared.resolving.Resolved.{Resolved}
 use Rattle.dwz_graph.specs.declared.rule.Rule.{Rule}
 use Rattle.dwz_graph.specs.ByRule.{IsOpened, IsReadBy, kind_of, rule_view}
-use Rattle.dwz_graph.specs.ListRows.{AreOfFile, operand_view}
-use Rattle.dwz_graph.specs.Named.{map_ok, units_refs}
-use Rattle.dwz_graph.specs.Parts.{AreParted, HaveLines}
-use Rattle.dwz_graph.specs.Said.{said}
-use Rattle.dwz_graph.specs.Surroundings.{AreAmong, around_in, place_among}
+use Rattle.dwz_graph_resolve.specs.ListRows.{AreOfFile, operand_view}
+use Rattle.dwz_graph_resolve.specs.Named.{map_ok, units_refs}
+use Rattle.dwz_graph_resolve.specs.Parts.{AreParted, HaveLines}
+use Rattle.dwz_graph_resolve.specs.Said.{said}
+use Rattle.dwz_graph_resolve.specs.Surroundings.{AreAmong, around_in, place_among}
 use Rattle.dwz_unit.specs.Rows.{units_of}
 use Rattle.dwz_graph.proofs.FileLemmas.{has_doc, named_fail}
 

@@ -10,12 +10,12 @@ use Rattle.dwz_graph.specs.Rows.{AreRowsMeant, AreTargets, RowsMean, node_refs, 
 use Rattle.dwz_graph.proofs.NameLemmas.{places_target}
 use Rattle.dwz_def_reading.specs.Documents.{Node}
 use Rattle.dwz_def_reading.specs.Meanings.{Around, scope_of}
-use Rattle.dwz_graph.proofs.NamedSteps.{each_append}
-use Rattle.dwz_graph.proofs.RowLemmas.{rows-length}
-use Rattle.dwz_graph.proofs.SurroundingLemmas.{entries_drop, entries_take, own_places}
-use Rattle.dwz_graph.specs.Parts.{AreParted}
-use Rattle.dwz_graph.specs.Resolved.{AreEntries}
-use Rattle.dwz_graph.specs.Surroundings.{place_among}
+use Rattle.dwz_graph_resolve.proofs.NamedSteps.{each_append}
+use Rattle.dwz_graph_resolve.proofs.RowLemmas.{rows-length}
+use Rattle.dwz_graph_resolve.proofs.SurroundingLemmas.{entries_drop, entries_take, own_places}
+use Rattle.dwz_graph_resolve.specs.Parts.{AreParted}
+use Rattle.dwz_graph_resolve.specs.Resolved.{AreEntries}
+use Rattle.dwz_graph_resolve.specs.Surroundings.{place_among}
 use Rattle.dwz_def_reading.specs.Lists.{Each}
 use Rattle.dwz_unit.specs.Rows.{EntryRow, rows_below, rows_of}
 

@@ -11,11 +11,11 @@ use Rattle.dwz_model.specs.declared.fault.ReadErr.{ReadErr}
 use Rattle.dwz_graph.specs.declared.file.File.{File}
 use Rattle.dwz_graph.specs.declared.rule.Rule.{Rule}
 use Rattle.dwz_graph.specs.declared.rule.Rule.TheVariants.{Given, Common, Back}
-use Rattle.dwz_graph.specs.declared.surroundings.Surroundings.{Surroundings}
+use Rattle.dwz_graph_resolve.specs.declared.surroundings.Surroundings.{Surroundings}
 use Rattle.dwz_graph.specs.ByRule.{IsGoodRule, ReadsFileBy, around_beside, common_of, rule_view}
 use Rattle.dwz_graph.specs.Files.{ReadsFile}
-use Rattle.dwz_graph.specs.Resolved.{sources_view}
-use Rattle.dwz_graph.specs.Surroundings.{around_in, common_view, entries_among}
+use Rattle.dwz_graph_resolve.specs.Resolved.{sources_view}
+use Rattle.dwz_graph_resolve.specs.Surroundings.{around_in, common_view, entries_among}
 use Rattle.dwz_graph.proofs.FileLemmas.{fits_file}
 use Rattle.dwz_graph.proofs.IndexRoom.{units_fit}
 

@@ -8,7 +8,7 @@ use Rattle.dwz_def_reading.specs.Meanings.{IsTextIn, MeaningContext, MeansAs, Me
 use Rattle.dwz_def_reading.specs.Classes.{OfTextBySlot, OfTextInLineStr, OfTextInStr}
 use Rattle.dwz_def_reading.specs.Classes.{Class, class_of}
 use Rattle.dwz_def_tops.specs.Spaces.{text_of_plain}
-use Rattle.dwz_graph.specs.declared.sections.InputSections.{InputSections}
+use Rattle.dwz_graph_resolve.specs.declared.sections.InputSections.{InputSections}
 use Rattle.dwz_graph.specs.Spaces.{IsOwn}
 use Rattle.dwz_graph.proofs.SpaceMeans.{text_is}
 

@@ -11,7 +11,7 @@ use Rattle.dwz_graph.proofs.TreeLemmas.{node_attrs}
 use Rattle.dwz_def_reading.specs.Documents.{Attr, Node}
 use Rattle.dwz_def_reading.specs.Meanings.{MeaningContext, without_siblings}
 use Rattle.dwz_def_reading.specs.Meant.{attr_with, attrs_meaning, meaning, with_attr}
-use Rattle.dwz_graph.specs.Named.{attrs_refs, value_refs}
+use Rattle.dwz_graph_resolve.specs.Named.{attrs_refs, value_refs}
 use Rattle.dwz_unit.specs.Rows.{EntryRow, rows_of}
 
 -- ---- numbers of what is named

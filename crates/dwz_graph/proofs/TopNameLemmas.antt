@@ -14,9 +14,9 @@ use Rattle.dwz_def_reading.specs.Meanings.{MeanEntries, MeanUnits, Sources, all_
 use Rattle.dwz_def_reading.specs.Meant.{units_meaning}
 use Rattle.dwz_def_reading.proofs.FileLemmas.{file_agrees}
 use Rattle.dwz_def_reading.proofs.MeaningUnits.{units_agree}
-use Rattle.dwz_graph.specs.Resolved.{place_at, places}
-use Rattle.dwz_graph.proofs.PlaceLemmas.{Ascend, places_are, places_many, unit_and_entries, units_and_entries_ascend}
-use Rattle.dwz_graph.proofs.UnitStarts.{places_whole}
+use Rattle.dwz_graph_resolve.specs.Resolved.{place_at, places}
+use Rattle.dwz_graph_resolve.proofs.PlaceLemmas.{Ascend, places_are, places_many, unit_and_entries, units_and_entries_ascend}
+use Rattle.dwz_graph_resolve.proofs.UnitStarts.{places_whole}
 use Rattle.dwz_def_tops.specs.Lists.{NoneTwice}
 use Rattle.dwz_def_tops.specs.Seen.{IsPartial}
 use Rattle.dwz_def_tops.specs.Shown.{keys, unit_keys, units_keys}

@@ -11,7 +11,7 @@ use Rattle.dwz_graph.specs.Rows.{RowsMean, node_refs, nodes, nodes_refs}
 use Rattle.dwz_def_reading.specs.Documents.{Attr, Entries, Node, entries_map, node_map}
 use Rattle.dwz_def_reading.specs.Meanings.{MeaningContext, without_siblings}
 use Rattle.dwz_def_reading.specs.Meant.{attrs_meaning, entries_meaning, node_meaning, node_with, with_next}
-use Rattle.dwz_graph.specs.Named.{attrs_refs, entries_refs}
+use Rattle.dwz_graph_resolve.specs.Named.{attrs_refs, entries_refs}
 use Rattle.dwz_unit.specs.Rows.{EntryRow, rows_below}
 
 -- ---- the parts of what is meant

@@ -6,7 +6,7 @@ use Rattle.dwz_def_reading.specs.Units.{CompileUnit, PartialUnit, RawKind, RawUn
 use Rattle.dwz_def_reading.specs.Documents.{DwUnit, Kind, Node}
 use Rattle.dwz_def_reading.specs.Files.{place_if_whole, unit_places}
 use Rattle.dwz_def_reading.specs.Meanings.{Around, MeanUnits, MeaningContext, MeansKind, MeansUnit, scope_of}
-use Rattle.dwz_graph.proofs.UnitStarts.{starts as places_of_units}
+use Rattle.dwz_graph_resolve.proofs.UnitStarts.{starts as places_of_units}
 use Rattle.dwz_def_reading.specs.Lists.{Each}
 use Rattle.dwz_def_tops.specs.Seen.{IsPartial}
 use Rattle.dwz_def_tops.specs.Spots.{EntryName, top_count}

@@ -15,17 +15,17 @@ use Rattle.dwz_def_reading.specs.OtherPlaces.{numbered, place_numbered}
 use Rattle.dwz_def_reading.specs.Rules.{ReadingRule}
 use Rattle.dwz_def_reading.specs.Shared.{AreRows}
 use Rattle.dwz_def_reading.specs.Units.{RawUnit, entries_in}
-use Rattle.dwz_graph.specs.ListRows.{AreOfFile, operand_view}
+use Rattle.dwz_graph_resolve.specs.ListRows.{AreOfFile, operand_view}
 use Rattle.dwz_graph.specs.declared.file.File.{File}
 use Rattle.dwz_graph.specs.declared.file.Headed.{Headed}
 use Rattle.dwz_graph.specs.declared.file.Opened.{Opened}
 use Rattle.dwz_graph.specs.declared.rule.Beside.{Beside}
 use Rattle.dwz_graph.specs.declared.rule.Rule.{Rule}
 use Rattle.dwz_graph.specs.declared.rule.Rule.TheVariants.{Given, Common as CommonFile, Back}
-use Rattle.dwz_graph.specs.Named.{units_refs}
-use Rattle.dwz_graph.specs.Parts.{AreParted, HaveLines}
-use Rattle.dwz_graph.specs.Resolved.{sources_view}
-use Rattle.dwz_graph.specs.Surroundings.{AreAmong, around_in, common_view, entries_among, place_among}
+use Rattle.dwz_graph_resolve.specs.Named.{units_refs}
+use Rattle.dwz_graph_resolve.specs.Parts.{AreParted, HaveLines}
+use Rattle.dwz_graph_resolve.specs.Resolved.{sources_view}
+use Rattle.dwz_graph_resolve.specs.Surroundings.{AreAmong, around_in, common_view, entries_among, place_among}
 use Rattle.dwz_unit.specs.declared.mode.FileKind.{FileKind}
 use Rattle.dwz_unit.specs.declared.mode.FileKind.TheVariants.{Given as OfGiven, Common as OfCommon, Back as OfBack}
 use Rattle.dwz_unit.specs.Rows.{units_of}

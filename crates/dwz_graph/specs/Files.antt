@@ -16,16 +16,16 @@ use Rattle.dwz_def_reading.specs.Rules.{ReadingRule}
 use Rattle.dwz_def_reading.specs.Units.{RawUnit, entries_in}
 use Rattle.dwz_def_reading.specs.NamedLists.{lists_of_units}
 use Rattle.dwz_def_reading.specs.Shared.{AreRows}
-use Rattle.dwz_graph.specs.ListRows.{AreOfFile, operand_view}
+use Rattle.dwz_graph_resolve.specs.ListRows.{AreOfFile, operand_view}
 use Rattle.dwz_graph.specs.declared.file.File.{File}
 use Rattle.dwz_graph.specs.declared.file.Budget.{Budget}
 use Rattle.dwz_graph.specs.ByRule.{AreReadAs, AreReadBy, IsReadBy, numbered_rule}
-use Rattle.dwz_graph.specs.Given.{AreGiven}
+use Rattle.dwz_graph_resolve.specs.Given.{AreGiven}
 use Rattle.dwz_graph.specs.Index.{Index}
 use Rattle.dwz_graph.specs.Indexed.{AreIndexes}
-use Rattle.dwz_graph.specs.Named.{units_refs}
-use Rattle.dwz_graph.specs.Parts.{AreParted, HaveLines}
-use Rattle.dwz_graph.specs.Resolved.{AreEntries, place_at, sources_view}
+use Rattle.dwz_graph_resolve.specs.Named.{units_refs}
+use Rattle.dwz_graph_resolve.specs.Parts.{AreParted, HaveLines}
+use Rattle.dwz_graph_resolve.specs.Resolved.{AreEntries, place_at, sources_view}
 use Rattle.dwz_unit.specs.declared.mode.FileKind.{FileKind}
 use Rattle.dwz_unit.specs.declared.mode.FileKind.TheVariants.{Common, Back}
 use Rattle.dwz_unit.specs.Rows.{units_of}

@@ -5,7 +5,7 @@ use Rattle.dwz_def_reading.specs.Documents.{Doc, DwUnit, unit_map}
 use Rattle.dwz_def_reading.specs.Files.{Limits, around_of, file_meaning}
 use Rattle.dwz_def_reading.specs.Meant.{units_meaning}
 use Rattle.dwz_def_tops.specs.Spots.{EntryName, Top, Within, in_file, spot_in, spots_from, tops_among, tops_from}
-use Rattle.dwz_graph.specs.Resolved.{place_at}
+use Rattle.dwz_graph_resolve.specs.Resolved.{place_at}
 use Rattle.dwz_graph.specs.declared.index.SpaceEntry.{SpaceEntry}
 use Rattle.dwz_graph.specs.declared.index.Starts.{Starts}
 use Rattle.dwz_graph.specs.declared.index.TopEntry.{TopEntry}

@@ -1,21 +1,4 @@
-pub mod Named
-pub mod TextEnds
-pub mod Apart
-pub mod ListRows
-pub mod ListParts
-pub mod State
-pub mod Surroundings
-pub mod Resolved
-pub mod Quick
-pub mod Said
-pub mod Operands
-pub mod FileRows
-pub mod ListSteps
-pub mod Parts
-pub mod TablePlaces
-pub mod Places
 pub mod Ahead
-pub mod Given
 pub mod ByRule
 pub mod Files
 pub mod Rows
@@ -29,4 +12,3 @@ pub mod Tops
 pub mod Chains
 pub mod IndexLaws
 pub mod Indexed
-pub mod Stretches

@@ -7,8 +7,8 @@ use Rattle.dwz_def_reading.specs.Units.{RawUnit, entries_in}
 use Rattle.dwz_def_reading.specs.Documents.{Attr, Entries, Node, Value}
 use Rattle.dwz_def_reading.specs.Meanings.{MeaningContext, without_siblings}
 use Rattle.dwz_def_reading.specs.Meant.{attr_with, attrs_meaning, meaning, node_meaning}
-use Rattle.dwz_graph.specs.Named.{attrs_refs, value_refs}
-use Rattle.dwz_graph.specs.Resolved.{place_at, places}
+use Rattle.dwz_graph_resolve.specs.Named.{attrs_refs, value_refs}
+use Rattle.dwz_graph_resolve.specs.Resolved.{place_at, places}
 use Rattle.dwz_def_tops.specs.Spots.{EntryName}
 use Rattle.dwz_unit.specs.Rows.{EntryRow, rows_of}
 

@@ -5,8 +5,8 @@ use Rattle.dwz_def_reading.specs.Meanings.{MeaningContext, first_raw}
 use Rattle.dwz_def_reading.specs.Classes.{OfCommonText, OfText, OfTextBySlot, OfTextInLineStr, OfTextInStr}
 use Rattle.dwz_def_reading.specs.Classes.{Class, class_of}
 use Rattle.dwz_def_reading.specs.Meanings.{str_offsets_base}
-use Rattle.dwz_graph.specs.declared.sections.InputSections.{InputSections}
-use Rattle.dwz_graph.specs.Resolved.{sources_view}
+use Rattle.dwz_graph_resolve.specs.declared.sections.InputSections.{InputSections}
+use Rattle.dwz_graph_resolve.specs.Resolved.{sources_view}
 
 -- the values of the class are texts
 abbrev pub is_text : Class → Bool

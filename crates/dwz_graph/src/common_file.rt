@@ -12,7 +12,7 @@ use crate::file::{File, all_left, read_by};
 use crate::readings::in_file;
 use crate::rule::{Beside, Rule};
 use crate::sup::sum_of;
-use crate::surroundings::CommonPart;
+use dwz_graph_resolve::CommonPart;
 use dwz_model::GraphErr;
 use std::alloc::Global;
 

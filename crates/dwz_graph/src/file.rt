@@ -5,17 +5,15 @@ ghost use Rattle.dwz_def_reading.specs.Faults.{Fails};
 ghost use Rattle.dwz_def_reading.specs.ElfFaults.{file_fault};
 ghost use Rattle.dwz_def_reading.specs.Files;
 ghost use Rattle.dwz_def_reading.specs.ElfReading.{elf_of};
-ghost use Rattle.dwz_graph.specs.Resolved.{sources_view};
+ghost use Rattle.dwz_graph_resolve.specs.Resolved.{sources_view};
 ghost use Rattle.dwz_graph.specs.ByRule.{IsGoodRule, IsHeaded, IsOpened, ReadsFileBy, common_of, rule_view};
 ghost use Rattle.dwz_graph.specs.Files.{ReadsFile, limits_view};
-ghost use Rattle.dwz_graph.specs.Surroundings.{common_view};
+ghost use Rattle.dwz_graph_resolve.specs.Surroundings.{common_view};
 ghost use Rattle.dwz_model.specs.declared.fault.ReadErr.TheVariants.{Refused};
 
-use crate::resolving::{resolve, resolve_by};
 use crate::rule::Rule;
-use crate::surroundings::Surroundings;
-use crate::{InputSections, Resolved, TextSection};
 use dwz_elf::Elf;
+use dwz_graph_resolve::{InputSections, Resolved, Surroundings, TextSection, resolve, resolve_by};
 use dwz_model::{
     DEBUG_ABBREV, DEBUG_ARANGES, DEBUG_INFO, DEBUG_LINE, DEBUG_LINE_STR, DEBUG_LOCLISTS, DEBUG_STR,
     DEBUG_STR_OFFSETS, Fault, ReadErr, Reason, WHOLE_FILE,

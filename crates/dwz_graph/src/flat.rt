@@ -13,9 +13,9 @@ ghost use Rattle.dwz_graph.specs.FlatTops.{HasTop, HasTopOfFile};
 ghost use Rattle.dwz_def_reading.specs.Documents.{Attr, DwUnit, Entries, Node, entries_map, node_map};
 ghost use Rattle.dwz_def_reading.specs.Meanings.{Around, MeaningContext, scope_of};
 ghost use Rattle.dwz_def_reading.specs.Meant.{entries_meaning, units_meaning};
-ghost use Rattle.dwz_graph.specs.Named.{entries_refs};
-ghost use Rattle.dwz_graph.specs.Parts.{AreParted};
-ghost use Rattle.dwz_graph.specs.Resolved.{AreEntries, place_at};
+ghost use Rattle.dwz_graph_resolve.specs.Named.{entries_refs};
+ghost use Rattle.dwz_graph_resolve.specs.Parts.{AreParted};
+ghost use Rattle.dwz_graph_resolve.specs.Resolved.{AreEntries, place_at};
 ghost use Rattle.dwz_unit.specs.Rows.{EntryRow, rows_below, rows_of};
 
 /// Where a sibling list means entries, its rows mean these in preorder. These name what the sibling list names, and there are as many

@@ -7,17 +7,21 @@ ghost use Rattle.dwz_def_reading.specs.Documents.{Doc};
 ghost use Rattle.dwz_def_reading.specs.Finished.{beside_meaning, finished_meaning};
 ghost use Rattle.dwz_def_reading.specs.NamedLists.{lists_of_units};
 ghost use Rattle.dwz_def_reading.specs.Shared.{AreRows};
-ghost use Rattle.dwz_graph.specs.ListRows.{AreOfFile, operand_view};
-ghost use Rattle.dwz_def_reading.specs.Files.{Limits, around_of, files_meaning, no_files_before};
-ghost use Rattle.dwz_graph.specs.Files.{AreBack, AreKept, FilesAnswer, HasCommon, HasFile, HasRead, docs_of, said_beside, said_finished};
+ghost use Rattle.dwz_graph_resolve.specs.ListRows.{AreOfFile, operand_view};
+ghost use Rattle.dwz_def_reading.specs.Files.{Limits, around_of, files_meaning, limits_after, no_files_before};
+ghost use Rattle.dwz_graph.specs.ByRule.{IsReadBy, common_rule};
+ghost use Rattle.dwz_graph.specs.Files.{AreBack, AreKept, AreReadFrom, FilesAnswer, HasCommon, HasFile, HasRead, docs_of, said_beside, said_finished};
 ghost use Rattle.dwz_graph.specs.Indexed.{AreIndexes};
+ghost use Rattle.dwz_unit.specs.declared.mode.FileKind.TheVariants.{Common};
+ghost use Rattle.dwz_unit.specs.Rows.{units_of};
 
+use crate::Index;
 use crate::common_file::CommonFile;
 use crate::file::{File, all_left};
 use crate::index_files::indexes_of;
-use crate::readings::{behind, files_by, given_files};
+use crate::readings::{behind, files_by, given_alone, given_files};
 use crate::rule::Rule;
-use crate::{Index, ListOperand};
+use dwz_graph_resolve::ListOperand;
 use dwz_model::GraphErr;
 use std::alloc::Global;
 use std::marker::Model;
@@ -89,11 +93,66 @@ fn back_beside<'a>(
     })
 }
 
+// Files that were given, and what their entries are.
+fn given_graph<'a>(
+    alloc: Global,
+    files: &'a [Vec<u8>],
+    kept: Vec<File<'a>>,
+) -> Result<Graph<'a>, GraphErr>
+    requires kept { AreKept (map (λ v. v.items) files.now) kept.items }
+    ensures answers { FilesAnswer (λ graph. docs_of graph.given) result (files_meaning no_files_before 0 (map (λ v. v.items) files.now)) }
+    ensures contents { IfOk result (λ graph. graph ≡ record { common = None; given = map (λ v. v.items) files.now; back = [] }) }
+{
+    let indexes = indexes_of(alloc, &kept)?;
+    Ok(Graph {
+        common: None,
+        contents: files,
+        files: kept,
+        indexes,
+        back_contents: &files[..0],
+        back: Vec::new(alloc),
+    })
+}
+
+// The same behind a common file.
+fn beside_graph<'a>(
+    alloc: Global,
+    files: &'a [Vec<u8>],
+    common: CommonFile<'a>,
+    kept: Vec<File<'a>>,
+) -> Result<Graph<'a>, GraphErr>
+    requires common { IsReadBy common_rule Common no_files_before (length files.now) common.bytes.now common.file }
+    requires kept { AreReadFrom (limits_after no_files_before common.bytes.now (units_of common.file.units)) (map (λ v. v.items) files.now) kept.items }
+    ensures answers { FilesAnswer said_beside result (beside_meaning common.entry.bytes.now (map (λ v. v.items) files.now)) }
+    ensures contents { IfOk result (λ graph. graph
+        ≡ record { common = Some common.entry.bytes.now; given = map (λ v. v.items) files.now; back = [] }) }
+{
+    let indexes = indexes_of(alloc, &kept)?;
+    Ok(Graph {
+        common: Some(common),
+        contents: files,
+        files: kept,
+        indexes,
+        back_contents: &files[..0],
+        back: Vec::new(alloc),
+    })
+}
+
 impl<'a> Graph<'a> {
-    /// Reads files, of which there are fewer than 2^32. Refused with the first fault: files come in order, and in a file `FileSize`
-    /// comes first, then the faults of its sections, `Machine`, the faults of its units, those of what values mean, those of address
-    /// ranges, and those of shared lists. So many workers read at once; the answer is the same for any number of them.
-    pub fn read<R: Threads + Sync>(
+    /// Reads files, of which there are fewer than 2^32, on one thread. Refused with the first fault: files come in order, and in a file
+    /// `FileSize` comes first, then the faults of its sections, `Machine`, the faults of its units, those of what values mean, those of
+    /// address ranges, and those of shared lists.
+    pub fn read(alloc: Global, files: &'a [Vec<u8>]) -> Result<Graph<'a>, GraphErr>
+        requires few { length files.now < 2 ^ 32 }
+        ensures answers { FilesAnswer (λ graph. docs_of graph.given) result (files_meaning no_files_before 0 (map (λ v. v.items) files.now)) }
+        ensures contents { IfOk result (λ graph. graph ≡ record { common = None; given = map (λ v. v.items) files.now; back = [] }) }
+    {
+        let kept = given_alone(alloc, files, &all_left())?;
+        given_graph(alloc, files, kept)
+    }
+
+    /// The same by so many workers. The answer is the same for any number of them.
+    pub fn read_by<R: Threads + Sync>(
         rt: &R,
         alloc: Global,
         files: &'a [Vec<u8>],
@@ -105,20 +164,28 @@ impl<'a> Graph<'a> {
         ensures contents { IfOk result (λ graph. graph ≡ record { common = None; given = map (λ v. v.items) files.now; back = [] }) }
     {
         let kept = given_files(rt, alloc, files, workers, &all_left())?;
-        let indexes = indexes_of(alloc, &kept)?;
-        Ok(Graph {
-            common: None,
-            contents: files,
-            files: kept,
-            indexes,
-            back_contents: &files[..0],
-            back: Vec::new(alloc),
-        })
+        given_graph(alloc, files, kept)
     }
 
     /// Reads files as `read`, and before them a finished common file, of which all units are partial. It has the number behind those of the
     /// others, and what the limits leave behind it is left to them. In it `BadSup` and `Checksum` come behind `Machine`.
-    pub fn read_sup<R: Threads + Sync>(
+    pub fn read_sup(
+        alloc: Global,
+        files: &'a [Vec<u8>],
+        common: &'a [u8],
+    ) -> Result<Graph<'a>, GraphErr>
+        requires few { length files.now < 2 ^ 32 }
+        ensures answers { FilesAnswer said_beside result (beside_meaning common.now (map (λ v. v.items) files.now)) }
+        ensures contents { IfOk result (λ graph. graph ≡ record { common = Some common.now; given = map (λ v. v.items) files.now; back = [] }) }
+    {
+        let shared = CommonFile::read(alloc, files.len() as u32, common)?;
+        let left = behind(&all_left(), common, &shared.file);
+        let kept = given_alone(alloc, files, &left)?;
+        beside_graph(alloc, files, shared, kept)
+    }
+
+    /// The same by so many workers, but for the common file, which one thread reads.
+    pub fn read_sup_by<R: Threads + Sync>(
         rt: &R,
         alloc: Global,
         files: &'a [Vec<u8>],
@@ -133,15 +200,7 @@ impl<'a> Graph<'a> {
         let shared = CommonFile::read(alloc, files.len() as u32, common)?;
         let left = behind(&all_left(), common, &shared.file);
         let kept = given_files(rt, alloc, files, workers, &left)?;
-        let indexes = indexes_of(alloc, &kept)?;
-        Ok(Graph {
-            common: Some(shared),
-            contents: files,
-            files: kept,
-            indexes,
-            back_contents: &files[..0],
-            back: Vec::new(alloc),
-        })
+        beside_graph(alloc, files, shared, kept)
     }
 
     /// Reads files that may have been written by this tool, and before them the finished common file beside which they are read, if it is
@@ -160,6 +219,13 @@ impl<'a> Graph<'a> {
             None => back_alone(alloc, files),
             Some(bytes) => back_beside(alloc, files, bytes),
         }
+    }
+
+    /// The contents of the files that were given, in order.
+    pub fn contents(&self) -> &'a [Vec<u8>]
+        ensures { map (λ v. v.items) result.now ≡ self.now.given }
+    {
+        self.contents
     }
 
     /// The finished common file, as it was read.

@@ -7,7 +7,7 @@ ghost use Rattle.dwz_def_reading.specs.Meanings.{Around};
 ghost use Rattle.dwz_def_reading.specs.Meant.{units_meaning};
 ghost use Rattle.dwz_def_tops.specs.Spots.{EntryName};
 ghost use Rattle.dwz_graph.specs.Building.{HasRoom, IsFew};
-ghost use Rattle.dwz_graph.specs.Given.{AreGiven};
+ghost use Rattle.dwz_graph_resolve.specs.Given.{AreGiven};
 ghost use Rattle.dwz_graph.specs.Index.{HasTops, IsIndex, next_starts};
 ghost use Rattle.dwz_graph.specs.Names.{names_from, path_in, top_in};
 ghost use Rattle.dwz_unit.specs.Rows.{units_of};

@@ -3,69 +3,38 @@
 //!
 //! `Graph::read` takes the contents of all files and answers them as `File`s (ELF headers, sections, units, and what values name), or
 //! exactly the first fault in the order of the whole table, for every number of workers. `Graph::read_sup` reads a finished common file before
-//! them, and `Graph::read_back` files that may have been written, beside one or without. `Resolved` says of a file what its values name: a
-//! number for each reference and each operand, line tables, operands of location lists.
+//! them, and `Graph::read_back` files that may have been written, beside one or without. What the values of a file name is read by
+//! `dwz_graph_resolve`.
 //!
 //! `Graph::indexes` has an `Index` of each file that was given, with units, tops and spaces numbered over all of them: `top_of` and
-//! `put_path` say where an entry stands, `space_text` what a space is called. `first_attr` is the first value of a name, `here_of` what a
-//! unit's root says.
+//! `put_path` say where an entry stands, `space_text` what a space is called.
 //!
 //! Laws: the entry with a number has the name that stands for its place (`name_laws`, `top_laws`); flat rows mean the entries of the
 //! document, in step (`flat_laws`, `step_laws`, `part_laws`); documents with places, from those where numbers stand for these
 //! (`placed_laws`).
 //!
-//! Read first: `specs/Files.antt`, `specs/ByRule.antt`, `specs/Resolved.antt`, `specs/Index.antt`, `specs/Rows.antt`.
+//! Read first: `specs/Files.antt`, `specs/ByRule.antt`, `specs/Index.antt`, `specs/Rows.antt`.
 #![tactic(auto)]
 
 mod ahead;
 mod building;
 mod common_file;
-mod expressions;
 mod file;
-mod files;
-mod find;
-mod first;
 mod flat;
 mod graph;
-mod here;
-mod hints;
 mod index;
 mod index_files;
-mod joining;
-mod kinds;
-mod list_parts;
-mod lists;
-mod named;
-mod operands;
-mod parts;
 mod placed;
-mod places;
-mod quick;
-mod ranges;
 mod readings;
-mod references;
-mod resolving;
 mod rule;
-mod sections;
-mod shared;
 mod spaces;
-mod state;
-mod stretches;
-mod strings;
 mod sup;
-mod surroundings;
 mod tops;
 
-pub use expressions::entry_of;
 pub use file::File;
-pub use first::first_attr;
 pub use flat::{flat_laws, flat_name_laws, flat_top_laws, part_laws, step_laws};
 pub use graph::Graph;
-pub use here::{Here, here_of};
 pub use index::{Index, SpaceEntry, Starts, TopEntry};
-pub use operands::ListOperand;
 pub use placed::placed_laws;
-pub use resolving::Resolved;
-pub use sections::{InputSections, TextSection, offset_of, slot, text_in};
 pub use spaces::{is_space, space_text};
 pub use tops::{name_laws, top_laws};

@@ -106,3 +106,16 @@ pub(crate) fn files_by<'a>(
     }
     Ok(kept)
 }
+
+/// Reads files by themselves, behind others, on one thread. Refused with the first fault.
+pub(crate) fn given_alone<'a>(
+    alloc: Global,
+    files: &'a [Vec<u8>],
+    all: &Budget,
+) -> Result<Vec<File<'a>>, GraphErr>
+    requires { length files.now < 2 ^ 32 }
+    ensures { HoldsOrFails (λ kept. AreReadFrom (limits_view all.now) (map (λ v. v.items) files.now) kept.items) result
+        (files_meaning (limits_view all.now) 0 (map (λ v. v.items) files.now)) }
+{
+    files_by(alloc, files, all, &Rule::Given)
+}

@@ -7,12 +7,12 @@ ghost use Rattle.dwz_def_reading.specs.Faults.{Answers};
 ghost use Rattle.dwz_def_reading.specs.Units.{units_at};
 ghost use Rattle.dwz_elf.specs.Reads.{GivesOrRefuses};
 ghost use Rattle.dwz_graph.specs.ByRule.{IsGoodRule, common_of, kind_of, rule_view};
-ghost use Rattle.dwz_graph.specs.Surroundings.{common_view};
+ghost use Rattle.dwz_graph_resolve.specs.Surroundings.{common_view};
 ghost use Rattle.dwz_unit.specs.Rows.{units_of};
 
 use crate::sup::{common_fault, file_fault};
-use crate::surroundings::CommonPart;
 use dwz_elf::Elf;
+use dwz_graph_resolve::CommonPart;
 use dwz_model::{Fault, ReadErr};
 use dwz_unit::{FileKind, Units};
 use std::alloc::Global;

@@ -14,9 +14,9 @@ ghost use Rattle.dwz_graph.specs.Spaces;
 ghost use Rattle.dwz_graph.specs.Spaces.{IsOwn, stored_space};
 ghost use Rattle.dwz_unit.specs.Rows.{EntryRow, attr_view, rows_of, units_of};
 
-use crate::{InputSections, first_attr, offset_of, slot, text_in};
 use dwz_codes::{Class, DW_AT_NAME, DW_TAG_NAMESPACE, class_of};
 use dwz_forms::Raw;
+use dwz_graph_resolve::{InputSections, first_attr, offset_of, slot, text_in};
 use dwz_unit::{RawAttr, Units};
 
 // Whether the values of a class are texts.

@@ -7,7 +7,7 @@
 //! of the document's: texts, paths, places of entries, and expressions with the places of those that they name. `attr_form` shows its name,
 //! its form, and the number that the form stores. `top_of` is the number of the top, among those of all files, in which the entry at a place stands, and
 //! `path_of` the way from that top down to it. `spaces_of` is the name list of the top with a number: the names of the spaces around it.
-//! `section` is a section of a file, byte for byte, and `has_section` whether there is one with a name. Of these, only `attr`, `path_of`
+//! `section` is a section of a file, byte for byte, `has_section` whether there is one with a name, and `has_macro` whether that one is there. Of these, only `attr`, `path_of`
 //! and `spaces_of` take memory.
 //!
 //! An entry is found by halves among those of its file, the number of its unit by counting those of the files before it, and the file of
@@ -35,7 +35,7 @@ mod values;
 pub use attr_forms::{AttrForm, attr_form};
 pub use attr_views::{AttrView, attr};
 pub use entry_views::{EntryView, entry};
-pub use section_bytes::{has_section, section};
+pub use section_bytes::{has_macro, has_section, section};
 pub use spaces::spaces_of;
 pub use tops::{path_of, top_of};
 pub use unit_views::{UnitView, unit, units};

@@ -13,13 +13,13 @@ ghost use Rattle.dwz_unit.specs.Rows.{EntryRow};
 use crate::source::{Scratch, Source};
 use crate::values::put_attr;
 use dwz_codes::DW_AT_SIBLING;
-use dwz_graph::Here;
+use dwz_graph_resolve::Here;
 use dwz_label::put_number;
 use dwz_model::{NoMemory, Pair};
 use dwz_unit::{Values, known_value};
 
-// How many attributes an entry has besides.
-fn count_of(pairs: &[Pair]) -> usize
+/// How many attributes an entry has besides `DW_AT_sibling`.
+pub fn count_of(pairs: &[Pair]) -> usize
     ensures { result ≡ kept pairs.now }
 {
     let mut count: usize = 0;

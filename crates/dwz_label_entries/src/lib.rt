@@ -26,13 +26,14 @@ mod texts;
 mod top;
 mod values;
 
-pub use entries::put_rows;
+pub use entries::{count_of, put_rows};
 pub use expressions::{behind, front};
 pub use language::language_of;
 pub use named::Named;
 pub use numbers::{bytes_of, is_set, number_of, width_of};
 pub use plain::put_plain;
+pub use refs::behind_refs;
 pub use source::{Scratch, Source};
-pub use targets::put_target;
-pub use texts::row_of;
+pub use targets::{part, put_steps, put_target};
+pub use texts::{put_text_at, row_of};
 pub use top::put_top;

@@ -15,8 +15,8 @@ use dwz_graph::Index;
 use dwz_label::put_number;
 use dwz_model::NoMemory;
 
-// Appends numbers.
-fn put_steps(out: &mut Vec<u8>, steps: &[u32]) -> Result<(), NoMemory>
+/// Appends numbers.
+pub fn put_steps(out: &mut Vec<u8>, steps: &[u32]) -> Result<(), NoMemory>
     ensures { OnOk result (out.new.items ≡ out.old.items ++ flat_map number steps.now) }
 {
     for step in steps {
@@ -84,7 +84,7 @@ pub(crate) fn put_targets(
 
 /// As many numbers from one on as there are.
 #[inline(always)]
-pub(crate) fn part(refs: &[u32], next: usize, count: usize) -> &[u32]
+pub fn part(refs: &[u32], next: usize, count: usize) -> &[u32]
     ensures part { result.now ≡ take count (drop next refs.now) }
     ensures within { (n : ℕ) → Each (λ i. i < n) refs.now → Each (λ i. i < n) result.now }
 {

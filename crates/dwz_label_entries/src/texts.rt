@@ -10,11 +10,11 @@ ghost use Rattle.dwz_def_reading.specs.Documents.{File, Text, Value};
 ghost use Rattle.dwz_def_reading.specs.LineTables.{FileTable};
 ghost use Rattle.dwz_def_reading.specs.Meanings.{MeaningContext, path_by, stmt_list};
 ghost use Rattle.dwz_def_reading.specs.Meant.{file_by};
-ghost use Rattle.dwz_graph.specs.Parts.{numbers_file};
+ghost use Rattle.dwz_graph_resolve.specs.Parts.{numbers_file};
 
 use crate::numbers::number_of;
 use dwz_forms::Raw;
-use dwz_graph::{InputSections, slot, text_in};
+use dwz_graph_resolve::{InputSections, slot, text_in};
 use dwz_label::{put_file, put_no_file, put_text};
 use dwz_lines::TableRows;
 use dwz_model::NoMemory;
@@ -22,7 +22,7 @@ use std::alloc::Global;
 
 /// Appends that a value is the text at an offset of a section, which is there.
 #[inline(always)]
-pub(crate) fn put_text_at(out: &mut Vec<u8>, section: &[u8], offset: u128) -> Result<(), NoMemory>
+pub fn put_text_at(out: &mut Vec<u8>, section: &[u8], offset: u128) -> Result<(), NoMemory>
     ensures { (text : List ℕ) → Texts.text_at section.now offset ≡ Some text
         → OnOk result (out.new.items ≡ out.old.items ++ plain_label (Text text)) }
 {

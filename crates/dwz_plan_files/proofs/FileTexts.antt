@@ -19,10 +19,10 @@ use Rattle.dwz_graph.specs.Indexed.{AreIndexes}
 use Rattle.dwz_layout_order.specs.Shown.{Pairs, text_of}
 use Rattle.dwz_layout_order.specs.Spaces.{name_by as named_by, name_in, said_of, spaces_of}
 use Rattle.dwz_graph.specs.Spaces.{IsOwn}
-use Rattle.dwz_graph.specs.declared.here.Here.{Here}
-use Rattle.dwz_graph.specs.declared.sections.InputSections.{InputSections}
-use Rattle.dwz_graph.specs.Resolved.{IsHere, around, scope_in}
-use Rattle.dwz_graph.proofs.RowLemmas.{row_is, rows-length}
+use Rattle.dwz_graph_resolve.specs.declared.here.Here.{Here}
+use Rattle.dwz_graph_resolve.specs.declared.sections.InputSections.{InputSections}
+use Rattle.dwz_graph_resolve.specs.Resolved.{IsHere, around, scope_in}
+use Rattle.dwz_graph_resolve.proofs.RowLemmas.{row_is, rows-length}
 use Rattle.dwz_unit.specs.declared.rows.RawEntry.{RawEntry as EntryOfCode}
 use Rattle.dwz_unit.specs.Rows.{EntryRow, rows_of, shown_entries, units_of as raw_units}
 use Rattle.dwz_law_files.specs.Across.{IsFileAmong, IsPart, file_units, name_at, starts_at}

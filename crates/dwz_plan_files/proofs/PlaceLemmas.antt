@@ -27,7 +27,7 @@ use Rattle.dwz_graph.specs.declared.index.TopEntry.{TopEntry}
 use Rattle.dwz_graph.specs.Index.{Index}
 use Rattle.dwz_layout.specs.declared.known.Row.{Row}
 use Rattle.dwz_plan.specs.Shows.{ShowsRows, ShowsTops}
-use Rattle.dwz_graph.proofs.RowLemmas.{row_there as row_at}
+use Rattle.dwz_graph_resolve.proofs.RowLemmas.{row_there as row_at}
 use Rattle.dwz_move.specs.Known.{StandsAt}
 use Rattle.dwz_move.proofs.TreeBinds.{any_top}
 use Rattle.dwz_unit.specs.declared.rows.RawEntry.{RawEntry}

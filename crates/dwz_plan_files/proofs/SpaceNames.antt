@@ -20,9 +20,9 @@ use Rattle.dwz_layout_numbers.proofs.WholeLemmas.{file_at}
 use Rattle.dwz_layout_numbers.proofs.StartLemmas.{files_apart}
 use Rattle.dwz_layout_order.specs.Lists.{all_spaces}
 use Rattle.dwz_layout_order.specs.Spaces.{spaces_of}
-use Rattle.dwz_graph.specs.Resolved.{place_at}
-use Rattle.dwz_graph.proofs.PlaceLemmas.{entry_place}
-use Rattle.dwz_graph.proofs.RowLemmas.{rows-length}
+use Rattle.dwz_graph_resolve.specs.Resolved.{place_at}
+use Rattle.dwz_graph_resolve.proofs.PlaceLemmas.{entry_place}
+use Rattle.dwz_graph_resolve.proofs.RowLemmas.{rows-length}
 use Rattle.dwz_unit.specs.Rows.{entry_shown, rows_of, units_of as raw_units}
 use Rattle.dwz_law_files.specs.Across.{IsFileAmong, name_at}
 use Rattle.dwz_law_files.proofs.FileCounts.{are_many, starts_are}

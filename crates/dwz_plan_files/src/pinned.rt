@@ -22,7 +22,8 @@ ghost use Rattle.dwz_plan_files.specs.Places;
 ghost use Rattle.dwz_plan_files.specs.Places.{AreNone, AreSpaceNumbers, NamesApart, list_spaces, spot_at};
 
 use dwz_expr::Operand;
-use dwz_graph::{File, Graph, Index, ListOperand, SpaceEntry};
+use dwz_graph::{File, Graph, Index, SpaceEntry};
+use dwz_graph_resolve::ListOperand;
 use dwz_model::NoMemory;
 use dwz_move::{Named, mark, mark_unit};
 use dwz_unit::Units;

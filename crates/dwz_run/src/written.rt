@@ -116,7 +116,7 @@ pub(crate) fn written_files<R: Threads + Sync, G: Gate>(
         return Err(GraphErr::NoMemory);
     }
     let workers = workers_of(options);
-    let graph = Graph::read(rt, alloc, contents, workers)?;
+    let graph = Graph::read_by(rt, alloc, contents, workers)?;
     if options.explain {
         told_places(rt, alloc, options, &graph, workers)
     } else {

@@ -4,7 +4,7 @@ use Rattle.std.proofs.Common.{◌∙◌, arith}
 use Rattle.std.specs.Option.{option_map_or}
 use Rattle.dwz_def_reading.proofs.ListFacts.{got_below}
 use Rattle.dwz_unit.specs.Rows.{EntryRow, Source, rows_of, units_of}
-use Rattle.dwz_graph.proofs.RowLemmas.{rows-length}
+use Rattle.dwz_graph_resolve.proofs.RowLemmas.{rows-length}
 use Rattle.dwz_graph.specs.declared.file.File.{File}
 use Rattle.dwz_graph.specs.Index.{Index}
 use Rattle.dwz_law_files.proofs.FileEntries.{all_entries}

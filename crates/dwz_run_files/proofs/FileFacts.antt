@@ -19,8 +19,8 @@ use Rattle.dwz_encode_sections.specs.Numbers.{EndIn}
 use Rattle.dwz_encode_sections.specs.Ranges.{AreMoved}
 use Rattle.dwz_encode_sections.proofs.ListLemmas.{all_end}
 use Rattle.dwz_unit.specs.Rows.{units_of as raw_units}
-use Rattle.dwz_graph.specs.declared.operands.ListOperand.{ListOperand}
-use Rattle.dwz_graph.specs.Resolved.{sources_view}
+use Rattle.dwz_graph_resolve.specs.declared.operands.ListOperand.{ListOperand}
+use Rattle.dwz_graph_resolve.specs.Resolved.{sources_view}
 use Rattle.dwz_graph.specs.declared.file.File.{File}
 use Rattle.dwz_graph.specs.Index.{Index}
 use Rattle.dwz_law_files.proofs.FilesFew.{all_small}

@@ -15,9 +15,9 @@ use Rattle.dwz_def_plan.specs.Plan.{image}
 use Rattle.dwz_def_encoding.specs.Writing.{written_header_size}
 use Rattle.dwz_def_readback.specs.Files.{name_after, places}
 use Rattle.dwz_unit.specs.Rows.{EntryRow, rows_of, units_of as raw_units}
-use Rattle.dwz_graph.specs.Resolved.{place_at}
-use Rattle.dwz_graph.specs.Resolved.{places as entry_places_of}
-use Rattle.dwz_graph.proofs.RowLemmas.{rows-length}
+use Rattle.dwz_graph_resolve.specs.Resolved.{place_at}
+use Rattle.dwz_graph_resolve.specs.Resolved.{places as entry_places_of}
+use Rattle.dwz_graph_resolve.proofs.RowLemmas.{rows-length}
 use Rattle.dwz_graph.specs.declared.file.File.{File}
 use Rattle.dwz_graph.specs.Index.{Index}
 use Rattle.dwz_graph.specs.declared.index.Starts.{Starts}

@@ -1,6 +1,6 @@
 //! The units and the entries of a file, a line for each.
 
-ghost use Rattle.std.specs.Prelude.{◌≡◌, ◌<◌, length, map};
+ghost use Rattle.std.specs.Prelude.{◌<◌, length};
 
 use crate::tops::show_top;
 use crate::values::show_value;
@@ -78,17 +78,11 @@ fn show_entry(
     Ok(())
 }
 
-/// The entries of the first of files that were read from these contents, in order of place.
-pub(crate) fn show_entries(
-    rt: &impl Print,
-    alloc: Global,
-    contents: &[Vec<u8>],
-    graph: &Graph,
-) -> anyhow::Result<()>
-    requires contents { graph.now.given ≡ map (λ v. v.items) contents.now }
-    requires some { 0 < length graph.now.given }
+/// The entries of the first of files that were read, in order of place.
+pub(crate) fn show_entries(rt: &impl Print, alloc: Global, graph: &Graph) -> anyhow::Result<()>
+    requires { 0 < length graph.now.given }
 {
-    let Some(info) = section(contents, graph, 0, DEBUG_INFO) else {
+    let Some(info) = section(graph, 0, DEBUG_INFO) else {
         return Ok(());
     };
     for offset in 0..u32::try_from(info.len())? {

@@ -20,21 +20,18 @@ use dwz_model::{GraphErr, Refusal};
 use entries::{show_entries, show_units};
 use std::alloc::Global;
 use std::rt::{Env, Files};
-use std::thread::Threads;
 use std::{env, fs};
 use walk::{Counts, counts_of};
 
-// A line for a file that was read from these contents, and, if asked for, one for each of its units and entries; or its first fault.
+// A line for a file that was read, and, if asked for, one for each of its units and entries; or its first fault.
 fn report(
     rt: &impl Print,
     alloc: Global,
     name: &str,
     with_entries: bool,
-    files: &[Vec<u8>],
     answer: Result<Graph<'_>, GraphErr>,
 ) -> anyhow::Result<()>
-    requires some { 0 < length files.now }
-    requires contents { IfOk answer (λ graph. graph.given ≡ map (λ v. v.items) files.now) }
+    requires { IfOk answer (λ graph. 0 < length graph.given) }
 {
     match answer {
         Ok(graph) => {
@@ -42,7 +39,7 @@ fn report(
             println!(rt; "{name}: {units} units, {entries} entries")?;
             if with_entries {
                 show_units(rt, &graph)?;
-                show_entries(rt, alloc, files, &graph)?;
+                show_entries(rt, alloc, &graph)?;
             }
         }
         Err(error) => show_error(rt, name, error)?,
@@ -103,7 +100,7 @@ struct How {
 }
 
 // Reads the file of that name, and shows what comes of it.
-fn show<R: Files + Print + AllocGlobal + Threads + Sync>(
+fn show<R: Files + Print + AllocGlobal>(
     rt: &R,
     alloc: Global,
     name: &str,
@@ -116,10 +113,10 @@ fn show<R: Files + Print + AllocGlobal + Threads + Sync>(
         return report_back(rt, name, Graph::read_back(alloc, files.as_slice(), common));
     }
     let answer = match common {
-        None => Graph::read(rt, alloc, files.as_slice(), 1),
-        Some(common) => Graph::read_sup(rt, alloc, files.as_slice(), common, 1),
+        None => Graph::read(alloc, files.as_slice()),
+        Some(common) => Graph::read_sup(alloc, files.as_slice(), common),
     };
-    report(rt, alloc, name, how.with_entries, files.as_slice(), answer)
+    report(rt, alloc, name, how.with_entries, answer)
 }
 
 // The bytes of the file of that name.
@@ -127,10 +124,7 @@ fn read<R: Files + AllocGlobal>(rt: &R, name: &str) -> anyhow::Result<Vec<u8>> {
     Ok(fs::read(rt, name).context(format_args!("reading {name}"))?)
 }
 
-fn run<R: Env + Files + Print + AllocGlobal + Threads + Sync>(
-    rt: &R,
-    alloc: Global,
-) -> anyhow::Result<()> {
+fn run<R: Env + Files + Print + AllocGlobal>(rt: &R, alloc: Global) -> anyhow::Result<()> {
     let mut how = How {
         with_entries: false,
         back: false,

@@ -133,7 +133,7 @@ fn reads_back<R: Abort>(
     reads_as(rt, at, Graph::read_back(alloc, &files, common), expected);
 }
 
-// The same of a file that is to import from the common file, by so many workers.
+// The same of a file that is to import from the common file, on one thread and by three workers.
 fn reads_beside<R: Abort + Threads + Sync>(
     rt: &R,
     alloc: Global,
@@ -143,10 +143,11 @@ fn reads_beside<R: Abort + Threads + Sync>(
     expected: Expected,
 ) {
     let files = [file];
+    reads_as(rt, at, Graph::read_sup(alloc, &files, common), expected);
     reads_as(
         rt,
         at,
-        Graph::read_sup(rt, alloc, &files, common, 3),
+        Graph::read_sup_by(rt, alloc, &files, common, 3),
         expected,
     );
 }
@@ -191,7 +192,7 @@ fn files_that_import_want_it(rt: HostRuntime) {
     reads_back(&rt, alloc, None, bytes_of(&rt, alloc, PLAIN), 0, None);
     let files = [bytes_of(&rt, alloc, IMPORTS)];
     let index = Some((0, WHOLE_FILE, 0x1d8, Reason::Index));
-    reads_as(&rt, 0, Graph::read(&rt, alloc, &files, 1), index);
+    reads_as(&rt, 0, Graph::read(alloc, &files), index);
 }
 
 #[test]

@@ -42,7 +42,7 @@ const LABELS: [(u32, &[u8]); 3] = [
 fn labels_say_what_tops_have(rt: HostRuntime) -> Result<(), Fail> {
     let alloc = rt.alloc();
     let files = [hex::decode(alloc, FILE)?];
-    let graph = Graph::read(&rt, alloc, &files, 1)?;
+    let graph = Graph::read(alloc, &files)?;
     let count = count_tops(alloc, &graph);
     assert!(rt; count == 5);
     for (top, want) in LABELS {

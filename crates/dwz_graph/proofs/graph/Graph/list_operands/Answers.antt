@@ -3,8 +3,8 @@ use Rattle.dwz_def_reading.specs.Units.{RawUnit}
 use Rattle.dwz_def_reading.specs.Files.{around_of, no_files_before}
 use Rattle.dwz_def_reading.specs.NamedLists.{lists_of_units}
 use Rattle.dwz_def_reading.specs.Shared.{AreRows}
-use Rattle.dwz_graph.specs.ListRows.{AreOfFile, operand_view}
-use Rattle.dwz_graph.specs.declared.operands.ListOperand.{ListOperand}
+use Rattle.dwz_graph_resolve.specs.ListRows.{AreOfFile, operand_view}
+use Rattle.dwz_graph_resolve.specs.declared.operands.ListOperand.{ListOperand}
 use Rattle.dwz_unit.specs.Rows.{units_of}
 use Rattle.dwz_graph.proofs.GraphLemmas.{content_of, same_raw}
 use Rattle.dwz_graph.proofs.graph.Graph.list_operands.Goals as goal

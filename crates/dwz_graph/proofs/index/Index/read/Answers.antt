@@ -1,7 +1,7 @@
 use Rattle.std.proofs.Common.{◌≡◌, ℕ, ◌+◌, List, [], length, sym, ap, subst, ◌∙◌, arith}
 use Rattle.dwz_def_reading.specs.Units.{RawUnit, entries_in}
 use Rattle.dwz_def_reading.proofs.MeaningUnits.{units_agree}
-use Rattle.dwz_graph.proofs.UnitStarts.{all_whole}
+use Rattle.dwz_graph_resolve.proofs.UnitStarts.{all_whole}
 use Rattle.dwz_unit.specs.Rows.{units_of}
 use Rattle.dwz_graph.specs.declared.index.SpaceEntry.{SpaceEntry}
 use Rattle.dwz_graph.specs.declared.index.Starts.{Starts}

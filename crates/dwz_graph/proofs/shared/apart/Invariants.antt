@@ -1,7 +1,0 @@
-use Rattle.std.proofs.Common.{◌≡◌, [], take}
-use Rattle.dwz_graph.specs.Apart.{AreWide, Rise}
-use Rattle.dwz_graph.proofs.PassLemmas.{Passed}
-use Rattle.dwz_graph.proofs.shared.apart.Given as goal
-
-abbrev pub invariant-loop-operand : goal.invariant-loop-operand
-invariant-loop-operand l = l.fn.kept.items ≡ [] → Rise l.sorted → AreWide l.sorted → Passed (take l.operand-index l.sorted) l.kept.items l.last l.end

@@ -1,4 +1,0 @@
-use Rattle.dwz_graph.proofs.shared.foreign_to_list.Goals as goal
-
-pub returns : goal.returns
-returns c = λ top high rows own. c.foreign.ensures top high rows own

@@ -9,7 +9,7 @@ use Rattle.dwz_nodes.specs.Keys.{all_keys, key, key_at}
 use Rattle.dwz_nodes.specs.Among.{Among}
 use Rattle.dwz_nodes.proofs.AllKeys.{all_keys-at, length-all_keys}
 use Rattle.dwz_rounds.specs.Marked.{IsMarked}
-use Rattle.dwz_rounds.specs.Open.{AreKept, AreOpen, IsOpen}
+use Rattle.dwz_rounds.specs.Open.{AreKept, AreOpen, AreSteady, IsOpen, MarksMoved}
 use Rattle.dwz_rounds.specs.Rounds.{IsLevel, IsRound}
 use Rattle.dwz_rounds.specs.Settling.{IsFirst, IsPartly}
 use Rattle.dwz_rounds.proofs.Levels.{heads, tails, map-same, map-length, map-at, least-same, key-look, look-class, look-key, look-less, round-level}
@@ -50,22 +50,31 @@ pub mark-no : (classes : List ℕ) (shared : List Bool) (n : ℕ) → slice_inde
 mark-no classes shared n same marked a l ne =
     marked a (dite (ℕ_discrete a n) (λ e. absurd (ne (ap (λ (k : ℕ). slice_index classes k) e ∙ (same ∙ sym e)))) (λ f. omega arith)) ne
 
--- the nodes before n of a class that is marked only once have targets with the classes of before
+-- of the nodes before n those of a class that is marked only once have no marked target
+abbrev pub AreSteadyBelow : List Node → List Bool → List ℕ → List Bool → List Bool → ℕ → Type 0
+AreSteadyBelow g moved classes shared changed n = (a : ℕ) → a < n → IsMarked shared (slice_index classes a) → ¬ (IsMarked changed (slice_index classes a)) → AreSteady moved (targets_at g a)
+
+-- so they have targets with the classes of before
 abbrev pub AreKeptBelow : List Node → List ℕ → List ℕ → List Bool → List Bool → ℕ → Type 0
 AreKeptBelow g before classes shared changed n = (a : ℕ) → a < n → IsMarked shared (slice_index classes a) → ¬ (IsMarked changed (slice_index classes a)) → AreKept before classes (targets_at g a)
 
-pub change-yes : (g : List Node) (before classes : List ℕ) (shared changed : List Bool) (n : ℕ) → slice_index classes n < length changed → AreKeptBelow g before classes shared changed n
-    → AreKeptBelow g before classes shared (set changed (slice_index classes n) true) (n + 1)
-change-yes g before classes shared changed n inside kept a l s unmarked = dite (ℕ_discrete (slice_index classes a) (slice_index classes n))
+pub steady-kept : (g : List Node) (closed : IsClosed g) (before classes : List ℕ) (moved shared changed : List Bool) → length classes ≡ length g → MarksMoved before classes moved
+    → AreSteadyBelow g moved classes shared changed (length g) → AreKeptBelow g before classes shared changed (length g)
+steady-kept g closed before classes moved shared changed len marks steady a l s unmarked i h =
+    let inside = closed a l i 0 h in marks (slice_index (targets_at g a) i) (omega arith) (steady a l s unmarked i h)
+
+pub change-yes : (g : List Node) (moved : List Bool) (classes : List ℕ) (shared changed : List Bool) (n : ℕ) → slice_index classes n < length changed → AreSteadyBelow g moved classes shared changed n
+    → AreSteadyBelow g moved classes shared (set changed (slice_index classes n) true) (n + 1)
+change-yes g moved classes shared changed n inside kept a l s unmarked = dite (ℕ_discrete (slice_index classes a) (slice_index classes n))
     (λ e. absurd (unmarked (ap (λ (k : ℕ). slice_index_or (set changed (slice_index classes n) true) k true) e ∙ get_or-set_same changed (slice_index classes n) true true inside)))
     (λ other. kept a (dite (ℕ_discrete a n) (λ e. absurd (other (ap (λ (k : ℕ). slice_index classes k) e))) (λ f. omega arith)) s
     (λ m. unmarked (get_or-set_other changed (slice_index classes n) (slice_index classes a) true true other ∙ m)))
 
-pub change-no : (g : List Node) (before classes : List ℕ) (shared changed : List Bool) (n : ℕ)
-    → (IsMarked shared (slice_index classes n) → ¬ (IsMarked changed (slice_index classes n)) → AreKept before classes (targets_at g n)) → AreKeptBelow g before classes shared changed n
-    → AreKeptBelow g before classes shared changed (n + 1)
-change-no g before classes shared changed n here kept a l s unmarked = dite (ℕ_discrete a n)
-    (λ e. subst (λ (x : ℕ). AreKept before classes (targets_at g x)) (sym e)
+pub change-no : (g : List Node) (moved : List Bool) (classes : List ℕ) (shared changed : List Bool) (n : ℕ)
+    → (IsMarked shared (slice_index classes n) → ¬ (IsMarked changed (slice_index classes n)) → AreSteady moved (targets_at g n)) → AreSteadyBelow g moved classes shared changed n
+    → AreSteadyBelow g moved classes shared changed (n + 1)
+change-no g moved classes shared changed n here kept a l s unmarked = dite (ℕ_discrete a n)
+    (λ e. subst (λ (x : ℕ). AreSteady moved (targets_at g x)) (sym e)
     (here (subst (λ (x : ℕ). IsMarked shared (slice_index classes x)) e s) (λ m. unmarked (subst (λ (x : ℕ). IsMarked changed (slice_index classes x)) (sym e) m))))
     (λ f. kept a (omega arith) s unmarked)
 

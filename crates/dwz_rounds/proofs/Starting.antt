@@ -1,5 +1,5 @@
 -- Numbers of classes, and their members, from the classes of a whole round.
-use Rattle.std.proofs.Common.{◌≡◌, ℕ, suc, ◌+◌, ◌<◌, ◌≤◌, All, Contains, List, [], ◌∷◌, ◌++◌, length, get_or, ⊎_elim, refl, sym, ap, subst, ◌∙◌, arith, length-append}
+use Rattle.std.proofs.Common.{◌≡◌, ℕ, zero, suc, ◌+◌, ◌<◌, ◌≤◌, All, Contains, List, [], ◌∷◌, ◌++◌, length, get_or, inl, inr, take, ⊎_elim, refl, sym, ap, subst, ◌∙◌, arith, length-append}
 use Rattle.std.specs.Prelude.{slice_index}
 use Rattle.std.proofs.Math.ListN.{get_or-append}
 use Rattle.std.proofs.Math.Seq.{get_or-append_seam}
@@ -7,12 +7,15 @@ use Rattle.std.proofs.lemmas.List.{get_or_default}
 use Rattle.std.proofs.lemmas.List.Elements.{All-append}
 use mathlib.Core.Logic.{dite}
 use native.Mathlib.Decide.{ℕ_discrete, dec_le}
-use Rattle.dwz_nodes.specs.Back.{AreBack, sources_at}
-use Rattle.dwz_nodes.specs.Graph.{Node, node, targets_at}
+use Rattle.dwz_model.specs.Lists.{In}
+use Rattle.dwz_model.proofs.ListFacts.{all_more, in_at}
+use Rattle.dwz_groups.specs.declared.groups.Edge.{Edge}
+use Rattle.dwz_groups.specs.Groups.{values_at}
+use Rattle.dwz_groups.proofs.MarkLemmas.{edge_values, pair, values_edge}
 use Rattle.dwz_nodes.specs.Among.{Among}
 use Rattle.dwz_rounds.specs.declared.members.Range.{Range}
 use Rattle.dwz_rounds.specs.Members.{range_at, IsMember, AreMembers}
-use Rattle.dwz_rounds.specs.Start.{IsLed, AreNumbered, IsClassGraph, AreMoved}
+use Rattle.dwz_rounds.specs.Start.{IsLed, AreNumbered, AreMoved, number_pairs}
 use Rattle.dwz_rounds.proofs.Settling.{among-push_old, among-push_new, among-push_cases}
 
 pub numbered-none : (classes : List ℕ) → AreNumbered classes 0 0 []
@@ -83,18 +86,6 @@ module _ (classes : List ℕ) (n count : ℕ) (numbers : List ℕ) (led : IsLed 
             (λ bne. m.apart a b (omega arith) (omega arith) (sym (front x a (omega arith)) ∙ (e ∙ front x b (omega arith)))));
       }
 
--- one more node that points at its number
-pub class_graph-more : (numbers : List ℕ) (n : ℕ) (graph : List Node) → IsClassGraph numbers n graph → IsClassGraph numbers (n + 1) (graph ++ node 0 (slice_index numbers n ∷ []) ∷ [])
-class_graph-more numbers n graph g =
-    let x : Node = node 0 (slice_index numbers n ∷ []) in
-    record {
-      len = let e = g.len in omega (arith, length-append graph (x ∷ []));
-      each = λ a l. dite (ℕ_discrete a n)
-          (λ e. ap (λ (k : ℕ). targets_at (graph ++ x ∷ []) k) (e ∙ sym g.len)
-          ∙ (ap (λ (y : Node). y.targets) (get_or-append_seam graph x [] (node 0 [])) ∙ ap (λ (k : ℕ). slice_index numbers k ∷ []) (sym e)))
-          (λ ne. ap (λ (y : Node). y.targets) (get_or-append graph (x ∷ []) (node 0 []) a (let e = g.len in omega arith)) ∙ g.each a (omega arith));
-    }
-
 append-at : (xs ys : List ℕ) (i : ℕ) → slice_index (xs ++ ys) (length xs + i) ≡ slice_index ys i
 append-at [] ys i = ap (λ (k : ℕ). slice_index ys k) (let e : 0 + i ≡ i = omega arith in e)
 append-at (x ∷ xs) ys i = ap (λ (k : ℕ). slice_index ((x ∷ xs) ++ ys) k) (let e : suc (length xs) + i ≡ suc (length xs + i) = omega arith in e) ∙ append-at xs ys i
@@ -159,15 +150,56 @@ listed-all numbers class ranges members few below s = record {
 }
 
 -- the sources of a class in the graph of classes
-pub has-source : (numbers : List ℕ) (graph : List Node) (rows : List (List ℕ)) (class : ℕ) → IsClassGraph numbers (length numbers) graph → AreBack graph rows → class < length numbers → (a : ℕ)
-    → a < length numbers → slice_index numbers a ≡ class → Contains (sources_at rows class) a
-has-source numbers graph rows class g back l a la e =
-    (back.each class (let f = g.len in omega arith)).all a (let f = g.len in omega arith, subst (λ (ts : List ℕ). Contains ts class) (sym (g.each a la)) (0, omega arith, e))
+pub none-paired : (numbers : List ℕ) → number_pairs 0 (take 0 numbers) ≡ []
+unfolding number_pairs
+none-paired numbers = refl
 
-pub source-inside : (numbers : List ℕ) (graph : List Node) (rows : List (List ℕ)) (class : ℕ) → IsClassGraph numbers (length numbers) graph → AreBack graph rows → class < length numbers
-    → All (λ a. a < length numbers) (sources_at rows class)
-source-inside numbers graph rows class g back l k d m = let xs = sources_at rows class in let s = (back.each class (let f = g.len in omega arith)).each (get_or xs k d)
-    (k, m, get_or_default xs k (get_or xs k d) d m) in let t = s.0 in let f = g.len in omega arith
+-- one more node is under its number
+pub one-paired : (s n : ℕ) (numbers : List ℕ) → n < length numbers → number_pairs s (take (suc n) numbers) ≡ number_pairs s (take n numbers) ++ pair (slice_index numbers n) (s + n) ∷ []
+unfolding number_pairs
+one-paired s n [] l = absurd (omega arith)
+one-paired s zero (x ∷ numbers) l = let e : s ≡ s + 0 = omega arith in ap (λ (k : ℕ). pair x k ∷ []) e
+one-paired s (suc n) (x ∷ numbers) l = let e : suc s + n ≡ s + suc n = omega arith in
+    ap (λ (w : List Edge). pair x s ∷ w) (one-paired (suc s) n numbers (omega arith) ∙ ap (λ (k : ℕ). number_pairs (suc s) (take n numbers) ++ pair (slice_index numbers n) k ∷ []) e)
+
+paired : (s a : ℕ) (numbers : List ℕ) → a < length numbers → In (pair (slice_index numbers a) (s + a)) (number_pairs s numbers)
+unfolding number_pairs
+paired s a [] l = absurd (omega arith)
+paired s zero (x ∷ numbers) l = inl (let e : s ≡ s + 0 = omega arith in ap (λ (k : ℕ). pair x k) e)
+paired s (suc a) (x ∷ numbers) l =
+    let e : suc s + a ≡ s + suc a = omega arith in
+    inr (subst (λ (k : ℕ). In (pair (slice_index numbers a) k) (number_pairs (suc s) numbers)) e (paired (suc s) a numbers (omega arith)))
+
+pair-inside : (s m k : ℕ) (numbers : List ℕ) → In (pair m k) (number_pairs s numbers) → k < s + length numbers
+unfolding number_pairs
+pair-inside s m k [] i = absurd i
+pair-inside s m k (x ∷ numbers) (inl e) = let h : s ≡ k = ap (λ (p : Edge). p.value) e in omega arith
+pair-inside s m k (x ∷ numbers) (inr i) = let h = pair-inside (suc s) m k numbers i in omega arith
+
+pub keys-low : (s count : ℕ) (numbers : List ℕ) → All (λ c. c < count) numbers → All (λ p. p.key < count) (number_pairs s numbers)
+unfolding number_pairs
+keys-low s count [] low = λ k d l. absurd (omega arith)
+keys-low s count (x ∷ numbers) low = all_more (λ p. p.key < count) (pair x s) (number_pairs (suc s) numbers) (low 0 0 (omega arith))
+    (keys-low (suc s) count numbers (λ k d l. low (suc k) d (omega arith)))
+
+in-contains : (a : ℕ) (xs : List ℕ) → In a xs → Contains xs a
+in-contains a [] i = absurd i
+in-contains a (x ∷ xs) (inl e) = (0, omega arith, e)
+in-contains a (x ∷ xs) (inr i) = let r = in-contains a xs i in (suc r.0, let l = r.1 in omega arith, r.2)
+
+-- the nodes under a number are just those that have it
+pub has-node : (numbers : List ℕ) (class a : ℕ) → a < length numbers → slice_index numbers a ≡ class → Contains (values_at (number_pairs 0 numbers) class) a
+has-node numbers class a l e =
+    let same : 0 + a ≡ a = omega arith in
+    in-contains a (values_at (number_pairs 0 numbers) class)
+    (edge_values class a (number_pairs 0 numbers) (subst (λ (q : ℕ × ℕ). In (pair q.0 q.1) (number_pairs 0 numbers)) (λ j. (e j, same j)) (paired 0 a numbers l)))
+
+pub nodes-inside : (numbers : List ℕ) (class : ℕ) → All (λ a. a < length numbers) (values_at (number_pairs 0 numbers) class)
+nodes-inside numbers class k d m =
+    let xs = values_at (number_pairs 0 numbers) class in
+    let same = get_or_default xs k 0 d m in
+    let h = pair-inside 0 class (get_or xs k 0) numbers (values_edge class (get_or xs k 0) (number_pairs 0 numbers) (in_at xs k m)) in
+    omega arith
 
 -- one more node is moved, or isn't
 module _ (classes next largest : List ℕ) (n : ℕ) (pending : List ℕ) (p : AreMoved classes next largest n pending) where

@@ -7,6 +7,14 @@ use Rattle.dwz_rounds.specs.Marked.{IsMarked}
 abbrev pub AreKept : List ℕ → List ℕ → List ℕ → Type 0
 AreKept before classes targets = (i : ℕ) → i < length targets → slice_index before (slice_index targets i) ≡ slice_index classes (slice_index targets i)
 
+-- none of these is marked
+abbrev pub AreSteady : List Bool → List ℕ → Type 0
+AreSteady moved targets = (i : ℕ) → i < length targets → ¬ (IsMarked moved (slice_index targets i))
+
+-- each whose class isn't that before is marked
+abbrev pub MarksMoved : List ℕ → List ℕ → List Bool → Type 0
+MarksMoved before classes moved = (a : ℕ) → a < length classes → ¬ (IsMarked moved a) → slice_index before a ≡ slice_index classes a
+
 -- the node's class is marked twice
 abbrev pub IsOpen : List ℕ → List Bool → List Bool → ℕ → Type 0
 IsOpen classes shared changed a = IsMarked shared (slice_index classes a) × IsMarked changed (slice_index classes a)

@@ -1,6 +1,6 @@
 -- From a whole round to numbers of classes.
-use Rattle.std.specs.Prelude.{◌≡◌, ℕ, ◌<◌, ◌≤◌, List, [], ◌∷◌, length, slice_index}
-use Rattle.dwz_nodes.specs.Graph.{Node, targets_at}
+use Rattle.std.specs.Prelude.{◌≡◌, ℕ, suc, ◌<◌, ◌≤◌, List, [], ◌∷◌, length, slice_index}
+use Rattle.dwz_groups.specs.declared.groups.Edge.{Edge}
 use Rattle.dwz_nodes.specs.Among.{Among}
 
 -- each class is a node of its own, and none of its nodes is less
@@ -16,10 +16,10 @@ pub record AreNumbered (classes : List ℕ) (n count : ℕ) (numbers : List ℕ)
   pub same : (a b : ℕ) → a < n → b < n → slice_index classes a ≡ slice_index classes b → slice_index numbers a ≡ slice_index numbers b
   pub apart : (a b : ℕ) → a < n → b < n → slice_index numbers a ≡ slice_index numbers b → slice_index classes a ≡ slice_index classes b
 
--- the first n nodes of a graph point at their number
-pub record IsClassGraph (numbers : List ℕ) (n : ℕ) (graph : List Node) : Type 0 where
-  pub len : length graph ≡ n
-  pub each : (a : ℕ) → a < n → targets_at graph a ≡ slice_index numbers a ∷ []
+-- each node under its number, where the first node has that one
+unfoldable pub number_pairs : ℕ → List ℕ → List Edge
+number_pairs a [] = []
+number_pairs a (n ∷ numbers) = record { key = n; value = a } ∷ number_pairs (suc a) numbers
 
 -- those of the first n nodes whose next class isn't that beside their class
 pub record AreMoved (classes next largest : List ℕ) (n : ℕ) (pending : List ℕ) : Type 0 where

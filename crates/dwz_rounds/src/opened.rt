@@ -6,7 +6,7 @@ ghost use Rattle.std.specs.Prelude.{◌≡◌, ℕ, ◌<◌, ◌≤◌, ◌^◌,
 ghost use Rattle.dwz_nodes.specs.Graph.{IsClosed, targets_at};
 ghost use Rattle.dwz_nodes.specs.Keys.{all_keys};
 ghost use Rattle.dwz_rounds.specs.Marked.{IsMarked};
-ghost use Rattle.dwz_rounds.specs.Open.{AreKept, AreOpen};
+ghost use Rattle.dwz_rounds.specs.Open.{AreOpen, AreSteady, MarksMoved};
 ghost use Rattle.dwz_rounds.specs.Rounds.{IsLevel, IsRound};
 ghost use Rattle.dwz_rounds.specs.Settling.{IsPartly};
 
@@ -28,39 +28,49 @@ fn mark_shared(classes: &[u32], shared: &mut [bool])
     }
 }
 
-// Whether each of these has the class that it had before.
-fn are_kept(before: &[u32], classes: &[u32], targets: &[u32]) -> bool
-    requires len { length before.now ≡ length classes.now }
-    requires targets { All (λ t. t < length classes.now) targets.now }
-    ensures { IsTrue result → AreKept before.now classes.now targets.now }
+// Marks each node whose class isn't that before.
+fn mark_moved(before: &[u32], classes: &[u32], moved: &mut [bool])
+    requires { (length before.now ≡ length classes.now) × (length moved.old ≡ length classes.now) }
+    ensures len { length moved.new ≡ length moved.old }
+    ensures marked { MarksMoved before.now classes.now moved.new }
+{
+    for a in 0..classes.len() {
+        moved[a] = before[a] != classes[a];
+    }
+}
+
+// Whether none of these is marked.
+fn are_kept(moved: &[bool], targets: &[u32]) -> bool
+    requires { All (λ t. t < length moved.now) targets.now }
+    ensures { IsTrue result → AreSteady moved.now targets.now }
 {
     for target in targets {
-        if before[*target as usize] != classes[*target as usize] {
+        if moved[*target as usize] {
             return false;
         }
     }
     true
 }
 
-// Marks of the classes with others those of nodes with a target whose class isn't that before.
+// Marks of the classes with others those of nodes with a target that is marked.
 fn mark_changed(
     nodes: &Nodes,
-    before: &[u32],
+    moved: &[bool],
     classes: &[u32],
     shared: &[bool],
     changed: &mut [bool],
 )
     requires closed { IsClosed nodes.now }
-    requires len { (length before.now ≡ length nodes.now) × (length classes.now ≡ length nodes.now)
+    requires len { (length moved.now ≡ length nodes.now) × (length classes.now ≡ length nodes.now)
         × (length shared.now ≡ length nodes.now) × (length changed.old ≡ length nodes.now) }
     requires classes { All (λ c. c < length nodes.now) classes.now }
     ensures len { length changed.new ≡ length changed.old }
     ensures kept { (a : ℕ) → a < length nodes.now → IsMarked shared.now (slice_index classes.now a)
-        → ¬ (IsMarked changed.new (slice_index classes.now a)) → AreKept before.now classes.now (targets_at nodes.now a) }
+        → ¬ (IsMarked changed.new (slice_index classes.now a)) → AreSteady moved.now (targets_at nodes.now a) }
 {
     for a in 0..nodes.len() {
         let class = classes[a as usize] as usize;
-        if shared[class] && !changed[class] && !are_kept(before, classes, nodes.targets(a)) {
+        if shared[class] && !changed[class] && !are_kept(moved, nodes.targets(a)) {
             changed[class] = true;
         }
     }
@@ -104,10 +114,12 @@ pub(crate) fn open_nodes(
     let _count = nodes.len();
     let mut shared = vec![in alloc; false; classes.len()]?;
     mark_shared(classes, shared.as_mut_slice());
+    let mut moved = vec![in alloc; false; classes.len()]?;
+    mark_moved(before, classes, moved.as_mut_slice());
     let mut changed = vec![in alloc; false; classes.len()]?;
     mark_changed(
         nodes,
-        before,
+        moved.as_slice(),
         classes,
         shared.as_slice(),
         changed.as_mut_slice(),

@@ -1,11 +1,11 @@
 //! From a whole round to numbers of classes, and to the nodes of the smaller parts of the classes before it.
 ghost use Rattle.std.specs.Prelude.{◌≡◌, ℕ, ◌-◌, ◌<◌, ◌≤◌, ◌^◌, All, IfOk, length, slice_index};
 ghost use Rattle.dwz_rounds.specs.Members.{AreMembers};
-ghost use Rattle.dwz_rounds.specs.Start.{AreNumbered, AreMoved, IsClassGraph, IsLed};
+ghost use Rattle.dwz_rounds.specs.Start.{AreNumbered, AreMoved, IsLed, number_pairs};
 
 use crate::members::Range;
+use dwz_groups::{Edge, group};
 use dwz_model::NoMemory;
-use dwz_nodes::Nodes;
 use std::alloc::Global;
 
 /// Numbers of classes, from 0 to before a count.
@@ -36,16 +36,19 @@ pub(crate) fn number_classes(alloc: Global, classes: &[u32]) -> Result<Numbered,
     Ok(Numbered { numbers, count })
 }
 
-// A graph in which each node points at its class.
-fn class_graph(alloc: Global, numbers: &[u32]) -> Result<Nodes, NoMemory>
-    requires { length numbers.now < 2 ^ 32 - 1 }
-    ensures { IfOk result (λ graph. IsClassGraph numbers.now (length numbers.now) graph) }
+// Each node under its number.
+fn number_pairs(alloc: Global, numbers: &[u32]) -> Result<Vec<Edge>, NoMemory>
+    requires { length numbers.now < 2 ^ 32 }
+    ensures { IfOk result (λ pairs. pairs.items ≡ number_pairs 0 numbers.now) }
 {
-    let mut graph = Nodes::new(alloc);
-    for number in numbers {
-        graph.push(0, &[*number])?;
+    let mut pairs = Vec::with_capacity(alloc, numbers.len())?;
+    for a in 0..numbers.len() {
+        pairs.push(Edge {
+            key: numbers[a],
+            value: a as u32,
+        })?;
     }
-    Ok(graph)
+    Ok(pairs)
 }
 
 /// The members of each class, one class after the other.
@@ -62,13 +65,13 @@ pub(crate) fn members_of(alloc: Global, numbers: &[u32], count: u32) -> Result<R
     requires count { count ≤ length numbers.now }
     ensures { IfOk result (λ rows. AreMembers numbers.now rows.ranges.items rows.members.items) }
 {
-    let graph = class_graph(alloc, numbers)?;
-    let back = graph.back(alloc)?;
+    let pairs = number_pairs(alloc, numbers)?;
+    let nodes = group(alloc, count as usize, pairs.as_slice())?;
     let mut ranges = Vec::with_capacity(alloc, count as usize)?;
     let mut members = Vec::with_capacity(alloc, numbers.len())?;
     for class in 0..count {
         let start = members.len();
-        members.extend_from_slice(back.sources(class))?;
+        members.extend_from_slice(nodes.get(class as usize))?;
         let end = members.len();
         let live = (end - start).min(u32::MAX as usize) as u32;
         ranges.push(Range { start, end, live })?;

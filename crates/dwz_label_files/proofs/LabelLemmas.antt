@@ -1,20 +1,28 @@
 -- Labels that were written one by one are those of all tops that may move, each at its top's number.
-use Rattle.std.proofs.Common.{◌≡◌, ℕ, Bool, true, false, List, [], length, map, Some, slice_get, ap, subst, ◌∙◌, arith}
+use Rattle.std.proofs.Common.{◌≡◌, ℕ, ◌<◌, All, Bool, true, false, List, [], length, map, get_or, Some, slice_get, ap, subst, ◌∙◌, arith}
 use Rattle.std.specs.Prelude.{slice_index_or}
 use Rattle.std.specs.List.{range_with_len}
 use Rattle.std.proofs.lemmas.Bool.{cond-true}
+use Rattle.std.proofs.lemmas.List.{get_or_default}
 use Rattle.std.proofs.lemmas.List.FromFn.{get_or-map-range_with_len, length-map-range_with_len}
 use Rattle.dwz_def_tops.specs.Spots.{Top, tops_of, units_of}
+use Rattle.dwz_def_tops.specs.Deciding.{AreMovable}
 use Rattle.dwz_def_tops.proofs.AlikeBound.{movable_decides}
+use Rattle.dwz_def_tops.proofs.Targets.{binds_false}
 use Rattle.dwz_def_tops.proofs.TopNumbers.{at_number, tops_numbers}
 use Rattle.dwz_label_files.specs.Run.{Asked, labels_of, movable_label, movable_labels}
 use Rattle.dwz_label_files.specs.Shown.{ShowTargets}
+use Rattle.dwz_def_reading.specs.Documents.{Doc}
 use Rattle.dwz_def_reading.specs.Lists.{In}
 use Rattle.dwz_def_reading.proofs.ListFacts.{got_index_or, got_map}
 use Rattle.dwz_graph.specs.Files.{docs_of}
 use Rattle.dwz_label.specs.Labels.{label_of}
 use Rattle.dwz_label.specs.Shown.{AreShown, nth_label}
 use Rattle.dwz_label.proofs.NodeLooks.{top_below}
+use Rattle.dwz_groups.specs.declared.tops.Tops.{Tops}
+use Rattle.dwz_groups.specs.Spreading.{AreInside}
+use Rattle.dwz_move_files.specs.Outlines.{AreTops}
+use Rattle.dwz_plan.proofs.ListFacts.{all_from_in}
 
 abbrev pub asked : List (List ℕ) → List Bool → Asked
 asked contents movable = record { contents = contents; movable = movable }
@@ -61,3 +69,14 @@ all_shown contents labels movable targets are many h =
       targets_len = many;
       targets_are = h.are;
     }
+
+-- ---- targets
+
+-- those of the tops of files
+pub tops_show : (docs : List (Doc ℕ)) (tops : Tops) (movable : List Bool) → AreTops docs tops → AreMovable (units_of docs) movable → ShowTargets (units_of docs) movable tops.targets
+tops_show docs tops movable are flags = record { flags = flags; are = λ t there m. are.targets t there (binds_false (units_of docs) t there m) }
+
+pub targets_low : (targets : List (List ℕ)) → AreInside targets → All (λ ts. All (λ t. t < length targets) ts) targets
+targets_low targets inside k d lt =
+    subst (λ (ts : List ℕ). All (λ t. t < length targets) ts) (get_or_default targets k [] d lt)
+    (all_from_in (λ t. t < length targets) (get_or targets k []) (λ n there. inside k n there))

@@ -4,3 +4,4 @@ pub mod SearchLemmas
 pub mod SpaceLemmas
 pub mod TopLemmas
 pub mod LabelLemmas
+pub mod BareLemmas

@@ -261,6 +261,29 @@ kept_row r rows file n e ready h =
     let own = ready.rows_are file h.f h.x (got_below r.files.now file h.f h.got) h.got h.index h.m h.one in
     (own.row, ap (slice_get rows) h.unit ∙ own.got, own.is)
 
+-- the language of its unit
+pub language_found : (r : Run) (file n : ℕ) (e : TopEntry) (row : UnitRow) → IsRun r → (h : Found r file n e) → IsUnitRow (raw_units h.f.units) h.m row
+    → (t : Top) → slice_get (tops_of (units_of (docs_of r.graph.now.given))) n ≡ Some t → t.language ≡ row.language
+language_found r file n e row run h own t got =
+    let contents = r.graph.now.given in
+    let tops = tops_of (units_of (docs_of contents)) in
+    let among = is_among contents r.files.now r.indexes.now file h.f h.x run.kept run.indexed h.got h.index in
+    let raw = raw_units h.f.units in
+    let k = n - h.x.starts.top in
+    let is_top = (gives_top contents file among.bytes h.f h.x among.is k e h.entry).top_is in
+    let from = h.from in
+    let at : h.x.starts.top + k ≡ n = omega arith in
+    let same : t ≡ (gives_top contents file among.bytes h.f h.x among.is k e h.entry).top =
+    same_got tops n t _ got (ap (slice_get tops) (sym at) ∙ is_top.there) in
+    let of_unit = h.unit in
+    let m : h.m ≡ e.unit - h.x.starts.unit = omega arith in
+    let low = entry_there contents file among.bytes h.f h.x among.is k e h.entry in
+    let many : length (shown_entries raw) ≡ length (rows_of raw) = length-map (rows_of raw) entry_shown in
+    let all = rows-length raw in
+    let shown = got_there (shown_entries raw) e.entry (omega arith) in
+    ap (λ (w : Top). w.language) same
+    ∙ language_is contents file among.bytes h.f h.x among.is k e h.entry row (subst (λ (j : ℕ). IsUnitRow raw j row) m own) shown.0 shown.1
+
 -- the same, by the file and the index that were looked up
 pub own_unit : (r : Run) (file n : ℕ) (e : TopEntry) (h : Found r file n e) (f : File) (x : Index) (first : ℕ) → slice_get r.files.now file ≡ Some f → slice_get r.indexes.now file ≡ Some x
     → first ≡ x.starts.unit

@@ -1,13 +1,18 @@
--- The least alike tops, and laws on them.
+-- Nodes of tops and the least alike tops, and laws on these.
 use Rattle.std.specs.Prelude.{ℕ, Bool, List, map}
 use Rattle.dwz_def_tops.specs.Alike.{Apart, Together}
 use Rattle.dwz_def_tops.specs.Deciding.{AreMovable, alike_test}
 use Rattle.dwz_def_tops.specs.Spots.{EntryName, FileUnit}
 use Rattle.dwz_groups.specs.declared.tops.Tops.{Tops}
-use Rattle.dwz_label.specs.Nodes.{AreLeast}
+use Rattle.dwz_label.specs.Nodes.{AreLeast, AreTopNodes}
 use Rattle.dwz_label.specs.Shown.{AreShown}
+use Rattle.dwz_nodes.specs.Graph.{Node}
 use Rattle.dwz_plan.specs.declared.plan.Scope.TheVariants.{Each, Together as AllTogether}
 use Rattle.dwz_plan.specs.Shows.{HaveLeast, ShowsTops}
+
+-- of whichever units the lists show the tops, these are their nodes
+abbrev pub GivesNodes : List (List ℕ) → List Bool → List (List ℕ) → List Node → Type 0
+GivesNodes labels movable targets g = (units : List (FileUnit EntryName)) → AreShown units labels movable targets → AreTopNodes units g
 
 -- of whichever units the lists show the tops, these are the least alike ones
 abbrev pub GivesLeast : List (List ℕ) → List Bool → List (List ℕ) → List ℕ → Type 0

@@ -1,5 +1,6 @@
 pub mod LeastLaws
 pub mod Unit
 pub mod Run
+pub mod Bare
 pub mod Spaces
 pub mod Shown

@@ -3,6 +3,7 @@ use Rattle.std.specs.Prelude.{◌≡◌, ℕ, ◌-◌, ◌<◌, ◌≤◌, Bool,
 use Rattle.std.specs.List.{range_with_len}
 use Rattle.dwz_def_tops.specs.Spots.{tops_of, units_of}
 use Rattle.dwz_label_files.specs.declared.run.Run.{Run}
+use Rattle.dwz_label_files.specs.declared.spot.Spot.{Spot}
 use Rattle.dwz_label_files.specs.declared.unit.UnitRow.{UnitRow}
 use Rattle.dwz_label_files.specs.Unit.{HaveRows, IsUnitRow}
 use Rattle.dwz_graph.specs.declared.file.File.{File}
@@ -56,6 +57,12 @@ pub record IsTopIn (files : List File) (indexes : List Index) (file : ℕ) (e : 
   pub index : slice_get indexes file ≡ Some x
   pub entry : slice_get x.tops k ≡ Some e
   pub unit : IsUnitRow (raw_units f.units) (e.unit - x.starts.unit) row
+
+-- there stands the top with a number among those of all files
+pub record IsSpot (r : Run) (n : ℕ) (s : Spot) : Type 0 where
+  pub in_file : IsInFile r.files.now r.indexes.now s.file n
+  pub entry : (x : Index) → slice_get r.indexes.now s.file ≡ Some x → slice_get x.tops (n - x.starts.top) ≡ Some s.entry
+  pub there : IsTopIn r.files.now r.indexes.now s.file s.entry s.row
 
 -- rows are kept of the units of all files
 pub record AreReady (r : Run) (rows : List UnitRow) : Type 0 where

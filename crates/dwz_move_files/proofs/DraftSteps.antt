@@ -201,7 +201,7 @@ module _ (contents : List (List ℕ)) (number : ℕ) (bytes : List ℕ) (f : Fil
     put_bound first count n sum at row row_is b bound binds_is old new d rows binds pairs =
         let here : slice_get (tops_of (units_of docs)) n ≡ Some t = ap (slice_get (tops_of (units_of docs))) (at ∙ top_is.number) ∙ top_is.there in
         one_more docs first count n old new t row b [] sum here
-        (record { row_is = row_is; binds_is = binds_is; targets_are = λ e. absurd (false≢true (sym e ∙ bound)); inside = all_none (λ (n : ℕ). n < length (tops_of (units_of docs))) })
+        (record { row_is = row_is; binds_is = binds_is; targets_are = λ e. absurd (false≢true (sym e ∙ bound)); none = λ e. refl; inside = all_none (λ (n : ℕ). n < length (tops_of (units_of docs))) })
         d rows binds (pairs ∙ sym (append-nil old.pairs.items))
 
     module _ (into : List (Option ℕ)) (into_is : AreInto contents number bytes f x is into) (r : RawEntry) (shown : slice_get (shown_entries raw) top.entry ≡ Some r) where
@@ -242,5 +242,11 @@ module _ (contents : List (List ℕ)) (number : ℕ) (bytes : List ℕ) (f : Fil
       put_free first count n sum at row row_is b unbound binds_is old new d rows binds part part_is pairs =
           let here : slice_get (tops_of (units_of docs)) n ≡ Some t = ap (slice_get (tops_of (units_of docs))) (at ∙ top_is.number) ∙ top_is.there in
           one_more docs first count n old new t row b (somes (slice_range into (start top.entry) (start r.end))) sum here
-          (record { row_is = row_is; binds_is = binds_is; targets_are = λ e. targets_so (sym binds_is ∙ unbound); inside = targets_low (start top.entry) (start r.end) })
+          (record {
+            row_is = row_is;
+            binds_is = binds_is;
+            targets_are = λ e. targets_so (sym binds_is ∙ unbound);
+            none = λ e. absurd (false≢true (sym unbound ∙ e));
+            inside = targets_low (start top.entry) (start r.end);
+          })
           d rows binds (pairs ∙ ap (λ (w : List (Option ℕ)). old.pairs.items ++ map (target_of n) (somes w)) part_is)

@@ -1,18 +1,20 @@
--- What is gathered of all tops shows them; with the flags of those that may move it is their outline.
-use Rattle.std.proofs.Common.{◌≡◌, ◌↔◌, ℕ, zero, suc, ◌<◌, ◌≤◌, Bool, true, false, All, List, [], ◌∷◌, length, map, Some, slice_get, refl, sym, ap, subst, ◌∙◌, inl, inr, ⊎_elim, arith}
-use Rattle.std.specs.Prelude.{slice_index_or}
-use Rattle.std.proofs.lemmas.Bool.{cases_lt}
-use Rattle.dwz_def_tops.specs.Alike.{Movable, binds_itself, refers_to}
+-- What is gathered of all tops shows them, also with the flags of those that may move.
+use Rattle.std.proofs.Common.{◌≡◌, ◌↔◌, ℕ, zero, suc, ◌<◌, ◌≤◌, ◌^◌, Bool, true, false, All, List, [], ◌∷◌, length, map, Some, Result, Ok, Err, slice_get, refl}
+use Rattle.std.proofs.Common.{sym, ap, subst, ◌∙◌, inl, inr, ⊎_elim, arith}
+use Rattle.std.specs.Prelude.{IfOk, slice_index_or}
+use Rattle.std.proofs.lemmas.Bool.{cases_lt, false≢true}
+use Rattle.dwz_def_tops.specs.Alike.{binds_itself, refers_to}
 use Rattle.dwz_def_tops.specs.Deciding.{AreMovable}
 use Rattle.dwz_def_tops.specs.Spots.{EntryName, FileUnit, Top, Within, tops_of, units_of}
 use Rattle.dwz_def_tops.specs.Targets.{targets_of}
 use Rattle.dwz_def_tops.proofs.IntoLemmas.{targets_find, targets_found}
 use Rattle.dwz_def_tops.proofs.TopNumbers.{top_there}
-use Rattle.dwz_def_tops.proofs.AlikeBound.{free_top}
+use Rattle.dwz_def_tops.proofs.Targets.{binds_false}
 use Rattle.dwz_def_reading.specs.Lists.{In}
 use Rattle.dwz_def_reading.proofs.ListFacts.{got_below, got_index_or, got_there}
 use Rattle.dwz_plan.specs.Gaining.{weight_at, weights_of}
 use Rattle.dwz_plan.specs.Groups.{IsWeight}
+use Rattle.dwz_groups.specs.declared.groups.Edge.{Edge}
 use Rattle.dwz_groups.specs.declared.tops.TopRow.{TopRow}
 use Rattle.dwz_groups.specs.declared.tops.Tops.{Tops}
 use Rattle.dwz_groups.specs.Groups.{grouped}
@@ -27,10 +29,11 @@ use Rattle.dwz_groups.specs.Spreading.{AreInside}
 use Rattle.dwz_groups.proofs.MarkLemmas.{grouped_length}
 use Rattle.dwz_move_files.specs.declared.draft.Draft.{Draft}
 use Rattle.dwz_move_files.specs.Drafts.{IsDraft, IsGathered}
-use Rattle.dwz_move_files.specs.Outlines.{IsOutline, StandsFor}
+use Rattle.dwz_move_files.specs.Outlines.{AreTops, IsOutline, StandsFor}
 use Rattle.dwz_move_files.specs.Rows.{with_flags}
+use Rattle.dwz_move_files.proofs.FilesLow.{files_low}
 use Rattle.dwz_move_files.proofs.ListParts.{all_after}
-use Rattle.dwz_move_files.proofs.PairLemmas.{grouped_at}
+use Rattle.dwz_move_files.proofs.PairLemmas.{grouped_at, keys_low}
 
 -- ---- items by their numbers
 
@@ -46,14 +49,14 @@ all_in m (k ∷ ns) h n (inr later) = all_in m ns (all_after (λ (n : ℕ). n < 
 
 -- ---- rows with flags
 
-pub flags_long : (rows : List TopRow) (flags : List Bool) → length flags ≡ length rows → length (with_flags rows flags) ≡ length rows
+flags_long : (rows : List TopRow) (flags : List Bool) → length flags ≡ length rows → length (with_flags rows flags) ≡ length rows
 unfolding with_flags
 flags_long [] [] e = refl
 flags_long [] (b ∷ flags) e = absurd (omega (arith, e))
 flags_long (row ∷ rows) [] e = absurd (omega (arith, e))
 flags_long (row ∷ rows) (b ∷ flags) e = ap suc (flags_long rows flags (omega (arith, e)))
 
-pub flags_back : (rows : List TopRow) (flags : List Bool) → length flags ≡ length rows → map (λ row. row.movable) (with_flags rows flags) ≡ flags
+flags_back : (rows : List TopRow) (flags : List Bool) → length flags ≡ length rows → map (λ row. row.movable) (with_flags rows flags) ≡ flags
 unfolding with_flags
 flags_back [] [] e = refl
 flags_back [] (b ∷ flags) e = absurd (omega (arith, e))
@@ -86,6 +89,14 @@ flags_row (old ∷ rows) (b ∷ flags) zero row e =
     }
 flags_row (old ∷ rows) (b ∷ flags) (suc k) row e = let r = flags_row rows flags k row e in record { old = r.old; there = r.there; place = r.place; unit = r.unit; weight = r.weight; pinned = r.pinned }
 
+own_row : (rows : List TopRow) (k : ℕ) (row : TopRow) → slice_get rows k ≡ Some row → SameRow rows k row
+own_row rows k row e = record { old = row; there = e; place = refl; unit = refl; weight = refl; pinned = refl }
+
+all_still : (rows : List TopRow) (n : ℕ) → All (λ row. row.movable ≡ false) rows → may_move rows n ≡ false
+all_still [] n h = refl
+all_still (row ∷ rows) zero h = h 0 row (omega arith)
+all_still (row ∷ rows) (suc n) h = all_still rows n (all_after (λ (r : TopRow). r.movable ≡ false) row rows h)
+
 -- ---- one row for each top
 
 shows_rows : (units : List (FileUnit EntryName)) (rows : List TopRow) (tops : List Top) → length rows ≡ length tops
@@ -109,6 +120,11 @@ weight_got (r ∷ rows) zero row e = ap (λ (w : TopRow). w.weight) (let same : 
 weight_got (r ∷ rows) (suc k) row e = weight_got rows k row e
 
 -- ---- all tops are gathered
+
+pub few_rows : {E : Type 0} (docs : List (Doc ℕ)) (r : Result Draft E) → IfOk r (IsDraft docs 0 (length (tops_of (units_of docs)))) → IfOk r (λ draft. length (tops_of (units_of docs)) < 2 ^ 32)
+    → IfOk r (λ draft. length draft.rows.items < 2 ^ 32)
+few_rows docs (Ok draft) d few = (let e = d.rows_len in omega arith)
+few_rows docs (Err e) d few = tt
 
 module _ (docs : List (Doc ℕ)) (draft : Draft) (d : IsDraft docs 0 (length (tops_of (units_of docs))) draft) where
   abbrev units : List (FileUnit EntryName)
@@ -144,11 +160,24 @@ module _ (docs : List (Doc ℕ)) (draft : Draft) (d : IsDraft docs 0 (length (to
   of_top : (t : Top) → In t tops → Of t.number t
   of_top t there = of_number t.number t (top_there units t there)
 
-  pub are_seeds : AreSeeds units draft.binds.items
+  are_seeds : AreSeeds units draft.binds.items
   are_seeds = record {
     len = d.binds_len;
     each = λ t there. (let o = of_top t there in got_index_or draft.binds.items t.number o.binds false o.binds_there ∙ o.is.binds_is);
   }
+
+  pub keys_within : All (λ p. p.key < length draft.rows.items) draft.pairs.items
+  keys_within =
+      let a = d.rows_len in
+      let b = d.targets_len in
+      subst (λ (w : List Edge). All (λ p. p.key < length draft.rows.items) w) (sym d.pairs_are) (keys_low (length draft.rows.items) 0 d.targets (omega arith))
+
+  still : All (λ row. row.movable ≡ false) draft.rows.items
+  still k e lt =
+      let a = d.rows_len in
+      let t = got_there tops k (omega arith) in
+      let o = of_number k t.0 t.1 in
+      subst (λ (w : TopRow). w.movable ≡ false) (sym (got_index_or draft.rows.items k o.row e o.row_there)) o.is.row_is.still
 
   module _ (targets : List (List ℕ)) (grouped_is : targets ≡ grouped (length draft.rows.items) draft.pairs.items) where
     pub long : length targets ≡ count
@@ -160,13 +189,19 @@ module _ (docs : List (Doc ℕ)) (draft : Draft) (d : IsDraft docs 0 (length (to
         ap (λ (w : List (List ℕ)). slice_index_or w n []) (grouped_is ∙ ap (grouped (length draft.rows.items)) d.pairs_are)
         ∙ grouped_at (length draft.rows.items) n d.targets (omega arith)
 
-    pub targets_are : (t : Top) → In t tops → binds_itself units t ≡ false → slice_index_or targets t.number [] ≡ targets_of t
+    targets_are : (t : Top) → In t tops → binds_itself units t ≡ false → slice_index_or targets t.number [] ≡ targets_of t
     targets_are t there free =
         let o = of_top t there in
         let lt = got_below tops t.number t (top_there units t there) in
         under t.number lt ∙ got_index_or d.targets t.number o.ts [] o.ts_there ∙ o.is.targets_are (o.is.binds_is ∙ free)
 
-    pub shown_targets : ShowTargets units targets
+    none_are : (t : Top) → In t tops → binds_itself units t ≡ true → slice_index_or targets t.number [] ≡ []
+    none_are t there bound =
+        let o = of_top t there in
+        let lt = got_below tops t.number t (top_there units t there) in
+        under t.number lt ∙ got_index_or d.targets t.number o.ts [] o.ts_there ∙ o.is.none (o.is.binds_is ∙ bound)
+
+    shown_targets : ShowTargets units targets
     shown_targets = record {
       len = long;
       each = λ t there free n. (
@@ -186,47 +221,36 @@ module _ (docs : List (Doc ℕ)) (draft : Draft) (d : IsDraft docs 0 (length (to
         (λ ge. absurd (let len = long in let none : slice_index_or targets m [] ≡ [] = none_index targets m [] (omega arith) in subst (λ (w : List ℕ). In n w) none there))
         (cases_lt m count)
 
-    module _ (flags : List Bool) (movable : AreMovable units flags) (files_of_units : List ℕ) (files : ℕ) (of_files : files_of_units ≡ map (λ f. f.file) units)
-        (few : All (λ file. file < files) files_of_units) where
-      abbrev rows : List TopRow
-      rows = with_flags draft.rows.items flags
+    -- what is asked where flags are made, and what they say
+    module _ (seeds : List Bool) (seeds_are : seeds ≡ draft.binds.items) where
+      pub seeds_many : length seeds ≡ length targets
+      seeds_many = ap (λ (w : List Bool). length w) seeds_are ∙ d.binds_len ∙ sym long
 
-      flags_len : length flags ≡ length draft.rows.items
-      flags_len = movable.len ∙ sym d.rows_len
+      pub are_movable : (flags : List Bool) → ((us : List (FileUnit EntryName)) → ShowTargets us targets → AreSeeds us seeds → AreMovable us flags) → AreMovable units flags
+      are_movable flags gives = gives units shown_targets (subst (AreSeeds units) (sym seeds_are) are_seeds)
 
-      rows_len : length rows ≡ count
-      rows_len = flags_long draft.rows.items flags flags_len ∙ d.rows_len
-
+    -- rows of which each is that of its top but for the flag, which is set of no top that binds itself
+    module _ (rows : List TopRow) (rows_len : length rows ≡ count) (same : (k : ℕ) (row : TopRow) → slice_get rows k ≡ Some row → SameRow draft.rows.items k row)
+        (free : (t : Top) → In t tops → may_move rows t.number ≡ true → binds_itself units t ≡ false) where
       -- a row that shows its top
       record Shown (n : ℕ) (row : TopRow) (t : Top) : Type 0 where
-        same : SameRow draft.rows.items n row
+        from : SameRow draft.rows.items n row
         binds : Bool
         ts : List ℕ
-        is : IsGathered docs same.old binds ts t
+        is : IsGathered docs from.old binds ts t
 
       shown : (n : ℕ) (row : TopRow) (t : Top) → slice_get rows n ≡ Some row → slice_get tops n ≡ Some t → Shown n row t
       shown n row t e there =
-          let r = flags_row draft.rows.items flags n row e in
+          let r = same n row e in
           let o = of_number n t there in
-          let same : o.row ≡ r.old = (let both : Some o.row ≡ Some r.old = sym o.row_there ∙ r.there in cc) in
-          record { same = r; binds = o.binds; ts = o.ts; is = subst (λ (w : TopRow). IsGathered docs w o.binds o.ts t) same o.is }
-
-      -- a top that may move doesn't bind itself
-      free : (t : Top) → In t tops → may_move rows t.number ≡ true → binds_itself units t ≡ false
-      free t there e =
-          let moves_so : slice_index_or flags t.number false ≡ true = ap (λ (w : List Bool). slice_index_or w t.number false) (sym (flags_back draft.rows.items flags flags_len)) ∙ e in
-          let moves = (flag_movable units flags movable t there).0 moves_so in
-          not_bound (binds_itself units t) refl moves
-        where
-          not_bound : (b : Bool) → binds_itself units t ≡ b → Movable units t.number → binds_itself units t ≡ false
-          not_bound false q m = q
-          not_bound true q m = absurd (free_top (units_of docs) t there m q)
+          let own : o.row ≡ r.old = (let both : Some o.row ≡ Some r.old = sym o.row_there ∙ r.there in cc) in
+          record { from = r; binds = o.binds; ts = o.ts; is = subst (λ (w : TopRow). IsGathered docs w o.binds o.ts t) own o.is }
 
       row_shows : (k : ℕ) (row : TopRow) (t : Top) → slice_get rows k ≡ Some row → slice_get tops k ≡ Some t → ShowsTop units row t
-      row_shows k row t e there = let s = shown k row t e there in record { unit = s.same.unit ∙ s.is.row_is.unit; pinned = s.same.pinned ∙ s.is.row_is.pinned }
+      row_shows k row t e there = let s = shown k row t e there in record { unit = s.from.unit ∙ s.is.row_is.unit; pinned = s.from.pinned ∙ s.is.row_is.pinned }
 
       row_stands : (k : ℕ) (row : TopRow) (t : Top) → slice_get rows k ≡ Some row → slice_get tops k ≡ Some t → name_of_place docs (at_file row.place.file row.place.offset) ≡ Within t.number []
-      row_stands k row t e there = let s = shown k row t e there in ap (λ (p : Place). name_of_place docs (at_file p.file p.offset)) s.same.place ∙ s.is.row_is.place
+      row_stands k row t e there = let s = shown k row t e there in ap (λ (p : Place). name_of_place docs (at_file p.file p.offset)) s.from.place ∙ s.is.row_is.place
 
       row_weighs : (t : Top) → In t tops → IsWeight (weight_at (weights_of rows) t.number) (top_weight t)
       row_weighs t there =
@@ -235,9 +259,9 @@ module _ (docs : List (Doc ℕ)) (draft : Draft) (d : IsDraft docs 0 (length (to
           let len = rows_len in
           let row = got_there rows t.number (omega arith) in
           let s = shown t.number row.0 t row.1 here in
-          subst (λ (w : ℕ). IsWeight w (top_weight t)) (sym (weight_got rows t.number row.0 row.1 ∙ s.same.weight)) s.is.row_is.weight
+          subst (λ (w : ℕ). IsWeight w (top_weight t)) (sym (weight_got rows t.number row.0 row.1 ∙ s.from.weight)) s.is.row_is.weight
 
-      pub shows : (x : Tops) → x.rows ≡ rows → x.targets ≡ targets → x.files_of_units ≡ files_of_units → x.files ≡ files → ShowsTops units x
+      shows : (x : Tops) → x.rows ≡ rows → x.targets ≡ targets → x.files_of_units ≡ map (λ f. f.file) units → x.files ≡ length docs → ShowsTops units x
       shows x rows_are targets_so units_are files_are = record {
         rows = subst (λ (w : List TopRow). ShowsRows units w tops) (sym rows_are) (shows_rows units rows tops rows_len row_shows);
         weights = λ t there. subst (λ (w : List TopRow). IsWeight (weight_at (weights_of w) t.number) (top_weight t)) (sym rows_are) (row_weighs t there);
@@ -245,14 +269,51 @@ module _ (docs : List (Doc ℕ)) (draft : Draft) (d : IsDraft docs 0 (length (to
         targets = λ t there e n.
             subst (λ (w : List (List ℕ)). In n (slice_index_or w t.number []) ↔ (refers_to n t ≡ true)) (sym targets_so)
             (shown_targets.each t there (free t there (ap (λ (w : List TopRow). may_move w t.number) (sym rows_are) ∙ e)) n);
-        files_of_units = units_are ∙ of_files;
-        files = subst (λ (n : ℕ). All (λ file. file < n) x.files_of_units) (sym files_are) (subst (λ (w : List ℕ). All (λ file. file < files) w) (sym units_are) few);
+        files_of_units = units_are;
+        files = subst (λ (w : List ℕ). All (λ file. file < x.files) w) (sym units_are) (files_low docs x.files (omega (arith, files_are)));
       }
 
-      pub outline_is : (x : Tops) → x.rows ≡ rows → x.targets ≡ targets → x.files_of_units ≡ files_of_units → x.files ≡ files → IsOutline docs x
+      places : (x : Tops) → x.rows ≡ rows → StandsFor docs x.rows tops
+      places x rows_are = subst (λ (w : List TopRow). StandsFor docs w tops) (sym rows_are) (stands_for docs rows tops rows_len row_stands)
+
+    -- none is said to move
+    unset : (t : Top) → In t tops → may_move draft.rows.items t.number ≡ true → binds_itself units t ≡ false
+    unset t there e = absurd (false≢true (sym (all_still draft.rows.items t.number still) ∙ e))
+
+    tops_are : (x : Tops) → x.rows ≡ draft.rows.items → x.targets ≡ targets → x.files_of_units ≡ map (λ f. f.file) units → x.files ≡ length docs → AreTops docs x
+    tops_are x rows_are targets_so units_are files_are = record {
+      shows = shows draft.rows.items d.rows_len (own_row draft.rows.items) unset x rows_are targets_so units_are files_are;
+      places = places draft.rows.items d.rows_len (own_row draft.rows.items) unset x rows_are;
+      still = subst (λ (w : List TopRow). All (λ row. row.movable ≡ false) w) (sym rows_are) still;
+      targets = λ t there e. ap (λ (w : List (List ℕ)). slice_index_or w t.number []) targets_so ∙ targets_are t there e;
+      bound = λ t there e. ap (λ (w : List (List ℕ)). slice_index_or w t.number []) targets_so ∙ none_are t there e;
+      inside = subst AreInside (sym targets_so) inside;
+      files = files_are;
+    }
+
+    pub all_tops : {E : Type 0} (r : Result Tops E) → IfOk r (λ x. x.rows ≡ draft.rows.items) → IfOk r (λ x. x.targets ≡ targets) → IfOk r (λ x. x.files_of_units ≡ map (λ f. f.file) units)
+        → IfOk r (λ x. x.files ≡ length docs) → IfOk r (AreTops docs)
+    all_tops (Ok x) rows_are targets_so units_are files_are = tops_are x rows_are targets_so units_are files_are
+    all_tops (Err e) rows_are targets_so units_are files_are = tt
+
+    -- those are that may
+    module _ (flags : List Bool) (movable : AreMovable units flags) where
+      flags_len : length flags ≡ length draft.rows.items
+      flags_len = movable.len ∙ sym d.rows_len
+
+      rows_len : length (with_flags draft.rows.items flags) ≡ count
+      rows_len = flags_long draft.rows.items flags flags_len ∙ d.rows_len
+
+      -- a top that may move doesn't bind itself
+      free : (t : Top) → In t tops → may_move (with_flags draft.rows.items flags) t.number ≡ true → binds_itself units t ≡ false
+      free t there e =
+          let moves_so : slice_index_or flags t.number false ≡ true = ap (λ (w : List Bool). slice_index_or w t.number false) (sym (flags_back draft.rows.items flags flags_len)) ∙ e in
+          binds_false units t there ((flag_movable units flags movable t there).0 moves_so)
+
+      pub outline_is : (x : Tops) → x.rows ≡ with_flags draft.rows.items flags → x.targets ≡ targets → x.files_of_units ≡ map (λ f. f.file) units → x.files ≡ length docs → IsOutline docs x
       outline_is x rows_are targets_so units_are files_are = record {
-        shows = shows x rows_are targets_so units_are files_are;
-        places = subst (λ (w : List TopRow). StandsFor docs w tops) (sym rows_are) (stands_for docs rows tops rows_len row_stands);
+        shows = shows (with_flags draft.rows.items flags) rows_len (flags_row draft.rows.items flags) free x rows_are targets_so units_are files_are;
+        places = places (with_flags draft.rows.items flags) rows_len (flags_row draft.rows.items flags) free x rows_are;
         movable = subst (λ (w : List TopRow). AreMovable units (map (λ row. row.movable) w)) (sym rows_are) (subst (AreMovable units) (sym (flags_back draft.rows.items flags flags_len)) movable);
         targets = λ t there e. ap (λ (w : List (List ℕ)). slice_index_or w t.number []) targets_so ∙ targets_are t there e;
         inside = subst AreInside (sym targets_so) inside;

@@ -1,5 +1,5 @@
 -- What is gathered of tops, one after the other.
-use Rattle.std.specs.Prelude.{◌≡◌, ℕ, suc, ◌+◌, ◌<◌, ◌≤◌, Bool, false, All, List, [], ◌∷◌, ◌++◌, length, map, Option, Some, slice_get}
+use Rattle.std.specs.Prelude.{◌≡◌, ℕ, suc, ◌+◌, ◌<◌, ◌≤◌, Bool, true, false, All, List, [], ◌∷◌, ◌++◌, length, map, Option, Some, slice_get}
 use Rattle.std.specs.Prelude.{IfSome}
 use Rattle.dwz_def_tops.specs.Alike.{binds_itself}
 use Rattle.dwz_def_tops.specs.Spots.{Top, Within, tops_of, units_of}
@@ -22,19 +22,21 @@ use Rattle.dwz_graph.specs.declared.index.TopEntry.{TopEntry}
 use Rattle.dwz_graph.specs.Index.{Index}
 use Rattle.dwz_move_files.specs.declared.draft.Draft.{Draft}
 
--- the row shows where the top stands, its unit, its weight, and whether it is pinned
+-- the row shows where the top stands, its unit, its weight, and whether it is pinned; that it may move isn't said yet
 pub record IsRowOf (docs : List (Doc ℕ)) (row : TopRow) (t : Top) : Type 0 where
   pub file : row.place.file ≡ t.file
   pub place : name_of_place docs (at_file row.place.file row.place.offset) ≡ Within t.number []
   pub unit : row.unit ≡ t.unit
   pub weight : IsWeight row.weight (top_weight t)
+  pub still : row.movable ≡ false
   pub pinned : row.pinned ≡ is_pinned (units_of docs) t.number
 
--- and whether it binds itself; if it doesn't, the tops that its references go into
+-- and whether it binds itself; if it doesn't, the tops that its references go into, and else none
 pub record IsGathered (docs : List (Doc ℕ)) (row : TopRow) (binds : Bool) (targets : List ℕ) (t : Top) : Type 0 where
   pub row_is : IsRowOf docs row t
   pub binds_is : binds ≡ binds_itself (units_of docs) t
   pub targets_are : binds ≡ false → targets ≡ targets_of t
+  pub none : binds ≡ true → targets ≡ []
   pub inside : All (λ n. n < length (tops_of (units_of docs))) targets
 
 -- each of these tops begins and ends among the entries

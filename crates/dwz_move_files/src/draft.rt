@@ -232,8 +232,9 @@ pub(crate) fn put_file(
 /// What is gathered of the tops of all files.
 pub(crate) fn gather(alloc: Global, graph: &Graph, named: &Named) -> Result<Draft, NoMemory>
     requires few { length graph.now.given < 2 ^ 32 }
-    ensures { AreNamed (units_of (docs_of graph.now.given)) named.now
+    ensures draft { AreNamed (units_of (docs_of graph.now.given)) named.now
         → IfOk result (IsDraft (docs_of graph.now.given) 0 (length (tops_of (units_of (docs_of graph.now.given))))) }
+    ensures few { IfOk result (λ draft. length (tops_of (units_of (docs_of graph.now.given))) < 2 ^ 32) }
 {
     let indexes = graph.indexes();
     let mut draft = nothing(alloc);

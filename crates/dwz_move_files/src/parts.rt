@@ -139,8 +139,9 @@ pub(crate) fn gather_by<R: Threads + Sync>(
 ) -> Result<Draft, NoMemory>
     requires few { length graph.now.given < 2 ^ 32 }
     requires workers { 0 < workers }
-    ensures { AreNamed (units_of (docs_of graph.now.given)) named.now
+    ensures draft { AreNamed (units_of (docs_of graph.now.given)) named.now
         → IfOk result (IsDraft (docs_of graph.now.given) 0 (length (tops_of (units_of (docs_of graph.now.given))))) }
+    ensures few { IfOk result (λ draft. length (tops_of (units_of (docs_of graph.now.given))) < 2 ^ 32) }
 {
     if workers == 1 || graph.files().len() < 2 {
         return gather(alloc, graph, named);

@@ -1,14 +1,14 @@
 //! Labels of the tops of a small file, worked out by hand.
 
 use dwz_graph::Graph;
-use dwz_label_files::{count_tops, label};
+use dwz_label_files::{bare, count_tops, label};
 use std::test::Fail;
 
 // Three units. The first has a line table of the files `a.c` and `b.h`, and no language; a variable that has a value of each kind, which a
 // top that stays may have too; and the base type `int`, which an expression and a location list of the variable name. The second one is in
 // the language 12: in the namespace `n` it has a typedef without a name, and `int`, which is its type. The language of the third one is
 // the number -2; it has a type `x` of no file.
-const FILE: &str =
+pub(crate) const FILE: &str =
     "7f454c4602010100000000000000000003003e0001000000000000000000000000000000000000009801000000000000000000004000000000004000\
 0600050040000000050001080000000001000000000276000100010107090000000000000000040000000500000000000000ff7fb964059102a83c9f\
 0c00000003696e74000405001b0000000500010800000000040c056e00061600000003696e7400040500000f0000000500010800000000077e087800\
@@ -48,6 +48,34 @@ fn labels_say_what_tops_have(rt: HostRuntime) -> Result<(), Fail> {
     for (top, want) in LABELS {
         assert!(rt; (top as usize) < count);
         let found = label(alloc, &graph, top)?;
+        assert!(rt; found.as_slice() == want, "of top {top}");
+    }
+    Ok(())
+}
+
+// Tops by their numbers, with their labels without the language: the two base types stand in other spaces.
+const BARE: [(u32, &[u8]); 4] = [
+    (
+        1,
+        b"\0\0\x24\x03\x03\x04\x03int\0\x0b\0\0\x04\0\x3e\0\0\x05\0",
+    ),
+    (2, b"\x01\x01n\0\x16\x01\x49\x06\x01\x01\0"),
+    (
+        3,
+        b"\x01\x01n\0\x24\x03\x03\x04\x03int\0\x0b\0\0\x04\0\x3e\0\0\x05\0",
+    ),
+    (4, b"\0\0\x3b\x02\x03\x04\x01x\0\x3a\x05\0\0"),
+];
+
+#[test]
+fn bare_labels_have_no_language(rt: HostRuntime) -> Result<(), Fail> {
+    let alloc = rt.alloc();
+    let files = [hex::decode(alloc, FILE)?];
+    let graph = Graph::read(alloc, &files)?;
+    let count = count_tops(alloc, &graph);
+    for (top, want) in BARE {
+        assert!(rt; (top as usize) < count);
+        let found = bare(alloc, &graph, top)?;
         assert!(rt; found.as_slice() == want, "of top {top}");
     }
     Ok(())

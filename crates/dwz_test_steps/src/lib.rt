@@ -8,4 +8,6 @@ mod finished;
 #[cfg(test)]
 mod labels;
 #[cfg(test)]
+mod tops;
+#[cfg(test)]
 mod workers;

@@ -1,4 +1,4 @@
-use Rattle.std.proofs.Common.{ℕ, ◌<◌, List, length, sym, ap, subst, ◌∙◌, arith}
+use Rattle.std.proofs.Common.{ℕ, ◌<◌, List, length, refl, sym, ap, subst, ◌∙◌, arith}
 use Rattle.std.specs.Prelude.{slice_index_or, Bool, false}
 use Rattle.dwz_def_tops.specs.Spots.{tops_of, units_of}
 use Rattle.dwz_graph.specs.Files.{docs_of}
@@ -33,5 +33,6 @@ returns c = λ contents bytes x is k t top_is at ends named. (
           (subst (λ (w : Source). KnowsRefs (around_of bytes raw) (raw_units w) name refs starts (tops_of_refs name raw refs)) (sym c.requires.weights) (knows_own contents number bytes f x is))
           (subst (λ (w : Source). StandsAt (around_of bytes raw) name (raw_units w) doc.units number x.starts.unit t top.entry c.args.end) (sym c.requires.weights)
           (stands_end contents number bytes f x is k top t top_is c.args.end ends)));
+      still = refl;
       pinned = c.flag.ensures ∙ ap (λ (w : List Bool). slice_index_or w c.args.n false) c.as_slice.ensures.value ∙ named.uleb.each c.args.n here ∙ ap (is_pinned (units_of (docs_of contents))) at;
     })

@@ -1,0 +1,12 @@
+mod Numbers
+mod OnceLemmas
+mod Grouped
+mod RootPlaces
+mod NamedParts
+mod RowParts
+mod Means
+mod PartLists
+mod Children
+mod Whole
+mod ImportRelations
+mod FilesSay

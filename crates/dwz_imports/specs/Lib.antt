@@ -1,0 +1,4 @@
+pub mod Imports
+pub mod Stored
+pub mod Said
+pub mod ImportLaws

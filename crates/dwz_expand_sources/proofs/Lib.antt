@@ -1,0 +1,9 @@
+pub mod ListSteps
+pub mod PartSteps
+pub mod SpanSteps
+pub mod UnitSteps
+pub mod Shapes
+pub mod RangeLemmas
+pub mod ListSaid
+pub mod UnitSaid
+pub mod PlanSaid

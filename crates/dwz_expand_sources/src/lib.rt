@@ -1,0 +1,19 @@
+//! The plan of what is written of a file without its partial units (DWARF 5, 3.2.5): which entries are the sources of each new unit.
+//!
+//! `sources_of` goes over the units of a file that aren't partial, in order. Of each it answers the number and that of its root, and the
+//! ranges of entries that stand below the root in the new file: those of the unit itself that import no partial unit, and behind them what
+//! stands in the roots of the partial units that it imports. Nothing is copied: a range is two numbers. Entries of the common file have the
+//! numbers behind the file's own.
+//!
+//! The entries of the ranges are those of `source_units` of `dwz_def_expand`, in preorder, each with all that is below it.
+//!
+//! Read first: `specs/Sources.antt`, and `specs/Source.antt` of `dwz_def_expand`.
+#![tactic(auto)]
+
+mod building;
+mod plan;
+mod sources;
+mod spans;
+
+pub use plan::sources_of;
+pub use sources::{NewUnit, SourceRange, Sources};

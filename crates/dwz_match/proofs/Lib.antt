@@ -1,0 +1,15 @@
+pub mod KinFacts
+pub mod UnitFacts
+pub mod FixedFacts
+pub mod ClassFacts
+pub mod CommonTops
+pub mod BareTops
+pub mod Muted
+pub mod BareLabels
+pub mod BareFacts
+pub mod RootFacts
+pub mod LookCount
+pub mod FlagFacts
+pub mod SpanFacts
+pub mod RowFacts
+pub mod CommonStarts

@@ -1,0 +1,9 @@
+pub mod Told
+pub mod Files
+pub mod Values
+pub mod Entries
+pub mod Rows
+pub mod Beside
+pub mod Both
+pub mod Graph
+pub mod FilesSaid

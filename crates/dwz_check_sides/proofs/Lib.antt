@@ -1,0 +1,5 @@
+pub mod ListNumbers
+pub mod SpaceTexts
+pub mod NameTexts
+pub mod SpaceSteps
+pub mod UnitNodes

@@ -1,0 +1,4 @@
+pub mod Names
+pub mod Says
+pub mod Units
+pub mod SideLaws

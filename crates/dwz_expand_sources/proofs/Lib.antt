@@ -7,3 +7,4 @@ pub mod RangeLemmas
 pub mod ListSaid
 pub mod UnitSaid
 pub mod PlanSaid
+pub mod NumberSteps

@@ -1,6 +1,6 @@
 -- All units: the plan that is built is that of the document.
-use Rattle.std.proofs.Common.{◌≡◌, ℕ, zero, suc, ◌+◌, ◌<◌, ◌≤◌, Bool, true, false, List, [], ◌∷◌, ◌++◌, length, drop, map, Some, slice_get, refl, sym, ap, subst, ◌∙◌, arith}
-use Rattle.std.specs.Prelude.{if◌then◌else◌, slice_index_or, slice_range, ◌==◌}
+use Rattle.std.proofs.Common.{◌≡◌, ℕ, suc, ◌+◌, ◌<◌, Bool, List, [], ◌∷◌, ◌++◌, length, drop, map, Some, slice_get, refl, sym, ap, subst, ◌∙◌, arith}
+use Rattle.std.specs.Prelude.{if◌then◌else◌, slice_index_or, ◌==◌}
 use Rattle.std.specs.List.{flat_map}
 use Rattle.std.proofs.lemmas.List.{append-nil, append_assoc, length-append, length-map, map-append}
 use Rattle.dwz_def_reading.specs.Documents.{Compile, DwUnit, Kind, OfType, Partial, unit_map}
@@ -12,7 +12,7 @@ use Rattle.dwz_def_reading.proofs.ListFacts.{drop_first, got_below, got_there}
 use Rattle.dwz_def_reading.proofs.MeaningUnits.{units_agree}
 use Rattle.dwz_def_cross.specs.CrossSame.{EachTwo}
 use Rattle.dwz_def_cross.specs.Tops.{WithCommon, units_with_common, unless_partial, whole_units}
-use Rattle.dwz_def_expand.specs.Source.{imported_in, once, source_unit}
+use Rattle.dwz_def_expand.specs.Source.{imported_in, once}
 use Rattle.dwz_graph.specs.Rows.{nodes}
 use Rattle.dwz_graph.proofs.TreeLemmas.{nodes_many as entries_many}
 use Rattle.dwz_graph_resolve.specs.Surroundings.{behind_own}

@@ -1,16 +1,15 @@
 -- Entries of ranges, and listed entries, one behind the other.
-use Rattle.std.proofs.Common.{◌≡◌, ℕ, suc, ◌+◌, ◌-◌, ◌<◌, ◌≤◌, Bool, true, false, List, [], ◌∷◌, ◌++◌, length, take, drop, map, Some, slice_get, refl, sym, ap, ◌∙◌, arith}
+use Rattle.std.proofs.Common.{◌≡◌, ℕ, ◌+◌, ◌-◌, ◌≤◌, Bool, true, false, List, [], ◌∷◌, ◌++◌, length, take, drop, refl, sym, ap, ◌∙◌, arith}
 use Rattle.std.specs.Prelude.{if◌then◌else◌, nat_lt, slice_range}
 use Rattle.std.specs.List.{flat_map}
 use Rattle.std.proofs.lemmas.Bool.{ltb-false, ltb-true}
 use Rattle.std.proofs.lemmas.List.{append-nil, append_assoc, drop-append-le, length-append, length-drop, take-append-le, take_at}
-use Rattle.dwz_def_reading.specs.Documents.{DwUnit, Entries}
+use Rattle.dwz_def_reading.specs.Documents.{Entries}
 use Rattle.dwz_def_reading.specs.Lists.{Each}
 use Rattle.dwz_def_reading.specs.Trees.{End, Entry, size}
 use Rattle.dwz_def_reading.proofs.ListFacts.{range_none}
 use Rattle.dwz_def_expand.specs.Source.{followed_by}
-use Rattle.dwz_check_index.specs.Index.{ListedEntry, listed, listed_units}
-use Rattle.dwz_expand_sources.specs.declared.sources.SourceRange.{SourceRange}
+use Rattle.dwz_check_index.specs.Index.{ListedEntry, listed}
 use Rattle.dwz_expand_sources.specs.Building.{range_if}
 use Rattle.dwz_expand_sources.specs.Sources.{IsRange, in_range}
 

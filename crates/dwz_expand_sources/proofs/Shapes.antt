@@ -1,11 +1,11 @@
 -- Units as they are stored, what they mean, and the same with other places: their plans are the same, since their shapes are.
-use Rattle.std.proofs.Common.{◌≡◌, ℕ, zero, suc, ◌+◌, Bool, true, false, List, [], ◌∷◌, ◌++◌, length, map, refl, sym, ap, ◌∙◌, arith}
+use Rattle.std.proofs.Common.{◌≡◌, ℕ, suc, ◌+◌, Bool, true, false, List, [], ◌∷◌, ◌++◌, length, map, refl, sym, ap, ◌∙◌, arith}
 use Rattle.std.specs.Prelude.{if◌then◌else◌, slice_index_or, ◌==◌}
-use Rattle.dwz_def_reading.specs.Documents.{Compile, DwUnit, Entries, Kind, Node, OfType, Partial, entries_map, kind_map, unit_map}
+use Rattle.dwz_def_reading.specs.Documents.{DwUnit, Entries, Kind, entries_map, unit_map}
 use Rattle.dwz_def_reading.specs.Entries.{RawEntry}
 use Rattle.dwz_def_reading.specs.Meanings.{Around, MeanEntries, MeanUnits, MeaningContext, MeansKind, MeansUnit, scope_of}
 use Rattle.dwz_def_reading.specs.Trees.{End, Entry, Forest, size}
-use Rattle.dwz_def_reading.specs.Units.{CompileUnit, PartialUnit, RawKind, RawUnit, TypeUnit, entries_in, entry_count}
+use Rattle.dwz_def_reading.specs.Units.{CompileUnit, PartialUnit, RawKind, RawUnit, TypeUnit, entries_in}
 use Rattle.dwz_graph.proofs.ListMeans.{means_size}
 use Rattle.dwz_unit.specs.Rows.{kind_number}
 use Rattle.dwz_expand_sources.specs.declared.sources.SourceRange.{SourceRange}

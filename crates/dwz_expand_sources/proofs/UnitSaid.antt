@@ -1,10 +1,10 @@
 -- What stands in the roots of units that are imported, and what stands in a unit after, are the entries of its ranges.
-use Rattle.std.proofs.Common.{◌≡◌, ℕ, zero, suc, ◌+◌, ◌<◌, ◌≤◌, Bool, true, false, List, [], ◌∷◌, ◌++◌, length, drop, map, Option, Some, slice_get, refl, sym, ap, ◌∙◌, arith}
+use Rattle.std.proofs.Common.{◌≡◌, ℕ, zero, suc, ◌+◌, ◌≤◌, List, [], ◌∷◌, ◌++◌, length, drop, map, Option, Some, slice_get, refl, sym, ap, ◌∙◌, arith}
 use Rattle.std.specs.Prelude.{slice_index_or, slice_range}
 use Rattle.std.specs.List.{flat_map}
-use Rattle.std.proofs.lemmas.List.{append_assoc, length-append, length-drop}
+use Rattle.std.proofs.lemmas.List.{length-append, length-drop}
 use Rattle.std.proofs.lemmas.List.Concat.{flat_map-append}
-use Rattle.dwz_def_reading.specs.Documents.{Compile, DwUnit, Entries, Kind, OfType, Partial}
+use Rattle.dwz_def_reading.specs.Documents.{Compile, DwUnit, Kind, OfType, Partial}
 use Rattle.dwz_def_reading.specs.Lists.{Each}
 use Rattle.dwz_def_reading.specs.Trees.{size}
 use Rattle.dwz_def_reading.proofs.ListFacts.{drop_first, range_none}
@@ -13,7 +13,6 @@ use Rattle.dwz_def_expand.specs.Source.{imported_in, inside, once, source_unit, 
 use Rattle.dwz_graph.proofs.TopThere.{left_behind}
 use Rattle.dwz_check_index.specs.Index.{ListedEntry, listed, listed_units}
 use Rattle.dwz_imports.specs.Imports.{AreUnits, same}
-use Rattle.dwz_expand_sources.specs.declared.sources.SourceRange.{SourceRange}
 use Rattle.dwz_expand_sources.specs.declared.spans.UnitSpan.{UnitSpan}
 use Rattle.dwz_expand_sources.specs.Building.{AreImports, Known, kept_ranges, kind_said, part_ranges, range_below, range_if, ranges_in, said_shape, spans_from, unit_span}
 use Rattle.dwz_expand_sources.specs.Sources.{IsRange, all_entries, in_range}

@@ -1,17 +1,16 @@
 -- How the plan is built, unit by unit and list by list. `root` is the number of a root, and `at` that of a list's first entry.
-use Rattle.std.specs.Prelude.{◌≡◌, ℕ, ◌+◌, ◌<◌, ◌≤◌, Bool, true, false, List, [], ◌∷◌, ◌++◌, length, map, nat_lt, if◌then◌else◌, ◌==◌}
+use Rattle.std.specs.Prelude.{◌≡◌, ℕ, ◌+◌, ◌<◌, Bool, true, false, List, [], ◌∷◌, ◌++◌, length, nat_lt, if◌then◌else◌, ◌==◌}
 use Rattle.std.specs.Prelude.{Option, Some, None, slice_get, slice_index_or}
 use Rattle.std.specs.List.{flat_map}
 use Rattle.dwz_def_reading.specs.Documents.{Compile, DwUnit, Kind, Node, OfType, Partial}
 use Rattle.dwz_def_reading.specs.Entries.{RawEntry}
 use Rattle.dwz_def_reading.specs.Lists.{Each}
 use Rattle.dwz_def_reading.specs.Trees.{End, Entry, Forest, size}
-use Rattle.dwz_def_reading.specs.Units.{RawUnit, entries_in}
+use Rattle.dwz_def_reading.specs.Units.{RawUnit}
 use Rattle.dwz_def_cross.specs.Tops.{WithCommon}
 use Rattle.dwz_unit.specs.Rows.{kind_number}
 use Rattle.dwz_imports.specs.Imports.{AreImportLists, importing_flags}
 use Rattle.dwz_expand_sources.specs.declared.building.Known.{Known as KnownOfCode}
-use Rattle.dwz_expand_sources.specs.declared.sources.NewUnit.{NewUnit}
 use Rattle.dwz_expand_sources.specs.declared.sources.SourceRange.{SourceRange}
 use Rattle.dwz_expand_sources.specs.declared.spans.UnitSpan.{UnitSpan}
 use Rattle.dwz_expand_sources.specs.Sources.{Sources}

@@ -7,13 +7,18 @@
 //!
 //! The entries of the ranges are those of `source_units` of `dwz_def_expand`, in preorder, each with all that is below it.
 //!
-//! Read first: `specs/Sources.antt`, and `specs/Source.antt` of `dwz_def_expand`.
+//! `CopyNumbers` has the number that the root of each new unit and the first copy of each range have among all entries of the new file, by
+//! sums.
+//!
+//! Read first: `specs/Sources.antt`, `specs/Numbers.antt`, and `specs/Source.antt` of `dwz_def_expand`.
 #![tactic(auto)]
 
 mod building;
+mod numbers;
 mod plan;
 mod sources;
 mod spans;
 
+pub use numbers::CopyNumbers;
 pub use plan::sources_of;
 pub use sources::{NewUnit, SourceRange, Sources};

@@ -1,6 +1,6 @@
 use Rattle.std.proofs.Common.{ℕ, List, length, map, sym, ap, subst, ◌∙◌}
 use Rattle.std.specs.Option.{option_map}
-use Rattle.dwz_def_reading.specs.Units.{RawUnit, entries_in}
+use Rattle.dwz_def_reading.specs.Units.{entries_in}
 use Rattle.dwz_imports.specs.Said.{raw_beside}
 use Rattle.dwz_unit.specs.Rows.{units_of}
 use Rattle.dwz_expand_sources.specs.declared.spans.UnitSpan.{UnitSpan}

@@ -1,5 +1,5 @@
 -- Where the tops of the partial units of a common file begin, by its index.
-use Rattle.std.proofs.Common.{◌≡◌, ℕ, ◌+◌, List, [], ◌∷◌, length, map, refl, sym, ap, ◌∙◌, arith}
+use Rattle.std.proofs.Common.{◌≡◌, ℕ, ◌+◌, List, [], ◌∷◌, length, map, refl, ap, ◌∙◌, arith}
 use Rattle.dwz_def_reading.specs.Documents.{Doc}
 use Rattle.dwz_def_check.specs.CrossLists.{NumberedUnit, numbered_units}
 use Rattle.dwz_def_taken.specs.Beside.{own_tops, reused_of}

@@ -1,22 +1,19 @@
 -- Flags of what may move of files, and of the common file behind them.
-use Rattle.std.proofs.Common.{◌≡◌, ◌⊎◌, ℕ, ◌+◌, ◌-◌, ◌<◌, ◌≤◌, Bool, true, false, List, ◌++◌, length, get_or, refl, sym, ap, subst, ◌∙◌, ⊎_elim, inl, inr, arith}
+use Rattle.std.proofs.Common.{◌≡◌, ℕ, ◌+◌, ◌-◌, Bool, true, false, ◌++◌, length, get_or, refl, sym, ap, subst, ◌∙◌, inl, inr, arith}
 use Rattle.std.proofs.Math.ListN.{get_or-append}
 use Rattle.std.proofs.Math.Seq.{get_or-append_right}
-use Rattle.std.proofs.lemmas.Bool.{cases_Bool, false≢true}
 use Rattle.std.proofs.lemmas.List.{length-append}
-use Rattle.dwz_def_reading.specs.Documents.{Doc}
-use Rattle.dwz_def_reading.specs.Lists.{In}
 use Rattle.dwz_def_tops.specs.Alike.{Movable}
-use Rattle.dwz_def_tops.specs.Deciding.{AreMovable, is_movable}
-use Rattle.dwz_def_tops.specs.Spots.{Top, tops_of, units_of}
+use Rattle.dwz_def_tops.specs.Deciding.{is_movable}
+use Rattle.dwz_def_tops.specs.Spots.{tops_of, units_of}
 use Rattle.dwz_def_tops.proofs.AlikeBound.{movable_decides}
-use Rattle.dwz_def_taken.specs.Beside.{Reused, look_units, own_tops, reused_of, together}
-use Rattle.dwz_def_taken.specs.Laws.{ArePlacedOver, IsReused}
+use Rattle.dwz_def_taken.specs.Beside.{Reused, look_units, reused_of}
+use Rattle.dwz_def_taken.specs.Laws.{IsReused}
 use Rattle.dwz_def_taken.proofs.LookTops.{look_from, own_number, part_number}
 use Rattle.dwz_def_taken.proofs.MovableAcross.{across_law}
 use Rattle.dwz_def_taken.proofs.NamesOver.{named_over}
 use Rattle.dwz_def_taken.proofs.PlaceLemmas.{whole}
-use Rattle.dwz_match.specs.ClassLaws.{AreCommonFlags, FlagsLaw}
+use Rattle.dwz_match.specs.ClassLaws.{FlagsLaw}
 use Rattle.dwz_match.proofs.LookCount.{look_many}
 
 same_flag : (a b : Bool) → (a ≡ true → b ≡ true) → (b ≡ true → a ≡ true) → a ≡ b

@@ -1,10 +1,9 @@
 -- Looks across files and a common file go over as many tops as these have.
-use Rattle.std.proofs.Common.{◌≡◌, ℕ, zero, suc, ◌+◌, List, [], ◌∷◌, ◌++◌, length, map, Option, Some, None, refl, sym, ap, ◌∙◌, inl, inr, arith}
-use Rattle.dwz_def_reading.specs.Documents.{Compile, Entries, Kind, Node, OfType, Partial}
-use Rattle.dwz_def_reading.specs.Lists.{In}
+use Rattle.std.proofs.Common.{◌≡◌, ℕ, suc, ◌+◌, List, [], ◌∷◌, ◌++◌, length, map, Option, Some, None, refl, ap, ◌∙◌, inl, inr, arith}
+use Rattle.dwz_def_reading.specs.Documents.{Compile, Entries, Kind, OfType, Partial}
 use Rattle.dwz_def_reading.specs.Trees.{End, Entry}
 use Rattle.dwz_def_tops.specs.Spaces.{space_text, tops_under}
-use Rattle.dwz_def_tops.specs.Spots.{EntryName, FileUnit, Top, top_count, tops_of}
+use Rattle.dwz_def_tops.specs.Spots.{EntryName, FileUnit, top_count, tops_of}
 use Rattle.dwz_def_images.proofs.OldFiles.{counted, tops_length}
 use Rattle.dwz_def_taken.specs.Beside.{Reused, all_below, as_one, look_units, muted, then_entries, together}
 use Rattle.dwz_def_taken.proofs.LookTops.{AreWhole}

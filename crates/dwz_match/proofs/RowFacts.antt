@@ -1,5 +1,5 @@
 -- Rows with the tops of units and of partial units, and with classes, show files and a common file.
-use Rattle.std.proofs.Common.{◌≡◌, ◌↔◌, ℕ, ◌+◌, ◌<◌, Bool, true, false, List, length, map, get_or, refl, sym, ap, subst, ◌∙◌, arith}
+use Rattle.std.proofs.Common.{◌≡◌, ◌↔◌, ℕ, Bool, true, false, List, length, map, get_or, sym, ap, subst, ◌∙◌, arith}
 use Rattle.std.proofs.lemmas.List.{length-map}
 use Rattle.dwz_def_reading.specs.Documents.{Doc}
 use Rattle.dwz_def_reading.specs.Lists.{In}
@@ -11,17 +11,15 @@ use Rattle.dwz_def_tops.proofs.AlikeBound.{movable_decides}
 use Rattle.dwz_def_tops.proofs.TopNumbers.{number_below, top_at, top_there, tops_numbers}
 use Rattle.dwz_def_taken.specs.Beside.{CommonAlike, Reused, reused_of, together}
 use Rattle.dwz_def_taken.specs.Laws.{ArePlacedOver, IsReused}
-use Rattle.dwz_def_taken.specs.Takes.{InPart}
 use Rattle.dwz_def_taken.proofs.LookTops.{own_unit}
 use Rattle.dwz_def_taken.proofs.MovableAcross.{across_law}
 use Rattle.dwz_def_taken.proofs.NamesOver.{named_over}
 use Rattle.dwz_def_taken.proofs.PlaceLemmas.{whole}
-use Rattle.dwz_law_taken.specs.Shown.{ShowReused, StandsIn}
+use Rattle.dwz_law_taken.specs.Shown.{ShowReused}
 use Rattle.dwz_takes.specs.declared.rows.Rows.{Rows}
 use Rattle.dwz_takes.specs.Images.{AreApart}
 use Rattle.dwz_takes.specs.Takes.{list_at}
 use Rattle.dwz_match.specs.RowLaws.{HaveTops, MatchLaw, RowsLaw, ShowSpaces}
-use Rattle.dwz_match.specs.Units.{MovesIn}
 use Rattle.dwz_match.proofs.ClassFacts.{class_law}
 use Rattle.dwz_match.proofs.LookCount.{look_many}
 

@@ -1,5 +1,5 @@
 -- The tops of partial units by number: up to where those of the next begin, and as the definitions number them.
-use Rattle.std.proofs.Common.{◌≡◌, ◌⊎◌, ◌↔◌, ℕ, zero, suc, ◌+◌, ◌-◌, ◌<◌, ◌≤◌, All, List, [], ◌∷◌, ◌++◌, length, map, drop, get_or, slice_get, Some, refl, sym, ap, subst, ◌∙◌, inl, inr, ⊎_elim, arith}
+use Rattle.std.proofs.Common.{◌≡◌, ◌↔◌, ℕ, zero, suc, ◌+◌, ◌-◌, ◌<◌, ◌≤◌, All, List, [], ◌∷◌, ◌++◌, length, map, drop, get_or, slice_get, Some, refl, sym, ap, subst, ◌∙◌, inl, inr, ⊎_elim, arith}
 use Rattle.std.specs.List.{range_with_len}
 use Rattle.std.proofs.lemmas.List.{drop_all, length-append, length-map}
 use Rattle.dwz_model.proofs.ListFacts.{drop_here, in_cases, in_left, in_right}
@@ -8,12 +8,12 @@ use Rattle.dwz_def_reading.specs.Documents.{Compile, Doc, DwUnit, Kind, OfType, 
 use Rattle.dwz_def_reading.specs.Lists.{In}
 use Rattle.dwz_def_tops.specs.Seen.{IsPartial}
 use Rattle.dwz_def_tops.specs.Spaces.{tops_under}
-use Rattle.dwz_def_tops.specs.Spots.{EntryName, FileUnit, Top, in_file, named_files, row_below, row_tops, spot_in, spots_from, top_count, tops_from, tops_of, units_of}
+use Rattle.dwz_def_tops.specs.Spots.{EntryName, FileUnit, Top, in_file, row_below, row_tops, top_count, tops_from, tops_of}
 use Rattle.dwz_def_tops.proofs.RowLemmas.{top_of}
 use Rattle.dwz_def_tops.proofs.SpaceLemmas.{under_count}
 use Rattle.dwz_def_tops.proofs.TopNumbers.{below_length, from_numbered, number_below, number_from, top_at}
 use Rattle.dwz_def_tops.proofs.TopOrder.{here_unit, later_unit}
-use Rattle.dwz_def_check.specs.CrossLists.{NumberedUnit, numbered_units}
+use Rattle.dwz_def_check.specs.CrossLists.{numbered_units}
 use Rattle.dwz_def_check.specs.CrossNames.{cross_tops, unit_tops}
 use Rattle.dwz_def_check.specs.CrossNodes.{lone_of}
 use Rattle.dwz_def_check.proofs.TopLists.{tops_count}

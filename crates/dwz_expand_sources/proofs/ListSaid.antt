@@ -4,6 +4,7 @@ use Rattle.std.specs.Prelude.{slice_index_or, slice_range}
 use Rattle.std.specs.List.{flat_map}
 use Rattle.std.proofs.lemmas.List.{append-nil, append_assoc, map-append}
 use Rattle.std.proofs.lemmas.List.Concat.{flat_map-append}
+use Rattle.dwz_model.proofs.Members.{each_append}
 use Rattle.dwz_def_reading.specs.Documents.{DwUnit, Entries, Node}
 use Rattle.dwz_def_reading.specs.Lists.{Each}
 use Rattle.dwz_def_reading.specs.Trees.{End, Entry, size}
@@ -19,7 +20,7 @@ use Rattle.dwz_expand_sources.specs.declared.sources.SourceRange.{SourceRange}
 use Rattle.dwz_expand_sources.specs.Building.{kept_ranges, range_if}
 use Rattle.dwz_expand_sources.specs.Sources.{IsRange, all_entries, in_range}
 use Rattle.dwz_expand_sources.proofs.ListSteps.{kept_end, kept_import, kept_plain}
-use Rattle.dwz_expand_sources.proofs.RangeLemmas.{each_append, in_if, listed_many, range_there, stands}
+use Rattle.dwz_expand_sources.proofs.RangeLemmas.{in_if, listed_many, range_there, stands}
 
 -- ---- the ranges are there
 

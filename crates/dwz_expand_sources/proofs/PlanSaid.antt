@@ -3,6 +3,7 @@ use Rattle.std.proofs.Common.{◌≡◌, ℕ, suc, ◌+◌, ◌<◌, Bool, List,
 use Rattle.std.specs.Prelude.{if◌then◌else◌, slice_index_or, ◌==◌}
 use Rattle.std.specs.List.{flat_map}
 use Rattle.std.proofs.lemmas.List.{append-nil, append_assoc, length-append, length-map, map-append}
+use Rattle.dwz_model.proofs.Members.{each_append}
 use Rattle.dwz_def_reading.specs.Documents.{Compile, DwUnit, Kind, OfType, Partial, unit_map}
 use Rattle.dwz_def_reading.specs.Lists.{Each}
 use Rattle.dwz_def_reading.specs.Meanings.{MeanUnits}
@@ -24,7 +25,7 @@ use Rattle.dwz_expand_sources.specs.declared.sources.SourceRange.{SourceRange}
 use Rattle.dwz_expand_sources.specs.declared.spans.UnitSpan.{UnitSpan}
 use Rattle.dwz_expand_sources.specs.Building.{AreImports, AreImportsOf, Known, kind_said, nothing_yet, ranges_in, said_shape, shape_count, spans_from, stored_shape, with_new, with_unit, with_units}
 use Rattle.dwz_expand_sources.specs.Sources.{AreSources, IsNewUnit, IsRange, Sources, all_entries, in_range, ranges_of}
-use Rattle.dwz_expand_sources.proofs.RangeLemmas.{each_append, range_end, range_kept}
+use Rattle.dwz_expand_sources.proofs.RangeLemmas.{range_end, range_kept}
 use Rattle.dwz_expand_sources.proofs.Shapes.{count_means, means_length, spans_append, spans_map, spans_mean, stored_count, units_mean}
 use Rattle.dwz_expand_sources.proofs.UnitSaid.{behind_unit, unit_ranges_there, unit_said}
 

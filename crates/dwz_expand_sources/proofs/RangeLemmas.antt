@@ -47,10 +47,6 @@ range_end {X} a b =
 
 -- ---- what holds of each
 
-pub each_append : {X : Type 0} (P : X → Type 0) (xs ys : List X) → Each P xs → Each P ys → Each P (xs ++ ys)
-each_append P [] ys a b = b
-each_append P (x ∷ xs) ys a b = (a.0, each_append P xs ys a.1 b)
-
 pub range_there : (count a b : ℕ) → b ≤ count → Each (IsRange count) (range_if a b)
 range_there count a b le = by (nat_lt a b) refl where
   by : (t : Bool) → nat_lt a b ≡ t → Each (IsRange count) (if t then record { first = a; end = b } ∷ [] else [])

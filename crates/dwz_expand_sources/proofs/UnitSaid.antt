@@ -4,6 +4,7 @@ use Rattle.std.specs.Prelude.{slice_index_or, slice_range}
 use Rattle.std.specs.List.{flat_map}
 use Rattle.std.proofs.lemmas.List.{length-append, length-drop}
 use Rattle.std.proofs.lemmas.List.Concat.{flat_map-append}
+use Rattle.dwz_model.proofs.Members.{each_append}
 use Rattle.dwz_def_reading.specs.Documents.{Compile, DwUnit, Kind, OfType, Partial}
 use Rattle.dwz_def_reading.specs.Lists.{Each}
 use Rattle.dwz_def_reading.specs.Trees.{size}
@@ -17,7 +18,7 @@ use Rattle.dwz_expand_sources.specs.declared.spans.UnitSpan.{UnitSpan}
 use Rattle.dwz_expand_sources.specs.Building.{AreImports, Known, kept_ranges, kind_said, part_ranges, range_below, range_if, ranges_in, said_shape, spans_from, unit_span}
 use Rattle.dwz_expand_sources.specs.Sources.{IsRange, all_entries, in_range}
 use Rattle.dwz_expand_sources.proofs.ListSaid.{kept_there, list_said}
-use Rattle.dwz_expand_sources.proofs.RangeLemmas.{each_append, in_if, listed_followed, listed_many, range_there, stands}
+use Rattle.dwz_expand_sources.proofs.RangeLemmas.{in_if, listed_followed, listed_many, range_there, stands}
 
 -- ---- a unit by its number
 

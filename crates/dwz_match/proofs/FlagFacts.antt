@@ -3,6 +3,7 @@ use Rattle.std.proofs.Common.{◌≡◌, ℕ, ◌+◌, ◌-◌, Bool, true, fals
 use Rattle.std.proofs.Math.ListN.{get_or-append}
 use Rattle.std.proofs.Math.Seq.{get_or-append_right}
 use Rattle.std.proofs.lemmas.List.{length-append}
+use Rattle.dwz_def_reading.proofs.CaseFacts.{same_test}
 use Rattle.dwz_def_tops.specs.Alike.{Movable}
 use Rattle.dwz_def_tops.specs.Deciding.{is_movable}
 use Rattle.dwz_def_tops.specs.Spots.{tops_of, units_of}
@@ -15,11 +16,6 @@ use Rattle.dwz_def_taken.proofs.NamesOver.{named_over}
 use Rattle.dwz_def_taken.proofs.PlaceLemmas.{whole}
 use Rattle.dwz_match.specs.ClassLaws.{FlagsLaw}
 use Rattle.dwz_match.proofs.LookCount.{look_many}
-
-same_flag : (a b : Bool) → (a ≡ true → b ≡ true) → (b ≡ true → a ≡ true) → a ≡ b
-same_flag true b f g = sym (f refl)
-same_flag false true f g = g refl
-same_flag false false f g = refl
 
 pub flags_law : FlagsLaw
 flags_law docs common own others placed flags rest =
@@ -38,7 +34,7 @@ flags_law docs common own others placed flags rest =
             let at : get_or (own ++ others) t.number false ≡ is_movable (units_of docs) u =
             get_or-append own others false t.number (omega (arith, low, number, len)) ∙ ap (λ (k : ℕ). get_or own k false) (sym number) ∙ flags.each u a.like.there in
             at
-            ∙ same_flag (is_movable (units_of docs) u) (is_movable (look_units r) t)
+            ∙ same_test (is_movable (units_of docs) u) (is_movable (look_units r) t)
             (λ e. (movable_decides (look_units r) t i).1
             (subst (Movable (look_units r)) number ((across_law docs common placed u a.like.there).1 ((movable_decides (units_of docs) u a.like.there).0 e))))
             (λ e. (movable_decides (units_of docs) u a.like.there).1

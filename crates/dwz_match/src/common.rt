@@ -25,7 +25,7 @@ fn starts_of(alloc: Global, units: &[UnitStart]) -> Result<Vec<u32>, NoMemory>
     Ok(starts)
 }
 
-/// For each partial unit of a common file its tops, in order, by their numbers behind those of the files: where the index of the common
+/// For each partial unit of a common file its tops, by their numbers behind those of the files: where the index of the common
 /// file begins with these.
 pub fn common_tops(alloc: Global, index: &CrossIndex) -> Result<Groups, NoMemory>
     requires units { length index.now.units < 2 ^ 32 }

@@ -47,7 +47,7 @@ fn part_edges(alloc: Global, starts: &[u32], end: u32) -> Result<Vec<Edge>, NoMe
     Ok(edges)
 }
 
-/// For each partial unit of a common file its tops, in order, by their numbers behind those of the files: where `starts` has of each unit
+/// For each partial unit of a common file its tops, by their numbers behind those of the files: where `starts` has of each unit
 /// the number of its first top, or where it would stand, and all tops end before `end`.
 pub fn part_tops(alloc: Global, starts: &[u32], end: u32) -> Result<Groups, NoMemory>
     requires { length starts.now < 2 ^ 32 }

@@ -26,7 +26,7 @@ fn unit_edges(alloc: Global, units: &[u32], movable: &[bool]) -> Result<Vec<Edge
     Ok(edges)
 }
 
-/// For each of so many units its tops that may move, in order: where `units` has the unit of each top.
+/// For each of so many units its tops that may move, where `units` has the unit of each top.
 pub fn unit_tops(
     alloc: Global,
     units: &[u32],

@@ -6,3 +6,4 @@ pub mod PlaceLemmas
 pub mod ReadLemmas
 pub mod StartLemmas
 pub mod WriteLemmas
+pub mod ShapeLemmas

@@ -6,3 +6,4 @@ pub mod Ranges
 pub mod Starts
 pub mod Written
 pub mod ReadParts
+pub mod Shapes

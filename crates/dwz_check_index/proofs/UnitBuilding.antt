@@ -6,8 +6,8 @@ use Rattle.dwz_def_reading.specs.Units.{CompileUnit, PartialUnit, RawKind, RawUn
 use Rattle.dwz_def_reading.proofs.ListFacts.{drop_here}
 use Rattle.dwz_unit.specs.declared.rows.RawUnit.{RawUnit as UnitOfCode}
 use Rattle.dwz_unit.specs.Rows.{shown_from, shown_units, unit_shown}
-use Rattle.dwz_graph_resolve.proofs.UnitThere.{unit_there}
-use Rattle.dwz_graph.proofs.UnitBuilding.{kind_in, kind_is}
+use Rattle.dwz_graph.proofs.UnitThere.{unit_there}
+use Rattle.dwz_graph.proofs.UnitBuilding.{NextUnit, kind_in, kind_is, next_unit}
 use Rattle.dwz_graph.specs.Spaces.{stored_space}
 use Rattle.dwz_check_index.specs.declared.index.Stands.{Stands}
 use Rattle.dwz_check_index.specs.declared.index.Stands.TheVariants.{InTop, PartialRoot, PartialSpace, UnitRoot, UnitSpace}
@@ -95,24 +95,6 @@ pub record UnitsGo (raw : List RawUnit) (old : CrossIndex) (n whole : ℕ) (x : 
 
 pub units_begin : (raw : List RawUnit) (old : CrossIndex) → IsFew old 0 → UnitsGo raw old 0 0 old
 units_begin raw old few = record { first = 0; shown = refl; few = few; starts = refl; wholes = omega arith; built = refl }
-
--- the next unit
-record NextUnit (raw : List RawUnit) (n first : ℕ) (x : UnitOfCode) : Type 0 where
-  u : RawUnit
-  found : slice_get raw n ≡ Some u
-  at : x.first ≡ first
-  shown : drop (n + 1) (shown_units raw) ≡ shown_from (drop (n + 1) raw) (first + entry_count u)
-
-next_unit : (raw : List RawUnit) (n first : ℕ) (x : UnitOfCode) → drop n (shown_units raw) ≡ shown_from (drop n raw) first → slice_get (shown_units raw) n ≡ Some x → NextUnit raw n first x
-unfolding shown_from
-next_unit raw n first x e shown =
-    let t = unit_there raw n x shown in
-    let here = drop_here raw n t.u t.is_unit in
-    let there = drop_here (shown_units raw) n x shown in
-    let both : x ∷ drop (n + 1) (shown_units raw) ≡ unit_shown first t.u ∷ shown_from (drop (n + 1) raw) (first + entry_count t.u) = sym there ∙ e
-    ∙ ap (λ (w : List RawUnit). shown_from w first) here in
-    let one : x ≡ unit_shown first t.u = cc in
-    record { u = t.u; found = t.is_unit; at = ap (λ (w : UnitOfCode). w.first) one; shown = cc }
 
 pub first_is : (raw : List RawUnit) (old : CrossIndex) (n whole : ℕ) (x : CrossIndex) (v : UnitOfCode) → UnitsGo raw old n whole x → slice_get (shown_units raw) n ≡ Some v → IsFew x v.first
 first_is raw old n whole x v g shown = let u = next_unit raw n g.first v g.shown shown in subst (IsFew x) (sym u.at) g.few

@@ -26,10 +26,10 @@ use Rattle.dwz_def_reading.specs.Shared.{operands_of}
 use Rattle.dwz_def_reading.specs.Meanings.{any_with_address, block_begins, bytes_of, constant_value, entries_for, expr_context, leads_to}
 use Rattle.dwz_def_reading.specs.Meanings.{loclists_base, stmt_list, str_offsets_base, target_of, targets}
 use Rattle.dwz_def_reading.specs.Meant.{expr_meaning, file_by, list_by, list_from, list_meaning, list_read, loc_said, text_by, text_from}
-use Rattle.dwz_graph_resolve.specs.Named.{value_refs}
+use Rattle.dwz_graph.specs.Named.{value_refs}
 use Rattle.dwz_def_reading.specs.Exprs.{first_unnamed}
 use Rattle.dwz_def_reading.specs.LineTables.{FileTable}
-use Rattle.dwz_graph_resolve.specs.Operands.{is_named}
+use Rattle.dwz_graph.specs.Operands.{is_named}
 use Rattle.dwz_label_entries.specs.declared.named.Named.{Named}
 use Rattle.dwz_label_entries.specs.declared.named.Named.TheVariants.{Kept, Next}
 use Rattle.dwz_label_entries.specs.Plain.{KnowsLine, NamesSo, TellsPlain}

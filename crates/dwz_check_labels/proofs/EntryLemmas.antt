@@ -12,7 +12,7 @@ use Rattle.dwz_def_reading.specs.Units.{RawUnit, entries_in, entry_count}
 use Rattle.dwz_def_reading.proofs.ListFacts.{drop_first, got_below}
 use Rattle.dwz_graph.proofs.RowUnits.{unit_within}
 use Rattle.dwz_graph.proofs.TopLemmas.{get_cases}
-use Rattle.dwz_graph_resolve.proofs.RowLemmas.{entry_row, row_is}
+use Rattle.dwz_graph.proofs.RowLemmas.{entry_row, row_is}
 use Rattle.dwz_unit.specs.declared.rows.RawEntry.{RawEntry as EntryOfCode}
 use Rattle.dwz_graph.proofs.TreeLemmas.{parts, same_size}
 use Rattle.dwz_unit.specs.Rows.{EntryRow, rows_below, rows_from, rows_in, rows_of, shown_entries}
@@ -24,8 +24,8 @@ use Rattle.dwz_def_check.specs.CrossNames.{CrossName}
 use Rattle.dwz_check_labels.specs.declared.named_file.NamedFile.{NamedFile}
 use Rattle.dwz_check_labels.specs.Entries.{entry_into, entry_label}
 use Rattle.dwz_check_labels.specs.Files.{IsHereOf, KnowsTexts, Says, raw_in}
-use Rattle.dwz_graph_resolve.specs.declared.here.Here.{Here}
-use Rattle.dwz_graph_resolve.specs.Resolved.{IsHere}
+use Rattle.dwz_graph.specs.Here.{Here}
+use Rattle.dwz_graph.specs.Resolved.{IsHere}
 
 -- ---- the row of an entry
 

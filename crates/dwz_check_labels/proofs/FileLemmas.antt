@@ -3,9 +3,9 @@ use Rattle.std.proofs.Common.{◌≡◌, ℕ, suc, ◌+◌, ◌<◌, ◌≤◌, 
 use Rattle.std.proofs.lemmas.List.{append-nil, append_assoc, length-append, length-map, map-append, take_all}
 use Rattle.std.specs.Prelude.{All}
 use Rattle.dwz_model.proofs.ListFacts.{all_more, got_in}
-use Rattle.dwz_model.proofs.Members.{each_in}
+use Rattle.dwz_model.proofs.Members.{each_append, each_in}
 use Rattle.dwz_def_reading.specs.Lists.{Each}
-use Rattle.dwz_graph_resolve.proofs.RowLemmas.{take_here}
+use Rattle.dwz_graph.proofs.RowLemmas.{take_here}
 use Rattle.dwz_groups.specs.declared.groups.Edge.{Edge}
 use Rattle.dwz_check_labels.specs.Rows.{Adds, AreKeysBelow, edge, edges_from}
 
@@ -57,10 +57,6 @@ from_empty none out shown label empty is e = is ∙ e ∙ ap (λ (w : List ℕ).
 
 -- ---- pairs
 
-each_both : {X : Type 0} (P : X → Type 0) (xs ys : List X) → Each P xs → Each P ys → Each P (xs ++ ys)
-each_both P [] ys h k = k
-each_both P (x ∷ xs) ys h k = (h.0, each_both P xs ys h.1 k)
-
 keys_higher : (m n : ℕ) (edges : List Edge) → m ≤ n → AreKeysBelow m edges → AreKeysBelow n edges
 keys_higher m n [] le h = tt
 keys_higher m n (e ∷ edges) le h = ((let lt = h.0 in omega arith), keys_higher m n edges le h.1)
@@ -71,7 +67,7 @@ own_keys key n (t ∷ into) lt = (lt, own_keys key n into lt)
 
 pub keys_more : (m n : ℕ) (edges new : List Edge) (into : List ℕ) → n ≡ m + 1 → new ≡ edges ++ map (edge m) into → AreKeysBelow m edges → AreKeysBelow n new
 keys_more m n edges new into e is h =
-    subst (λ (w : List Edge). AreKeysBelow n w) (sym is) (each_both (λ e. e.key < n) edges (map (edge m) into) (keys_higher m n edges (omega arith) h) (own_keys m n into (omega arith)))
+    subst (λ (w : List Edge). AreKeysBelow n w) (sym is) (each_append (λ e. e.key < n) edges (map (edge m) into) (keys_higher m n edges (omega arith) h) (own_keys m n into (omega arith)))
 
 pub keys_all : (n : ℕ) (edges : List Edge) → AreKeysBelow n edges → All (λ e. e.key < n) edges
 keys_all n [] h = λ k d lt. absurd (omega arith)

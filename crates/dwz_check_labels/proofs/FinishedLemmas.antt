@@ -23,8 +23,8 @@ use Rattle.dwz_graph.specs.declared.file.File.{File}
 use Rattle.dwz_graph.specs.ByRule.{AreReadAs, IsReadBy, doc_placed, numbered_rule}
 use Rattle.dwz_graph.specs.Files.{AreBack, AreReadFromBy, FilesRead, HasCommon, finished_or_none, said_finished}
 use Rattle.dwz_graph.proofs.IndexRoom.{entries_within}
-use Rattle.dwz_graph_resolve.specs.Parts.{AreParted, HaveLines}
-use Rattle.dwz_graph_resolve.specs.Surroundings.{AreAmong, behind_own}
+use Rattle.dwz_graph.specs.Parts.{AreParted, HaveLines}
+use Rattle.dwz_graph.specs.Surroundings.{AreAmong, behind_own}
 use Rattle.dwz_unit.specs.declared.mode.FileKind.{FileKind}
 use Rattle.dwz_unit.specs.declared.mode.FileKind.TheVariants.{Common as OfCommon, Back as OfBack}
 use Rattle.dwz_unit.specs.Rows.{units_of}

@@ -5,7 +5,7 @@ use Rattle.dwz_def_reading.specs.Meanings.{Common, scope_of}
 use Rattle.dwz_def_reading.proofs.ListFacts.{got_in, got_index_or, got_map, got_there}
 use Rattle.dwz_def_reading.proofs.MeaningUnits.{node_agrees}
 use Rattle.dwz_def_check.specs.CrossNames.{AtPath, CrossName, PartRoot, PartSpace, WholeRoot, WholeSpace, cross_names_from}
-use Rattle.dwz_graph_resolve.specs.Places.{place_at, places}
+use Rattle.dwz_graph.specs.Places.{place_at, places}
 use Rattle.dwz_unit.specs.Rows.{EntryRow, rows_of}
 use Rattle.std.specs.List.{flat_map}
 use Rattle.std.proofs.lemmas.List.{append_assoc}

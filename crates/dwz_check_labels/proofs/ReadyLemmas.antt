@@ -5,7 +5,7 @@ use Rattle.dwz_def_reading.specs.Documents.{DwUnit}
 use Rattle.dwz_def_reading.specs.Meanings.{Common}
 use Rattle.dwz_def_check.specs.CrossNames.{CrossName}
 use Rattle.dwz_graph.specs.declared.file.File.{File}
-use Rattle.dwz_graph_resolve.specs.declared.here.Here.{Here}
+use Rattle.dwz_graph.specs.Here.{Here}
 use Rattle.dwz_unit.specs.Rows.{units_of}
 use Rattle.dwz_check_index.specs.Both.{from_top}
 use Rattle.dwz_check_index.specs.declared.both.CrossIndexes.{CrossIndexes}

@@ -9,9 +9,9 @@ use Rattle.dwz_def_reading.specs.Meanings.{Common, MeaningContext, all_places, t
 use Rattle.dwz_def_reading.specs.declared.exprs.Operand.{Operand}
 use Rattle.dwz_def_check.specs.CrossLabels.{name_label, names_into}
 use Rattle.dwz_def_check.specs.CrossNames.{AtPath, CrossName, PartRoot, PartSpace, WholeRoot, WholeSpace}
-use Rattle.dwz_graph_resolve.specs.Places.{place_at}
-use Rattle.dwz_graph_resolve.specs.Surroundings.{place_among}
-use Rattle.dwz_graph_resolve.proofs.PlaceLemmas.{places_are}
+use Rattle.dwz_graph.specs.Places.{place_at}
+use Rattle.dwz_graph.specs.Surroundings.{place_among}
+use Rattle.dwz_graph.proofs.PlaceLemmas.{places_are}
 use Rattle.dwz_label.specs.Labels.{each_counted, number}
 use Rattle.dwz_check_labels.specs.Told.{Tells}
 use Rattle.dwz_check_labels.proofs.ToldLemmas.{tells_behind}

@@ -11,8 +11,8 @@ use Rattle.dwz_def_reading.proofs.MeaningUnits.{units_agree}
 use Rattle.dwz_def_check.specs.CrossNames.{CrossName, cross_names_from, cross_tops}
 use Rattle.dwz_def_check.specs.CrossNodes.{lone_entries}
 use Rattle.dwz_graph.specs.declared.file.File.{File}
-use Rattle.dwz_graph_resolve.specs.Parts.{AreParted, HaveLines}
-use Rattle.dwz_graph_resolve.specs.Surroundings.{AreAmong, behind_own, sources_view}
+use Rattle.dwz_graph.specs.Parts.{AreParted, HaveLines}
+use Rattle.dwz_graph.specs.Surroundings.{AreAmong, behind_own, sources_view}
 use Rattle.dwz_unit.specs.Rows.{units_of}
 use Rattle.dwz_check_index.specs.Both.{from_top}
 use Rattle.dwz_check_index.specs.Building.{IsFew, nothing_yet, with_units}

@@ -5,10 +5,10 @@ use Rattle.dwz_def_reading.specs.Meanings.{Around, all_places}
 use Rattle.dwz_def_reading.specs.Units.{entries_in}
 use Rattle.dwz_def_check.specs.CrossLabels.{name_label, names_into}
 use Rattle.dwz_def_check.specs.CrossNames.{CrossName}
-use Rattle.dwz_graph_resolve.specs.Places.{place_at}
-use Rattle.dwz_graph_resolve.specs.Surroundings.{behind_own, entries_among}
-use Rattle.dwz_graph_resolve.proofs.PlaceLemmas.{places_are, places_many}
-use Rattle.dwz_graph_resolve.proofs.SurroundingLemmas.{own_place}
+use Rattle.dwz_graph.specs.Places.{place_at}
+use Rattle.dwz_graph.specs.Surroundings.{behind_own, entries_among}
+use Rattle.dwz_graph.proofs.PlaceLemmas.{places_are, places_many}
+use Rattle.dwz_graph.proofs.SurroundingLemmas.{own_place}
 use Rattle.dwz_check_index.specs.Index.{Called, ShowNames, listed_units}
 use Rattle.dwz_check_labels.specs.declared.named_file.NamedFile.{NamedFile}
 use Rattle.dwz_check_labels.specs.declared.source.Source.{Source}

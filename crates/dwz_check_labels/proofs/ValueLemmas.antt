@@ -9,7 +9,7 @@ use Rattle.dwz_def_reading.specs.Reading.{◌>>=◌}
 use Rattle.dwz_def_reading.proofs.ListFacts.{drop_here}
 use Rattle.dwz_def_reading.proofs.PartLemmas.{bind_ok}
 use Rattle.dwz_graph.proofs.StepLemmas as Steps
-use Rattle.dwz_graph_resolve.specs.Named.{attrs_refs, value_refs}
+use Rattle.dwz_graph.specs.Named.{attrs_refs, value_refs}
 use Rattle.dwz_label.specs.Labels.{each_counted, number}
 use Rattle.dwz_def_check.specs.CrossLabels.{cross_attr_label, cross_value_label, names_into}
 use Rattle.dwz_def_check.specs.CrossNames.{CrossName}

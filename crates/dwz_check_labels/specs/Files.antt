@@ -10,10 +10,10 @@ use Rattle.dwz_check_index.specs.Both.{from_top}
 use Rattle.dwz_check_index.specs.Index.{IsCrossIndex}
 use Rattle.dwz_check_labels.specs.declared.named_file.NamedFile.{NamedFile}
 use Rattle.dwz_check_labels.specs.declared.source.Source.{Source}
-use Rattle.dwz_graph_resolve.specs.declared.here.Here.{Here}
-use Rattle.dwz_graph_resolve.specs.Parts.{AreParted, HaveLines}
-use Rattle.dwz_graph_resolve.specs.Resolved.{IsHere, sources_view}
-use Rattle.dwz_graph_resolve.specs.Surroundings.{AreAmong, behind_own, place_among}
+use Rattle.dwz_graph.specs.Here.{Here}
+use Rattle.dwz_graph.specs.Parts.{AreParted, HaveLines}
+use Rattle.dwz_graph.specs.Resolved.{IsHere, sources_view}
+use Rattle.dwz_graph.specs.Surroundings.{AreAmong, behind_own, place_among}
 use Rattle.dwz_unit.specs.Rows.{units_of}
 
 -- ---- one file

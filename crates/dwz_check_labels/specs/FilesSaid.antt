@@ -10,9 +10,9 @@ use Rattle.dwz_check_index.specs.Both.{IsBeside, from_top}
 use Rattle.dwz_check_index.specs.Index.{CrossIndex, IsCrossIndex}
 use Rattle.dwz_check_index.specs.declared.both.CrossIndexes.{CrossIndexes}
 use Rattle.dwz_graph.specs.declared.file.File.{File}
-use Rattle.dwz_graph_resolve.specs.Parts.{AreParted, HaveLines}
-use Rattle.dwz_graph_resolve.specs.Resolved.{sources_view}
-use Rattle.dwz_graph_resolve.specs.Surroundings.{AreAmong, behind_own}
+use Rattle.dwz_graph.specs.Parts.{AreParted, HaveLines}
+use Rattle.dwz_graph.specs.Resolved.{sources_view}
+use Rattle.dwz_graph.specs.Surroundings.{AreAmong, behind_own}
 use Rattle.dwz_unit.specs.Rows.{units_of}
 use Rattle.dwz_check_labels.specs.Both.{Named, all_labels, all_targets}
 

@@ -7,7 +7,7 @@ use Rattle.dwz_def_reading.specs.Meanings.{MeaningContext, without_siblings}
 use Rattle.dwz_def_reading.specs.Meant.{attrs_meaning}
 use Rattle.dwz_def_check.specs.CrossLabels.{cross_attr_label, cross_value_label, names_into}
 use Rattle.dwz_def_check.specs.CrossNames.{CrossName}
-use Rattle.dwz_graph_resolve.specs.Named.{attrs_refs, value_refs}
+use Rattle.dwz_graph.specs.Named.{attrs_refs, value_refs}
 use Rattle.dwz_check_labels.specs.Told.{Tells}
 
 -- a value was written, and behind what it names the references go on

@@ -12,13 +12,13 @@ ghost use Rattle.dwz_check_labels.specs.Entries.{IsEntryOf, entry_into, entry_la
 ghost use Rattle.dwz_check_labels.specs.Files.{IsHereOf, IsReady, KnowsSource, common_of, raw_of};
 ghost use Rattle.dwz_check_labels.specs.Told.{Tells};
 ghost use Rattle.dwz_check_labels.specs.Values.{attrs_into};
-ghost use Rattle.dwz_graph_resolve.specs.Surroundings.{AreAmong};
+ghost use Rattle.dwz_graph.specs.Surroundings.{AreAmong};
 ghost use Rattle.dwz_unit.specs.Rows.{EntryRow, rows_of};
 
 use crate::named_file::here_at;
 use crate::source::{Source, line_at};
 use crate::values::put_attr;
-use dwz_graph_resolve::Here;
+use dwz_graph::Here;
 use dwz_label::put_number;
 use dwz_label_entries::{Scratch, count_of, part};
 use dwz_model::NoMemory;

@@ -12,8 +12,7 @@ use crate::heres::{Heres, heres_alone, heres_beside};
 use crate::named_file::NamedFile;
 use crate::source::Source;
 use dwz_check_index::{CrossIndex, CrossIndexes, CrossStarts};
-use dwz_graph::{File, Graph, placed_laws};
-use dwz_graph_resolve::Here;
+use dwz_graph::{File, Graph, Here, placed_laws};
 use dwz_model::NoMemory;
 use std::alloc::Global;
 

@@ -4,7 +4,7 @@ ghost use Rattle.std.specs.Prelude.{◌<◌, IfOk, length};
 ghost use Rattle.dwz_check_labels.specs.Files.{AreHeres, IsHereOf};
 ghost use Rattle.dwz_unit.specs.Rows.{units_of};
 
-use dwz_graph_resolve::{Here, here_of};
+use dwz_graph::{Here, here_of};
 use dwz_model::NoMemory;
 use dwz_unit::Units;
 use std::alloc::Global;

@@ -3,7 +3,7 @@
 ghost use Rattle.std.specs.Prelude.{◌≡◌, ◌<◌, Some, length, slice_get};
 
 use dwz_check_index::CrossIndex;
-use dwz_graph_resolve::{Here, InputSections};
+use dwz_graph::{Here, InputSections};
 use dwz_unit::Units;
 
 /// A file that was read, with what its entries are called.

@@ -11,13 +11,13 @@ ghost use Rattle.dwz_def_reading.specs.Units.{RawUnit};
 ghost use Rattle.dwz_label_entries.specs.Plain.{KnowsLine, TellsPlain};
 ghost use Rattle.dwz_check_labels.specs.Files.{KnowsSource, raw_of, scope_at, texts_in};
 ghost use Rattle.dwz_def_check.specs.CrossNames.{CrossName};
-ghost use Rattle.dwz_graph_resolve.specs.Resolved.{IsHere, stored};
+ghost use Rattle.dwz_graph.specs.Resolved.{IsHere, stored};
 
 use crate::source::Source;
 use dwz_codes::{Class, class_of};
 use dwz_expr::Operand;
 use dwz_forms::Raw;
-use dwz_graph_resolve::{Here, offset_of};
+use dwz_graph::{Here, offset_of};
 use dwz_label::put_ref;
 use dwz_label_entries::{Named, put_plain, put_text_at};
 use dwz_model::{NoMemory, Pair};

@@ -16,7 +16,7 @@ ghost use Rattle.dwz_unit.specs.Rows.{EntryRow, attr_view, rows_of};
 use crate::named_file::{NamedFile, here_at};
 use dwz_check_index::CrossIndex;
 use dwz_codes::{Class, DW_AT_NAME, class_of};
-use dwz_graph_resolve::{InputSections, first_attr, offset_of, slot, text_in};
+use dwz_graph::{InputSections, first_attr, offset_of, slot, text_in};
 use dwz_label::{put_counted, put_number};
 use dwz_label_entries::bytes_of;
 use dwz_model::NoMemory;

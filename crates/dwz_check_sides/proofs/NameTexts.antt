@@ -11,9 +11,9 @@ use Rattle.dwz_def_tops.specs.Spaces.{space_text, tops_under}
 use Rattle.dwz_def_check.specs.CrossNames.{AtPath, CrossName, PartSpace, WholeSpace, cross_names_below, cross_names_from, cross_names_under, cross_unit_names, next_whole, unit_tops}
 use Rattle.dwz_graph.proofs.ListMeans.{means_size}
 use Rattle.dwz_graph.proofs.SpaceMeans.{HasName, has_name}
-use Rattle.dwz_graph_resolve.specs.declared.here.Here.{Here}
-use Rattle.dwz_graph_resolve.specs.Resolved.{IsHere, IsUnitHere}
-use Rattle.dwz_graph_resolve.proofs.RowLemmas.{row_is}
+use Rattle.dwz_graph.specs.Here.{Here}
+use Rattle.dwz_graph.specs.Resolved.{IsHere, IsUnitHere}
+use Rattle.dwz_graph.proofs.RowLemmas.{row_is}
 use Rattle.dwz_unit.specs.declared.rows.RawEntry.{RawEntry as EntryOfCode}
 use Rattle.dwz_unit.specs.declared.rows.RawUnit.{RawUnit as UnitOfCode}
 use Rattle.dwz_unit.specs.Rows.{EntryRow, rows_below, rows_of, shown_entries, units_of}

@@ -11,7 +11,7 @@ use Rattle.dwz_def_reading.proofs.MeaningUnits.{units_agree}
 use Rattle.dwz_def_check.specs.CrossLists.{NumberedUnit, numbered_units}
 use Rattle.dwz_def_check.specs.CrossNames.{cross_tops, unit_tops}
 use Rattle.dwz_def_check.specs.CrossNodes.{lone_entries, lone_of}
-use Rattle.dwz_graph_resolve.proofs.RowLemmas.{found_in_map, take_here, unit_there}
+use Rattle.dwz_graph.proofs.RowLemmas.{found_in_map, take_here, unit_there}
 use Rattle.dwz_check_index.specs.Index.{start_of}
 use Rattle.dwz_check_index.specs.declared.index.CrossStarts.{CrossStarts}
 use Rattle.dwz_check_index.specs.declared.index.UnitStart.{UnitStart}
@@ -23,6 +23,7 @@ use Rattle.dwz_unit.specs.Rows.{kind_number, shown_units, signature_of, unit_sho
 use Rattle.dwz_check_sides.specs.declared.side.Side.{Side}
 use Rattle.dwz_check_sides.specs.Says.{IsSide}
 use Rattle.dwz_check_sides.specs.Units.{lone_end, meant_kind, nodes_of, raw_kind, tops_end}
+use Rattle.dwz_graph.proofs.IndexRoom.{units_same}
 
 -- ---- what a unit is
 
@@ -108,12 +109,6 @@ none_past (x ∷ xs) (suc k) e = let m = none_past xs k e in omega (arith, m)
 
 -- ---- units as they are stored
 
-meant_long : (around : Around ℕ) (us : List RawUnit) (vs : List (DwUnit ℕ)) → MeanUnits around us vs → length us ≡ length vs
-meant_long around [] [] h = refl
-meant_long around [] (v ∷ vs) h = absurd h
-meant_long around (u ∷ us) [] h = absurd h
-meant_long around (u ∷ us) (v ∷ vs) h = ap (λ (n : ℕ). suc n) (meant_long around us vs h.1)
-
 meant_at : (around : Around ℕ) (us : List RawUnit) (vs : List (DwUnit ℕ)) → MeanUnits around us vs → (k : ℕ) (u : RawUnit) (v : DwUnit ℕ) → slice_get us k ≡ Some u → slice_get vs k ≡ Some v
     → MeansUnit around u v
 meant_at around [] [] h k u v e f = absurd cc
@@ -137,7 +132,7 @@ module _ (s : Side) (said : List (DwUnit ℕ)) (starts : CrossStarts) (side : Is
       let a = ap (λ (w : List UnitStart). length w) side.index_is.units in
       let b = length-map numbered start_of in
       let c = numbered_long starts.top starts.lone said in
-      let d = meant_long side.says.around raw said mean in
+      let d = units_same side.says.around raw said mean in
       (omega (arith, a, b, c, d), omega (arith, c, d))
 
   -- where the units behind begin
@@ -175,7 +170,7 @@ module _ (s : Side) (said : List (DwUnit ℕ)) (starts : CrossStarts) (side : Is
       (omega (arith, t, tops, top_is), omega (arith, l, lone, lone_is))
     where
       few_units : length said ≤ suc n
-      few_units = (let long = units_long.0 in let all = meant_long side.says.around raw said mean in let m = none_past s.index.now.units (n + 1) none in omega (arith, long, all, m))
+      few_units = (let long = units_long.0 in let all = units_same side.says.around raw said mean in let m = none_past s.index.now.units (n + 1) none in omega (arith, long, all, m))
 
   pub nodes_are : (n : ℕ) (x : NumberedUnit ℕ) (w : UnitStart) (u : UnitOfCode) (before spaces_end end : ℕ) (kind : RowKind) → slice_get numbered n ≡ Some x → slice_get s.index.now.units n ≡ Some w
       → slice_get (shown_units raw) n ≡ Some u

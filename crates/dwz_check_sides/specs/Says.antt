@@ -9,8 +9,8 @@ use Rattle.dwz_check_index.specs.Index.{IsCrossIndex}
 use Rattle.dwz_check_index.specs.declared.index.CrossStarts.{CrossStarts}
 use Rattle.dwz_check_sides.specs.declared.side.Side.{Side}
 use Rattle.dwz_graph.specs.declared.file.File.{File}
-use Rattle.dwz_graph_resolve.specs.Resolved.{sources_view}
-use Rattle.dwz_graph_resolve.specs.Surroundings.{behind_own}
+use Rattle.dwz_graph.specs.Resolved.{sources_view}
+use Rattle.dwz_graph.specs.Surroundings.{behind_own}
 use Rattle.dwz_unit.specs.Rows.{units_of}
 
 -- the sections of the common file stand for its texts, and its entries for numbers from 2^32 on

@@ -17,7 +17,7 @@ ghost use Rattle.dwz_unit.specs.Rows.{attr_view, units_of};
 use crate::side::Side;
 use dwz_codes::{Class, DW_AT_NAME, class_of};
 use dwz_forms::Raw;
-use dwz_graph_resolve::{InputSections, first_attr, here_of, offset_of, slot, text_in};
+use dwz_graph::{InputSections, first_attr, here_of, offset_of, slot, text_in};
 use dwz_unit::RawAttr;
 
 // The bytes that a value stores; none where it stores a number.

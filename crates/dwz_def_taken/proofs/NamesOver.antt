@@ -13,7 +13,7 @@ use Rattle.dwz_def_taken.specs.Laws.{NamedOverLaw}
 
 -- ---- files behind others
 
-counted_append : (xs ys : List (FileUnit EntryName)) → counted (xs ++ ys) ≡ counted xs + counted ys
+pub counted_append : (xs ys : List (FileUnit EntryName)) → counted (xs ++ ys) ≡ counted xs + counted ys
 unfolding counted
 counted_append [] ys = let p : counted ys ≡ 0 + counted ys = omega arith in p
 counted_append (f ∷ xs) ys = let more = counted_append xs ys in let p : top_count f.unit.kind f.unit.below + counted (xs ++ ys) ≡ top_count f.unit.kind f.unit.below + counted xs + counted ys = omega (arith, more) in p

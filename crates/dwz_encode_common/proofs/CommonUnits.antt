@@ -17,10 +17,10 @@ use Rattle.dwz_def_tops.specs.Spots.{EntryName}
 use Rattle.dwz_def_images.specs.Units.{common_units}
 use Rattle.dwz_graph.proofs.TreeLemmas.{node_attrs}
 use Rattle.dwz_unit.specs.Rows.{EntryRow, rows_of, units_of as raw_units}
-use Rattle.dwz_graph_resolve.specs.Parts.{HasLine}
+use Rattle.dwz_graph.specs.Parts.{HasLine}
 use Rattle.dwz_graph.specs.declared.file.File.{File}
 use Rattle.dwz_graph.specs.Index.{Index}
-use Rattle.dwz_law_files.proofs.FileCounts.{are_many}
+use Rattle.dwz_layout_order.proofs.FileCounts.{are_many}
 use Rattle.dwz_label_entries.proofs.AttrsLemmas.{entry_in}
 use Rattle.dwz_layout_numbers.specs.Images.{starts_from}
 use Rattle.dwz_def_encoding.specs.Placing.{file_number, has_text}

@@ -27,10 +27,10 @@ use Rattle.dwz_def_images.specs.Units.{changes, common_units, partial_unit, tree
 use Rattle.dwz_def_images.proofs.HeldLemmas.{row_found}
 use Rattle.dwz_def_images.proofs.OldFiles.{files_old}
 use Rattle.dwz_unit.specs.Rows.{EntryRow, rows_below, rows_of, units_of as raw_units}
-use Rattle.dwz_graph_resolve.proofs.RowLemmas.{rows-length}
+use Rattle.dwz_graph.proofs.RowLemmas.{rows-length}
 use Rattle.dwz_graph.specs.declared.file.File.{File}
 use Rattle.dwz_graph.specs.Index.{Index}
-use Rattle.dwz_law_files.proofs.FileEntries.{all_entries}
+use Rattle.dwz_layout_order.proofs.FileEntries.{all_entries}
 use Rattle.dwz_layout_numbers.specs.Images.{starts_from}
 use Rattle.dwz_layout_numbers.specs.Names.{all_names}
 use Rattle.dwz_layout_numbers.specs.Owners.{StandsIn, files_written}

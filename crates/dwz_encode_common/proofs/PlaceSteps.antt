@@ -5,7 +5,7 @@ use Rattle.std.specs.Option.{option_map, option_map_or}
 use Rattle.std.proofs.lemmas.Option.{slice_get-map}
 use Rattle.dwz_def_reading.proofs.ListFacts.{same_got}
 use Rattle.dwz_def_reading.specs.Files.{Limits, limits_after, no_files_before, sources_of}
-use Rattle.dwz_graph_resolve.specs.Resolved.{sources_view}
+use Rattle.dwz_graph.specs.Resolved.{sources_view}
 use Rattle.dwz_unit.specs.Rows.{EntryRow, rows_of, units_of}
 use Rattle.dwz_graph.specs.declared.file.File.{File}
 use Rattle.dwz_graph.specs.Files.{AreKept, AreRead}

@@ -14,8 +14,8 @@ use Rattle.dwz_def_reading.specs.Meanings.{MeaningContext, scope_of}
 use Rattle.dwz_def_tops.proofs.Members.{each_of}
 use Rattle.dwz_graph.proofs.TreeLemmas.{node_attrs}
 use Rattle.dwz_unit.specs.Rows.{EntryRow, rows_of, units_of as raw_units}
-use Rattle.dwz_graph_resolve.specs.Named.{entries_of}
-use Rattle.dwz_graph_resolve.specs.Parts.{HasLine}
+use Rattle.dwz_graph.specs.Named.{entries_of}
+use Rattle.dwz_graph.specs.Parts.{HasLine}
 use Rattle.dwz_graph.specs.declared.file.File.{File}
 use Rattle.dwz_graph.specs.Index.{Index}
 use Rattle.dwz_label_entries.specs.Plain.{KnowsLine}

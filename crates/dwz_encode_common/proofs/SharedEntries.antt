@@ -8,7 +8,7 @@ use Rattle.dwz_def_reading.proofs.ListFacts.{got_map}
 use Rattle.dwz_def_reading.specs.Documents.{Attr, Node, node_map}
 use Rattle.dwz_def_reading.specs.Classes.{OfConstant, OfTextBySlot, OfTextInLineStr, OfTextInStr}
 use Rattle.dwz_def_reading.specs.Classes.{Class, class_of, names_file}
-use Rattle.dwz_graph_resolve.specs.Resolved.{sources_view}
+use Rattle.dwz_graph.specs.Resolved.{sources_view}
 use Rattle.dwz_def_tops.specs.Spaces.{space_text}
 use Rattle.dwz_def_tops.specs.Spots.{EntryName, name_of}
 use Rattle.dwz_unit.specs.Rows.{EntryRow, rows_of, units_of as raw_units}

@@ -14,7 +14,7 @@ use Rattle.dwz_plan.specs.Planned.{Planned, file_of_home}
 use Rattle.dwz_plan.specs.Shows.{shown_part}
 use Rattle.dwz_plan.proofs.BridgeLemmas.{file_numbers_are}
 use Rattle.dwz_def_images.specs.Units.{common_units, partial_unit, partial_units}
-use Rattle.dwz_law_files.proofs.FileCounts.{are_many}
+use Rattle.dwz_layout_order.proofs.FileCounts.{are_many}
 use Rattle.dwz_law_layout.proofs.PartUnits.{part_is}
 use Rattle.dwz_layout_order.specs.Orders.{First}
 use Rattle.dwz_layout_order.specs.declared.orders.Settled.{Settled}

@@ -21,7 +21,7 @@ use Rattle.dwz_def_reading.specs.Meanings as meanings
 use Rattle.dwz_def_reading.specs.Meant as meant
 use Rattle.dwz_def_reading.proofs.MeaningLemmas.{value_agrees}
 use Rattle.dwz_bytes.specs.Reading.{◌>>=◌}
-use Rattle.dwz_graph_resolve.specs.Parts.{numbers_file}
+use Rattle.dwz_graph.specs.Parts.{numbers_file}
 use Rattle.dwz_label_entries.specs.Plain.{KnowsLine}
 use Rattle.dwz_label_entries.proofs.PlainLemmas.{file_means, numbers}
 use Rattle.dwz_layout_numbers.specs.Befores.{is_constant, is_pair_file}

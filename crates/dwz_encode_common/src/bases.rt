@@ -4,7 +4,7 @@ ghost use Rattle.std.specs.Prelude.{◌≡◌, map, IfOk};
 ghost use Rattle.dwz_unit.specs.Rows.{units_of};
 ghost use Rattle.dwz_encode_common.specs.Stored.{file_bases, slots_base};
 
-use dwz_graph_resolve::here_of;
+use dwz_graph::here_of;
 use dwz_layout::FileRows;
 use dwz_model::NoMemory;
 use dwz_unit::Units;

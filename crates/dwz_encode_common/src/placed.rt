@@ -4,7 +4,7 @@ ghost use Rattle.std.specs.Prelude.{◌≡◌, ◌<◌, ◌++◌, ◌∷◌, [],
 ghost use Rattle.dwz_def_reading.specs.Units.{entries_in};
 ghost use Rattle.dwz_forms.specs.RawValues.{raw_view};
 ghost use Rattle.dwz_layout.specs.Attributes.{value_read};
-ghost use Rattle.dwz_graph_resolve.specs.Resolved.{sources_view};
+ghost use Rattle.dwz_graph.specs.Resolved.{sources_view};
 ghost use Rattle.dwz_unit.specs.Rows.{EntryRow, rows_of, units_of};
 ghost use Rattle.dwz_encode_common.specs.Placed as Specs;
 ghost use Rattle.dwz_encode_common.specs.Placed.{HavePlaces, entry_places, file_places};
@@ -17,8 +17,7 @@ use crate::shared::place_text;
 use crate::stored::text_of;
 use crate::texts::base_of;
 use dwz_forms::Raw;
-use dwz_graph::File;
-use dwz_graph_resolve::InputSections;
+use dwz_graph::{File, InputSections};
 use dwz_layout::{EntryTable, Row, TextAt, behind};
 use dwz_model::{NoMemory, Pair};
 use dwz_unit::{Values, known_value};

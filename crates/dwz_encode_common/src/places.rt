@@ -4,8 +4,7 @@ ghost use Rattle.std.specs.Prelude.{◌≡◌, map};
 ghost use Rattle.dwz_encode_common.specs.Stored.{file_bases};
 ghost use Rattle.dwz_encode_common.specs.Steps.{HasPlace};
 
-use dwz_graph::Graph;
-use dwz_graph_resolve::InputSections;
+use dwz_graph::{Graph, InputSections};
 use dwz_layout::{EntryTable, Row};
 use dwz_unit::Units;
 

@@ -3,7 +3,7 @@
 ghost use Rattle.std.specs.Prelude.{◌≡◌, ◌<◌, map, Some, slice_get, IfOk};
 ghost use Rattle.std.specs.Option.{option_map, option_to_list};
 ghost use Rattle.dwz_def_reading.specs.Units.{entries_in};
-ghost use Rattle.dwz_graph_resolve.specs.Resolved.{sources_view};
+ghost use Rattle.dwz_graph.specs.Resolved.{sources_view};
 ghost use Rattle.dwz_unit.specs.Rows.{EntryRow, rows_of, units_of};
 ghost use Rattle.dwz_encode_common.specs.Placed as Specs;
 ghost use Rattle.dwz_encode_common.specs.Stored.{row_name, slots_base_at};
@@ -13,8 +13,7 @@ use crate::pool::Pool;
 use crate::shared::place_text;
 use crate::stored::text_of;
 use dwz_codes::DW_AT_NAME;
-use dwz_graph::File;
-use dwz_graph_resolve::{first_attr, here_of};
+use dwz_graph::{File, first_attr, here_of};
 use dwz_layout::{EntryTable, Row, SpaceRow, TextAt};
 use dwz_model::NoMemory;
 use dwz_unit::Units;

@@ -5,13 +5,13 @@ ghost use Rattle.std.specs.Option.{option_map, option_to_list};
 ghost use Rattle.dwz_def_reading.specs.Texts;
 ghost use Rattle.dwz_forms.specs.RawValues.{raw_view};
 ghost use Rattle.dwz_layout.specs.Attributes.{value_read};
-ghost use Rattle.dwz_graph_resolve.specs.Resolved.{sources_view};
+ghost use Rattle.dwz_graph.specs.Resolved.{sources_view};
 ghost use Rattle.dwz_def_encoding.specs.Placing;
 ghost use Rattle.dwz_encode_common.specs.Stored.{class_texts, text_or_none, text_read};
 
 use dwz_codes::{Class, DW_AT_SIBLING, class_of};
 use dwz_forms::Raw;
-use dwz_graph_resolve::{InputSections, offset_of, slot, text_in};
+use dwz_graph::{InputSections, offset_of, slot, text_in};
 use dwz_model::Pair;
 
 // The number in the slot of an index (DWARF 5, 7.26), and 0 where there is none.

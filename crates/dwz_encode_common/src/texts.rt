@@ -4,7 +4,7 @@ ghost use Rattle.std.specs.Prelude.{◌≡◌, ℕ, ◌<◌, ◌++◌, map, Some
 ghost use Rattle.dwz_def_reading.specs.Units.{entries_in};
 ghost use Rattle.dwz_forms.specs.RawValues.{raw_view};
 ghost use Rattle.dwz_layout.specs.Attributes.{value_read};
-ghost use Rattle.dwz_graph_resolve.specs.Resolved.{sources_view};
+ghost use Rattle.dwz_graph.specs.Resolved.{sources_view};
 ghost use Rattle.dwz_unit.specs.Rows.{EntryRow, rows_of, units_of};
 ghost use Rattle.dwz_def_readback.specs.Files.{texts};
 ghost use Rattle.dwz_law_layout.specs.Facts.{RunFacts, run};
@@ -19,8 +19,7 @@ use crate::pool::Pool;
 use crate::stored::text_of;
 use dwz_codes::DW_AT_NAME;
 use dwz_forms::Raw;
-use dwz_graph::Graph;
-use dwz_graph_resolve::{InputSections, first_attr};
+use dwz_graph::{Graph, InputSections, first_attr};
 use dwz_layout::{EntryTable, Origin, Row, UnitItems, Walk};
 use dwz_model::{NoMemory, Pair};
 use dwz_unit::{Values, known_value};

@@ -16,7 +16,7 @@ use Rattle.dwz_encode_operands.specs.Narrow.{number_by}
 use Rattle.dwz_encode_operands.specs.Walked.{NotesOperands, row_operands, rows_operands}
 use Rattle.dwz_encode_operands.proofs.FirstLemmas.{Noted, noted_end, noted_some, units_append}
 use Rattle.dwz_def_output.specs.Refusals.{all_of_unit, operands_of_attr, operands_of_attrs}
-use Rattle.dwz_graph_resolve.specs.Named.{attrs_refs, value_refs}
+use Rattle.dwz_graph.specs.Named.{attrs_refs, value_refs}
 use Rattle.dwz_unit.specs.Rows.{EntryRow}
 
 module _ (s : MeaningContext ℕ) (after : ℕ → ℕ) (more : List ℕ) (old : Option ℕ) where

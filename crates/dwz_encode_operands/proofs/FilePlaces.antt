@@ -20,9 +20,9 @@ use Rattle.dwz_def_output.specs.Contents.{operand_number_after}
 use Rattle.dwz_def_encoding.specs.Writing.{base_place}
 use Rattle.dwz_def_encoding.specs.Meant.{led_to}
 use Rattle.dwz_unit.specs.Rows.{units_of as raw_units}
-use Rattle.dwz_graph_resolve.specs.declared.operands.ListOperand.{ListOperand}
-use Rattle.dwz_graph_resolve.specs.ListRows.{AreOfFile, operand_view, start_of}
-use Rattle.dwz_graph_resolve.specs.Resolved.{AreEntries, place_at}
+use Rattle.dwz_graph.specs.ListOperand.{ListOperand}
+use Rattle.dwz_graph.specs.ListRows.{AreOfFile, operand_view, start_of}
+use Rattle.dwz_graph.specs.Resolved.{AreEntries, place_at}
 use Rattle.dwz_graph.specs.declared.file.File.{File}
 use Rattle.dwz_graph.specs.declared.index.Starts.{Starts}
 use Rattle.dwz_graph.specs.Index.{Index}

@@ -6,7 +6,7 @@ use Rattle.dwz_def_reading.specs.NamedLists.{lists_of_units}
 use Rattle.dwz_def_reading.specs.Shared.{AreRows, NoneShared}
 use Rattle.dwz_def_reading.proofs.FileLemmas.{file_agrees}
 use Rattle.dwz_unit.specs.Rows.{units_of as raw_units}
-use Rattle.dwz_graph_resolve.specs.ListRows.{operand_view}
+use Rattle.dwz_graph.specs.ListRows.{operand_view}
 use Rattle.dwz_graph.specs.declared.file.File.{File}
 use Rattle.dwz_graph.specs.Index.{Index}
 use Rattle.dwz_layout_numbers.specs.Images.{IsFile, starts_from}

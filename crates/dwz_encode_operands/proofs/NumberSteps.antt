@@ -5,7 +5,7 @@ use Rattle.dwz_model.specs.declared.place.Base.TheVariants.{Unit as FromUnit}
 use Rattle.dwz_def_tops.specs.Spots.{EntryName}
 use Rattle.dwz_def_reading.specs.Documents.{Doc}
 use Rattle.dwz_def_plan.specs.Homes.{Rule}
-use Rattle.dwz_graph_resolve.specs.declared.operands.ListOperand.{ListOperand}
+use Rattle.dwz_graph.specs.ListOperand.{ListOperand}
 use Rattle.dwz_encode_operands.specs.Operands.{AreNewNumbers, IsNewNumber}
 
 -- what stands for an operand where there is none

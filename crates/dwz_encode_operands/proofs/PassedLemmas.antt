@@ -19,7 +19,7 @@ use Rattle.dwz_encode_operands.specs.Walked.{NotesOperands, row_operands}
 use Rattle.dwz_encode_operands.proofs.FirstLemmas.{first_alone}
 use Rattle.dwz_encode_operands.proofs.ValueLemmas.{none_as}
 use Rattle.dwz_graph.proofs.TreeLemmas.{node_attrs}
-use Rattle.dwz_graph_resolve.specs.Named.{attrs_refs, value_refs}
+use Rattle.dwz_graph.specs.Named.{attrs_refs, value_refs}
 use Rattle.dwz_graph.specs.Rows.{node_refs}
 use Rattle.dwz_model.specs.declared.place.Pair.{Pair}
 use Rattle.dwz_move.proofs.NameMarks.{value_kinds}

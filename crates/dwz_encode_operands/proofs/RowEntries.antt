@@ -11,10 +11,10 @@ use Rattle.dwz_def_reading.specs.Meanings.{Around, MeanUnits, Sources, alone, en
 use Rattle.dwz_def_reading.specs.NamedLists.{lists_of_units}
 use Rattle.dwz_def_reading.specs.Shared.{AreRows, own_operands}
 use Rattle.dwz_def_reading.proofs.MeaningLemmas.{has_in}
-use Rattle.dwz_graph_resolve.specs.declared.operands.ListOperand.{ListOperand as Row}
-use Rattle.dwz_graph_resolve.specs.ListRows.{number_for, operand_view, start_of}
-use Rattle.dwz_graph_resolve.specs.Resolved.{place_at}
-use Rattle.dwz_graph_resolve.proofs.PlaceLemmas.{unit_and_entries}
+use Rattle.dwz_graph.specs.ListOperand.{ListOperand as Row}
+use Rattle.dwz_graph.specs.ListRows.{number_for, operand_view, start_of}
+use Rattle.dwz_graph.specs.Resolved.{place_at}
+use Rattle.dwz_graph.proofs.PlaceLemmas.{unit_and_entries}
 use Rattle.dwz_def_tops.specs.Lists.{NoneTwice}
 use Rattle.dwz_def_encoding.specs.Meant.{led_to, place_counted}
 use Rattle.dwz_def_output.proofs.ListsWritten.{owner}

@@ -8,8 +8,8 @@ use Rattle.dwz_def_reading.specs.Files.{HaveGoodRanges, around_of, debug_aranges
 use Rattle.dwz_def_reading.specs.PatchedLists.{IsPatched, number_for_place}
 use Rattle.dwz_def_reading.specs.Shared.{AreRows, ListOperand, NoneShared, operands_in_lists}
 use Rattle.dwz_def_reading.proofs.MeaningLemmas.{has_in}
-use Rattle.dwz_graph_resolve.specs.declared.operands.ListOperand.{ListOperand as Row}
-use Rattle.dwz_graph_resolve.specs.ListRows.{operand_view}
+use Rattle.dwz_graph.specs.ListOperand.{ListOperand as Row}
+use Rattle.dwz_graph.specs.ListRows.{operand_view}
 use Rattle.dwz_encode_sections.specs.Numbers.{spots, with_numbers}
 use Rattle.dwz_encode_sections.specs.Ranges.{AreMoved}
 use Rattle.dwz_encode_sections.proofs.ListLemmas.{all_patched}

@@ -20,10 +20,10 @@ use Rattle.dwz_encode_operands.specs.Narrow.{FirstPlace, number_by}
 use Rattle.dwz_encode_operands.specs.Walked.{NotesOperands, row_operands, rows_operands}
 use Rattle.dwz_encode_operands.proofs.FirstLemmas.{Noted, first_so, noted_end, noted_some}
 use Rattle.dwz_def_output.specs.Refusals.{all_of_unit, operands_of_attrs, operands_of_entries, operands_of_unit, operands_of_units}
-use Rattle.dwz_graph_resolve.specs.Named.{attrs_refs, entries_refs, unit_refs, units_refs}
-use Rattle.dwz_graph_resolve.specs.Resolved.{IsUnitHere}
-use Rattle.dwz_graph_resolve.specs.declared.here.Here.{Here}
-use Rattle.dwz_graph_resolve.proofs.UnitThere.{same_unit, unit_there}
+use Rattle.dwz_graph.specs.Named.{attrs_refs, entries_refs, unit_refs, units_refs}
+use Rattle.dwz_graph.specs.Resolved.{IsUnitHere}
+use Rattle.dwz_graph.specs.Here.{Here}
+use Rattle.dwz_graph.proofs.UnitThere.{same_unit, unit_there}
 use Rattle.dwz_unit.specs.declared.rows.RawUnit.{RawUnit as UnitOfCode}
 use Rattle.dwz_unit.specs.Rows.{EntryRow, rows_below, rows_in, rows_of, shown_units}
 use Rattle.dwz_unit.proofs.ShownLemmas.{rows_in-length}

@@ -18,7 +18,7 @@ use Rattle.dwz_encode_operands.specs.Narrow.{number_by}
 use Rattle.dwz_encode_operands.specs.Walked.{KeepsPlaces, NotesOperands}
 use Rattle.dwz_encode_operands.proofs.FirstLemmas.{first_alone}
 use Rattle.dwz_def_output.specs.Refusals.{all_of_unit, operands_as, operands_of_attr, operands_read}
-use Rattle.dwz_graph_resolve.specs.Named.{value_refs}
+use Rattle.dwz_graph.specs.Named.{value_refs}
 use Rattle.dwz_move.specs.Bound.{is_expression}
 use Rattle.dwz_move.specs.Values.{is_entry}
 use Rattle.dwz_move.proofs.BindLemmas.{said_expression}

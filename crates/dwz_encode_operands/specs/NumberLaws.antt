@@ -5,8 +5,8 @@ use Rattle.dwz_def_tops.specs.Spots.{EntryName, UnitOf}
 use Rattle.dwz_def_reading.specs.Files.{debug_aranges}
 use Rattle.dwz_unit.specs.Rows.{units_of as raw_units}
 use Rattle.dwz_graph.specs.declared.file.File.{File}
-use Rattle.dwz_graph_resolve.specs.ListRows.{operand_view}
-use Rattle.dwz_graph_resolve.specs.Resolved.{place_at}
+use Rattle.dwz_graph.specs.ListRows.{operand_view}
+use Rattle.dwz_graph.specs.Resolved.{place_at}
 use Rattle.dwz_graph.specs.Index.{Index}
 use Rattle.dwz_layout_numbers.specs.Images.{AreImages, IsFile, starts_from}
 use Rattle.dwz_layout_numbers.specs.Names.{all_names}

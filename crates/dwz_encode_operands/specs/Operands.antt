@@ -4,7 +4,7 @@ use Rattle.dwz_def_tops.specs.Spots.{EntryName}
 use Rattle.dwz_def_reading.specs.Documents.{Doc}
 use Rattle.dwz_def_plan.specs.Homes.{Rule}
 use Rattle.dwz_layout_numbers.specs.Images.{IsImage}
-use Rattle.dwz_graph_resolve.specs.declared.operands.ListOperand.{ListOperand}
+use Rattle.dwz_graph.specs.ListOperand.{ListOperand}
 use Rattle.dwz_encode_sections.specs.Numbers.{with_numbers}
 use Rattle.dwz_def_encoding.specs.Writing.{base_place}
 

@@ -4,10 +4,10 @@ ghost use Rattle.std.specs.Prelude.{◌≡◌, ℕ, List, length, map};
 ghost use Rattle.dwz_def_reading.specs.Units.{RawUnit};
 ghost use Rattle.dwz_def_reading.specs.Shared;
 ghost use Rattle.dwz_encode_operands.specs.Narrow.{FirstPlace};
-ghost use Rattle.dwz_graph_resolve.specs.ListRows.{operand_view};
+ghost use Rattle.dwz_graph.specs.ListRows.{operand_view};
 
 use crate::over::note;
-use dwz_graph_resolve::ListOperand;
+use dwz_graph::ListOperand;
 
 /// The place of the first operand of location lists, in bytes from the first of `.debug_loclists`, whose new number needs more bytes
 /// than the operand has. For each is given its new number. None where each number fits.

@@ -10,8 +10,7 @@ ghost use Rattle.dwz_encode_operands.specs.Operands.{HasNewNumbers};
 
 use crate::operands::operand_numbers;
 use dwz_encode_sections::lists;
-use dwz_graph::Index;
-use dwz_graph_resolve::ListOperand;
+use dwz_graph::{Index, ListOperand};
 use dwz_model::NoMemory;
 use dwz_plan::Plan;
 use std::alloc::Global;

@@ -8,8 +8,7 @@ ghost use Rattle.dwz_layout_numbers.specs.Images.{IsFile, IsPlanned};
 ghost use Rattle.dwz_def_encoding.specs.Writing.{base_place};
 ghost use Rattle.dwz_encode_operands.specs.Operands.{AreNewNumbers, new_number_by};
 
-use dwz_graph::Index;
-use dwz_graph_resolve::ListOperand;
+use dwz_graph::{Index, ListOperand};
 use dwz_layout_numbers::image;
 use dwz_model::{Base, NoMemory};
 use dwz_plan::Plan;

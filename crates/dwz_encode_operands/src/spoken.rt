@@ -9,13 +9,13 @@ ghost use Rattle.dwz_def_reading.specs.Meant.{node_meaning, unit_meaning, units_
 ghost use Rattle.dwz_encode_operands.specs.Narrow.{FirstPlace, number_by};
 ghost use Rattle.dwz_encode_operands.specs.Walked.{KeepsPlaces, NotesOperands, row_operands, rows_operands};
 ghost use Rattle.dwz_def_output.specs.Refusals.{operands_of_unit, operands_of_units};
-ghost use Rattle.dwz_graph_resolve.specs.Named.{unit_refs, units_refs};
+ghost use Rattle.dwz_graph.specs.Named.{unit_refs, units_refs};
 ghost use Rattle.dwz_unit.specs.Rows.{EntryRow, rows_of, units_of};
 
 use crate::values::{behind, note_value};
 use dwz_codes::DW_AT_SIBLING;
 use dwz_expr::Operand;
-use dwz_graph_resolve::here_of;
+use dwz_graph::here_of;
 use dwz_model::NoMemory;
 use dwz_unit::{Units, Values, known_value};
 use std::alloc::Global;

@@ -9,8 +9,8 @@ use Rattle.dwz_def_reading.specs.Documents.{Doc}
 use Rattle.dwz_def_reading.specs.Files.{Limits, around_of, file_meaning, limits_after, no_files_before}
 use Rattle.dwz_def_reading.specs.Meanings.{alone}
 use Rattle.dwz_unit.specs.Rows.{EntryRow, rows_of, units_of as raw_units}
-use Rattle.dwz_graph_resolve.specs.Resolved.{around}
-use Rattle.dwz_graph_resolve.proofs.RowLemmas.{found_in_map}
+use Rattle.dwz_graph.specs.Resolved.{around}
+use Rattle.dwz_graph.proofs.RowLemmas.{found_in_map}
 use Rattle.dwz_graph.specs.declared.file.File.{File}
 use Rattle.dwz_graph.specs.Files.{AreKept, AreRead, HasFile, IsRead}
 use Rattle.dwz_graph.proofs.GraphLemmas.{same_raw}

@@ -1,7 +1,7 @@
 -- The texts of a file that was read.
 use Rattle.std.specs.Prelude.{List}
 use Rattle.dwz_unit.specs.Rows.{units_of}
-use Rattle.dwz_graph_resolve.specs.Resolved.{around}
+use Rattle.dwz_graph.specs.Resolved.{around}
 use Rattle.dwz_graph.specs.declared.file.File.{File}
 use Rattle.dwz_layout.specs.declared.known.TextAt.{TextAt}
 use Rattle.dwz_encode_texts.specs.Texts.{file_texts}

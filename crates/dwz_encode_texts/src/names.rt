@@ -4,7 +4,7 @@ ghost use Rattle.std.specs.Prelude.{◌≡◌, ℕ, ◌<◌, ◌++◌, All, List
 ghost use Rattle.dwz_def_reading.specs.Units.{entries_in};
 ghost use Rattle.dwz_def_reading.specs.Meanings.{first_raw};
 ghost use Rattle.dwz_unit.specs.Rows.{EntryRow, rows_of, units_of};
-ghost use Rattle.dwz_graph_resolve.specs.Resolved.{around};
+ghost use Rattle.dwz_graph.specs.Resolved.{around};
 ghost use Rattle.dwz_graph.specs.Files.{docs_of};
 ghost use Rattle.dwz_graph.specs.Index.{Index};
 ghost use Rattle.dwz_graph.specs.Indexed.{AreIndexes};
@@ -12,8 +12,7 @@ ghost use Rattle.dwz_encode_texts.specs.Names.{HaveNames, named_text, names_of_s
 
 use crate::texts::{own_text, slot_bases};
 use dwz_codes::DW_AT_NAME;
-use dwz_graph::{File, Graph, SpaceEntry};
-use dwz_graph_resolve::first_attr;
+use dwz_graph::{File, Graph, SpaceEntry, first_attr};
 use dwz_layout::TextAt;
 use dwz_model::NoMemory;
 use dwz_unit::Units;

@@ -10,7 +10,7 @@ ghost use Rattle.dwz_encode_sections.specs.Slots.{moved_or_same};
 ghost use Rattle.dwz_def_output.specs.Contents.{with_slots};
 ghost use Rattle.dwz_encode_texts.specs.PrunedFiles.{IsPrunedFile};
 
-use dwz_graph_resolve::TextSection;
+use dwz_graph::TextSection;
 use dwz_model::NoMemory;
 use dwz_strs::{Pruned, prune, slots};
 use std::alloc::Global;

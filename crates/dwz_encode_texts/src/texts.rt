@@ -10,7 +10,7 @@ ghost use Rattle.dwz_def_reading.specs.Classes.{OfTextInStr};
 ghost use Rattle.dwz_def_reading.specs.Classes.{class_of};
 ghost use Rattle.dwz_unit.specs.Declarations.{AreOf};
 ghost use Rattle.dwz_unit.specs.Rows.{EntryRow, rows_of, units_of};
-ghost use Rattle.dwz_graph_resolve.specs.Resolved.{around};
+ghost use Rattle.dwz_graph.specs.Resolved.{around};
 ghost use Rattle.dwz_def_encoding.specs.Placing;
 ghost use Rattle.dwz_layout.specs.declared.known.TextAt.TheVariants.{Own};
 ghost use Rattle.dwz_encode_texts.specs.Texts;
@@ -19,7 +19,7 @@ ghost use Rattle.dwz_encode_texts.specs.Texts.{file_texts, own_texts, slots_base
 use crate::ends::{TextEnds, is_text};
 use dwz_codes::{Class, class_of};
 use dwz_forms::Raw;
-use dwz_graph_resolve::{InputSections, here_of, offset_of, slot};
+use dwz_graph::{InputSections, here_of, offset_of, slot};
 use dwz_layout::TextAt;
 use dwz_model::{NoMemory, Pair};
 use dwz_unit::{Units, Values, known_value};

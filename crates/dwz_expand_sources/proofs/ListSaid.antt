@@ -13,7 +13,7 @@ use Rattle.dwz_def_cross.specs.Tops.{WithCommon, units_with_common}
 use Rattle.dwz_def_expand.specs.Source.{imported_by, unless_import, without_imports}
 use Rattle.dwz_graph.specs.Rows.{nodes}
 use Rattle.dwz_graph.proofs.TopThere.{left_behind}
-use Rattle.dwz_graph_resolve.proofs.JoinLemmas.{range_both}
+use Rattle.dwz_graph.proofs.JoinLemmas.{range_both}
 use Rattle.dwz_check_index.specs.Index.{ListedEntry, listed, listed_units}
 use Rattle.dwz_imports.specs.Imports.{importing_flags, imports_any, is_some_unit, same, unit_nodes}
 use Rattle.dwz_expand_sources.specs.declared.sources.SourceRange.{SourceRange}

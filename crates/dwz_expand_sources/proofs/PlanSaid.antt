@@ -16,7 +16,7 @@ use Rattle.dwz_def_cross.specs.Tops.{WithCommon, units_with_common, unless_parti
 use Rattle.dwz_def_expand.specs.Source.{imported_in, once}
 use Rattle.dwz_graph.specs.Rows.{nodes}
 use Rattle.dwz_graph.proofs.TreeLemmas.{nodes_many as entries_many}
-use Rattle.dwz_graph_resolve.specs.Surroundings.{behind_own}
+use Rattle.dwz_graph.specs.Surroundings.{behind_own}
 use Rattle.dwz_check_index.specs.Index.{ListedEntry, listed, listed_units}
 use Rattle.dwz_imports.specs.Imports.{AreUnits, imports_any, same, unit_nodes}
 use Rattle.dwz_imports.specs.Said.{SaysBeside}

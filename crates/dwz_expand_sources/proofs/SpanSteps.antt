@@ -9,7 +9,8 @@ use Rattle.dwz_unit.specs.Rows.{shown_entries, shown_from, shown_units}
 use Rattle.dwz_expand_sources.specs.declared.spans.UnitSpan.{UnitSpan}
 use Rattle.dwz_expand_sources.specs.Building.{AreSpans, Shape, shape_count, spans_from, stored_shape, unit_span}
 use Rattle.dwz_expand_sources.proofs.Shapes.{spans_append, spans_long, stored_count}
-use Rattle.dwz_expand_sources.proofs.UnitSteps.{next_unit, root_end}
+use Rattle.dwz_graph.proofs.UnitBuilding.{next_unit}
+use Rattle.dwz_expand_sources.proofs.UnitSteps.{root_end}
 
 pub record SpansGo (raw : List RawUnit) (before : ℕ) (old : List UnitSpan) (n : ℕ) (now : List UnitSpan) : Type 0 where
   pub first : ℕ

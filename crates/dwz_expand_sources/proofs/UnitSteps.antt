@@ -10,31 +10,12 @@ use Rattle.dwz_def_reading.proofs.ListFacts.{drop_here, got_below}
 use Rattle.dwz_unit.specs.declared.rows.RawEntry.{RawEntry as EntryOfCode}
 use Rattle.dwz_unit.specs.declared.rows.RawUnit.{RawUnit as UnitOfCode}
 use Rattle.dwz_unit.specs.Rows.{kind_number, shown_entries, shown_from, shown_units, unit_shown}
-use Rattle.dwz_graph.proofs.UnitBuilding.{kind_in, kind_is}
-use Rattle.dwz_graph_resolve.proofs.UnitThere.{root_ends, same_unit, unit_ends, unit_there}
+use Rattle.dwz_graph.proofs.UnitBuilding.{NextUnit, kind_in, kind_is, next_unit}
+use Rattle.dwz_graph.proofs.UnitThere.{root_ends, same_unit, unit_ends, unit_there}
 use Rattle.dwz_expand_sources.specs.declared.sources.NewUnit.{NewUnit}
 use Rattle.dwz_expand_sources.specs.declared.sources.SourceRange.{SourceRange}
 use Rattle.dwz_expand_sources.specs.Building.{Known, kept_ranges, part_ranges, range_if, ranges_in, stored_shape, with_new, with_unit, with_units}
 use Rattle.dwz_expand_sources.specs.Sources.{Sources}
-
--- the next unit
-pub record NextUnit (raw : List RawUnit) (n first : ℕ) (x : UnitOfCode) : Type 0 where
-  pub u : RawUnit
-  pub found : slice_get raw n ≡ Some u
-  pub at : x.first ≡ first
-  pub shown : drop (n + 1) (shown_units raw) ≡ shown_from (drop (n + 1) raw) (first + entry_count u)
-  pub rest : drop n raw ≡ u ∷ drop (n + 1) raw
-
-pub next_unit : (raw : List RawUnit) (n first : ℕ) (x : UnitOfCode) → drop n (shown_units raw) ≡ shown_from (drop n raw) first → slice_get (shown_units raw) n ≡ Some x → NextUnit raw n first x
-unfolding shown_from
-next_unit raw n first x e shown =
-    let t = unit_there raw n x shown in
-    let here = drop_here raw n t.u t.is_unit in
-    let there = drop_here (shown_units raw) n x shown in
-    let both : x ∷ drop (n + 1) (shown_units raw) ≡ unit_shown first t.u ∷ shown_from (drop (n + 1) raw) (first + entry_count t.u) = sym there ∙ e
-    ∙ ap (λ (w : List RawUnit). shown_from w first) here in
-    let one : x ≡ unit_shown first t.u = cc in
-    record { u = t.u; found = t.is_unit; at = ap (λ (w : UnitOfCode). w.first) one; shown = cc; rest = here }
 
 -- behind n units: where the next one's root is, and what is left
 pub record UnitsGo (k : Known) (raw : List RawUnit) (old : Sources) (n : ℕ) (x : Sources) : Type 0 where

@@ -11,7 +11,7 @@ use Rattle.dwz_def_explain.specs.Texts.{child_at, entry_along, place_of_name}
 use Rattle.dwz_def_explain.specs.What.{Subtree}
 use Rattle.dwz_graph.specs.declared.file.File.{File}
 use Rattle.dwz_graph.specs.Files.{docs_of}
-use Rattle.dwz_graph_resolve.proofs.RowLemmas.{row_is}
+use Rattle.dwz_graph.proofs.RowLemmas.{row_is}
 use Rattle.dwz_label_differences.specs.Told.{EachNode}
 use Rattle.dwz_law_files.specs.Across.{name_at}
 use Rattle.dwz_unit.specs.declared.rows.RawEntry.{RawEntry as EntryOfCode}

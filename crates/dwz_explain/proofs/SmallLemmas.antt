@@ -29,13 +29,13 @@ use Rattle.dwz_graph.specs.Files.{AreKept, IsRead, docs_of}
 use Rattle.dwz_graph.specs.FlatTops.{HasTop}
 use Rattle.dwz_graph.specs.Index.{Index}
 use Rattle.dwz_graph.specs.Indexed.{AreIndexes}
-use Rattle.dwz_graph_resolve.specs.Named.{map_ok, units_named, units_refs}
+use Rattle.dwz_graph.specs.Named.{map_ok, units_named, units_refs}
 use Rattle.dwz_graph.specs.Names.{top_in}
-use Rattle.dwz_graph_resolve.specs.Resolved.{place_at}
-use Rattle.dwz_graph_resolve.proofs.FewRefs.{refs_few}
+use Rattle.dwz_graph.specs.Resolved.{place_at}
+use Rattle.dwz_graph.proofs.FewRefs.{refs_few}
 use Rattle.dwz_graph.proofs.IndexRoom.{info_within}
-use Rattle.dwz_graph_resolve.proofs.NamedLemmas.{units_found, units_same}
-use Rattle.dwz_graph_resolve.proofs.RowLemmas.{rows-length}
+use Rattle.dwz_graph.proofs.NamedLemmas.{units_found, units_same}
+use Rattle.dwz_graph.proofs.RowLemmas.{rows-length}
 use Rattle.dwz_label.proofs.NodeLooks.{top_below}
 use Rattle.dwz_law_files.specs.Across.{IsFileAmong, name_at}
 use Rattle.dwz_law_files.proofs.FileCounts.{found}

@@ -54,7 +54,7 @@ entries_few l bytes raw doc e =
     let all = places_many raw in
     (omega arith, r.size.files)
 
-units_same : (around : Around ℕ) (raw : List RawUnit) (said : List (DwUnit ℕ)) → MeanUnits around raw said → length raw ≡ length said
+pub units_same : (around : Around ℕ) (raw : List RawUnit) (said : List (DwUnit ℕ)) → MeanUnits around raw said → length raw ≡ length said
 units_same around [] [] h = refl
 units_same around [] (v ∷ said) h = absurd h
 units_same around (u ∷ raw) [] h = absurd h

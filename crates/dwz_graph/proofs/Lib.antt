@@ -42,3 +42,15 @@ pub mod IndexSteps
 pub mod IndexesThere
 mod OpenedLemmas
 mod HeadedLemmas
+pub use Rattle.dwz_graph_resolve.proofs.FewRefs
+pub use Rattle.dwz_graph_resolve.proofs.FileSteps
+pub use Rattle.dwz_graph_resolve.proofs.JoinLemmas
+pub use Rattle.dwz_graph_resolve.proofs.NamedLemmas
+pub use Rattle.dwz_graph_resolve.proofs.PlaceLemmas
+pub use Rattle.dwz_graph_resolve.proofs.RowLemmas
+pub use Rattle.dwz_graph_resolve.proofs.SearchLemmas
+pub use Rattle.dwz_graph_resolve.proofs.SharedLaw
+pub use Rattle.dwz_graph_resolve.proofs.SurroundingLemmas
+pub use Rattle.dwz_graph_resolve.proofs.UnitStarts
+pub use Rattle.dwz_graph_resolve.proofs.UnitThere
+pub use Rattle.dwz_graph_resolve.proofs.ValueSteps

@@ -10,7 +10,7 @@ use Rattle.dwz_graph.specs.Rows.{AreRowsMeant, AreTargets, RowsMean, node_refs, 
 use Rattle.dwz_graph.proofs.NameLemmas.{places_target}
 use Rattle.dwz_def_reading.specs.Documents.{Node}
 use Rattle.dwz_def_reading.specs.Meanings.{Around, scope_of}
-use Rattle.dwz_graph_resolve.proofs.NamedSteps.{each_append}
+use Rattle.dwz_model.proofs.Members.{each_append}
 use Rattle.dwz_graph_resolve.proofs.RowLemmas.{rows-length}
 use Rattle.dwz_graph_resolve.proofs.SurroundingLemmas.{entries_drop, entries_take, own_places}
 use Rattle.dwz_graph_resolve.specs.Parts.{AreParted}

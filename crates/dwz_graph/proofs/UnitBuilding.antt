@@ -134,13 +134,14 @@ units_begin raw old few =
     record { first = 0; shown = refl; few = few; starts = refl; built = ap (λ (k : ℕ). with_units k 0 raw old) none }
 
 -- the next unit
-record NextUnit (raw : List RawUnit) (n first : ℕ) (x : UnitOfCode) : Type 0 where
-  u : RawUnit
-  found : slice_get raw n ≡ Some u
-  at : x.first ≡ first
-  shown : drop (n + 1) (shown_units raw) ≡ shown_from (drop (n + 1) raw) (first + entry_count u)
+pub record NextUnit (raw : List RawUnit) (n first : ℕ) (x : UnitOfCode) : Type 0 where
+  pub u : RawUnit
+  pub found : slice_get raw n ≡ Some u
+  pub at : x.first ≡ first
+  pub shown : drop (n + 1) (shown_units raw) ≡ shown_from (drop (n + 1) raw) (first + entry_count u)
+  pub rest : drop n raw ≡ u ∷ drop (n + 1) raw
 
-next_unit : (raw : List RawUnit) (n first : ℕ) (x : UnitOfCode) → drop n (shown_units raw) ≡ shown_from (drop n raw) first → slice_get (shown_units raw) n ≡ Some x → NextUnit raw n first x
+pub next_unit : (raw : List RawUnit) (n first : ℕ) (x : UnitOfCode) → drop n (shown_units raw) ≡ shown_from (drop n raw) first → slice_get (shown_units raw) n ≡ Some x → NextUnit raw n first x
 unfolding shown_from
 next_unit raw n first x e shown =
     let t = unit_there raw n x shown in
@@ -149,7 +150,7 @@ next_unit raw n first x e shown =
     let both : x ∷ drop (n + 1) (shown_units raw) ≡ unit_shown first t.u ∷ shown_from (drop (n + 1) raw) (first + entry_count t.u) = sym there ∙ e
     ∙ ap (λ (w : List RawUnit). shown_from w first) here in
     let one : x ≡ unit_shown first t.u = cc in
-    record { u = t.u; found = t.is_unit; at = ap (λ (w : UnitOfCode). w.first) one; shown = cc }
+    record { u = t.u; found = t.is_unit; at = ap (λ (w : UnitOfCode). w.first) one; shown = cc; rest = here }
 
 pub first_is : (raw : List RawUnit) (old : Index) (n : ℕ) (x : Index) (v : UnitOfCode) → UnitsGo raw old n x → slice_get (shown_units raw) n ≡ Some v → IsFew x v.first
 first_is raw old n x v g shown = let u = next_unit raw n g.first v g.shown shown in subst (IsFew x) (sym u.at) g.few

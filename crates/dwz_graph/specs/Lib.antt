@@ -12,3 +12,14 @@ pub mod Tops
 pub mod Chains
 pub mod IndexLaws
 pub mod Indexed
+pub use Rattle.dwz_graph_resolve.specs.FileRows
+pub use Rattle.dwz_graph_resolve.specs.ListRows
+pub use Rattle.dwz_graph_resolve.specs.Named
+pub use Rattle.dwz_graph_resolve.specs.Operands
+pub use Rattle.dwz_graph_resolve.specs.Parts
+pub use Rattle.dwz_graph_resolve.specs.Places
+pub use Rattle.dwz_graph_resolve.specs.Resolved
+pub use Rattle.dwz_graph_resolve.specs.Surroundings
+pub use Rattle.dwz_graph_resolve.specs.declared.here.Here
+pub use Rattle.dwz_graph_resolve.specs.declared.operands.ListOperand
+pub use Rattle.dwz_graph_resolve.specs.declared.sections.InputSections

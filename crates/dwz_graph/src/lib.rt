@@ -31,6 +31,10 @@ mod spaces;
 mod sup;
 mod tops;
 
+pub use dwz_graph_resolve::{
+    Here, InputSections, ListOperand, TextSection, entry_of, first_attr, here_of, offset_of, slot,
+    text_in,
+};
 pub use file::File;
 pub use flat::{flat_laws, flat_name_laws, flat_top_laws, part_laws, step_laws};
 pub use graph::Graph;

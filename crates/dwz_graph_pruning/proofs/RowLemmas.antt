@@ -21,7 +21,7 @@ use Rattle.dwz_model.specs.declared.place.Pair.{Pair}
 use Rattle.dwz_graph_pruning.specs.declared.values.Known.{Known}
 use Rattle.dwz_graph_pruning.specs.Stays.{asks, row_stays, stays}
 use Rattle.dwz_graph_pruning.proofs.ValueLemmas.{Tells, sibling_stays, unasked_stays, value_stays}
-use Rattle.dwz_graph_resolve.specs.Parts.{numbers_file}
+use Rattle.dwz_graph.specs.Parts.{numbers_file}
 use Rattle.dwz_def_reading.specs.Lists.{Each}
 use Rattle.dwz_def_tops.proofs.Members.{each_append, each_split}
 use Rattle.dwz_unit.specs.Rows.{EntryRow}

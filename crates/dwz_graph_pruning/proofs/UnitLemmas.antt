@@ -23,12 +23,12 @@ use Rattle.dwz_graph_pruning.specs.declared.values.Known.{Known}
 use Rattle.dwz_graph_pruning.specs.Stays.{line_strp, row_stays}
 use Rattle.dwz_graph_pruning.proofs.RowLemmas.{Stays, ToldRow, rows_stay, tree_from, tree_to}
 use Rattle.dwz_graph_pruning.proofs.ValueLemmas.{Tells}
-use Rattle.dwz_graph_resolve.specs.FileRows.{HasTable}
-use Rattle.dwz_graph_resolve.specs.Named.{entries_of}
-use Rattle.dwz_graph_resolve.specs.Parts.{HasLine, numbers_file}
-use Rattle.dwz_graph_resolve.specs.Resolved.{IsUnitHere}
-use Rattle.dwz_graph_resolve.specs.declared.here.Here.{Here}
-use Rattle.dwz_graph_resolve.proofs.UnitThere.{UnitThere, in_entries, same_unit, unit_there}
+use Rattle.dwz_graph.specs.FileRows.{HasTable}
+use Rattle.dwz_graph.specs.Named.{entries_of}
+use Rattle.dwz_graph.specs.Parts.{HasLine, numbers_file}
+use Rattle.dwz_graph.specs.Resolved.{IsUnitHere}
+use Rattle.dwz_graph.specs.Here.{Here}
+use Rattle.dwz_graph.proofs.UnitThere.{UnitThere, in_entries, same_unit, unit_there}
 use Rattle.dwz_def_tops.proofs.Members.{each_of}
 use Rattle.dwz_unit.specs.declared.rows.RawUnit.{RawUnit as UnitOfCode}
 use Rattle.dwz_unit.specs.Rows.{EntryRow, rows_in, rows_of, shown_units}

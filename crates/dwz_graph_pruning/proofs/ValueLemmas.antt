@@ -11,7 +11,7 @@ use Rattle.dwz_def_reading.specs.Classes.{Class, class_of, names_file}
 use Rattle.dwz_def_reading.proofs.MeaningLemmas.{has_in}
 use Rattle.dwz_graph_pruning.specs.declared.values.Known.{Known}
 use Rattle.dwz_graph_pruning.specs.Stays.{asks, asks_as, is_slot, stays, stays_as}
-use Rattle.dwz_graph_resolve.specs.Parts.{numbers_as, numbers_file}
+use Rattle.dwz_graph.specs.Parts.{numbers_as, numbers_file}
 use Rattle.dwz_def_reading.proofs.HasLemmas.{in_has}
 use Rattle.dwz_def_encoding.specs.Bases.{bases_of}
 use Rattle.dwz_def_encoding.specs.Pruned.{HasNoStrp, StaysAs}

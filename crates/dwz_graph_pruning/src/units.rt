@@ -9,7 +9,7 @@ ghost use Rattle.dwz_def_reading.specs.Meanings.{Around, text_sections_of};
 ghost use Rattle.dwz_def_reading.specs.Meant.{unit_meaning, units_meaning};
 ghost use Rattle.dwz_graph_pruning.specs.Stays;
 ghost use Rattle.dwz_graph_pruning.specs.Stays.{row_stays};
-ghost use Rattle.dwz_graph_resolve.specs.Parts.{HasLine, HaveLines};
+ghost use Rattle.dwz_graph.specs.Parts.{HasLine, HaveLines};
 ghost use Rattle.dwz_def_reading.specs.Lists.{Each};
 ghost use Rattle.dwz_unit.specs.Declarations.{AreOf};
 ghost use Rattle.dwz_unit.specs.Rows.{EntryRow, rows_of, units_of};
@@ -17,7 +17,7 @@ ghost use Rattle.dwz_def_encoding.specs.Pruned.{UnitStays};
 
 use crate::asked::{AskedEntries, any_asks};
 use crate::values::{Known, stays};
-use dwz_graph_resolve::here_of;
+use dwz_graph::here_of;
 use dwz_lines::TableRows;
 use dwz_model::NoMemory;
 use dwz_unit::{Units, Values, known_value};

@@ -10,7 +10,7 @@ ghost use Rattle.dwz_graph_pruning.specs.Stays;
 
 use dwz_codes::{Class, DW_AT_SIBLING, class_of, names_file};
 use dwz_forms::Raw;
-use dwz_graph_resolve::offset_of;
+use dwz_graph::offset_of;
 use dwz_model::Pair;
 
 /// What is known of a unit.

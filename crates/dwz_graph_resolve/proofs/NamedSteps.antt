@@ -21,10 +21,7 @@ use Rattle.dwz_def_reading.specs.Lists.{Each}
 use Rattle.dwz_graph_resolve.proofs.NamedLemmas.{collect_append, joined_none, none_joined}
 use Rattle.dwz_graph_resolve.proofs.RowLemmas.{take_here}
 use Rattle.dwz_graph_resolve.proofs.SurroundingLemmas.{common_place, own_place, own_within}
-
-pub each_append : {X : Type 0} (P : X → Type 0) (xs ys : List X) → Each P xs → Each P ys → Each P (xs ++ ys)
-each_append P [] ys h k = k
-each_append P (x ∷ xs) ys h k = (h.0, each_append P xs ys h.1 k)
+use Rattle.dwz_model.proofs.Members.{each_append}
 
 among_is : (place : ℕ → ℕ) (own : List ℕ) (at p : ℕ) (b : Bool) → has p own ≡ b
     → entry_among place own at p ≡ (if b then Ok (ref (place p)) else entry_among place [] at p)

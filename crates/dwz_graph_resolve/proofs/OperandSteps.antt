@@ -25,7 +25,7 @@ use Rattle.dwz_expr.specs.FirstFault.{AreAsked, ReadsInto, asked, unless_one}
 use Rattle.dwz_graph_resolve.specs.declared.state.State.{State}
 use Rattle.dwz_graph_resolve.specs.Named.{Found, found, found_in, map_ok}
 use Rattle.dwz_def_reading.specs.Shared.{NamedList}
-use Rattle.dwz_graph_resolve.proofs.NamedSteps.{each_append}
+use Rattle.dwz_model.proofs.Members.{each_append}
 use Rattle.dwz_graph_resolve.proofs.PlaceLemmas.{among_none, among_there}
 use Rattle.dwz_graph_resolve.proofs.RowLemmas.{take_here}
 use Rattle.dwz_graph_resolve.proofs.SurroundingLemmas.{own_all, own_places}

@@ -23,7 +23,7 @@ use Rattle.dwz_graph_resolve.specs.declared.state.State.{State}
 use Rattle.dwz_graph_resolve.specs.declared.surroundings.Surroundings.{Surroundings}
 use Rattle.dwz_graph_resolve.proofs.LineSteps.{no_lines}
 use Rattle.dwz_graph_resolve.proofs.NamedLemmas.{node_found, node_lists, node_same}
-use Rattle.dwz_graph_resolve.proofs.NamedSteps.{each_append}
+use Rattle.dwz_model.proofs.Members.{each_append}
 use Rattle.dwz_graph_resolve.proofs.RowLemmas.{take_here}
 use Rattle.dwz_graph_resolve.proofs.UnitThere.{get_behind, get_front}
 use Rattle.dwz_unit.specs.declared.rows.RawUnit.{RawUnit as UnitOfCode}

@@ -23,12 +23,12 @@ use Rattle.dwz_graph_resolve.proofs.PassLemmas.{same_sym, same_trans}
 
 -- ---- members
 
-in_contains : {X : Type 0} (xs : List X) (x : X) → In x xs → Contains xs x
+pub in_contains : {X : Type 0} (xs : List X) (x : X) → In x xs → Contains xs x
 in_contains [] x is = absurd is
 in_contains (y ∷ xs) x (inl e) = (0, omega arith, e)
 in_contains (y ∷ xs) x (inr later) = let r = in_contains xs x later in let lt = r.1 in (suc r.0, omega arith, r.2)
 
-contains_in : {X : Type 0} (xs : List X) (x : X) → Contains xs x → In x xs
+pub contains_in : {X : Type 0} (xs : List X) (x : X) → Contains xs x → In x xs
 contains_in [] x c = absurd (let lt = c.1 in omega arith)
 contains_in (y ∷ xs) x (zero, lt, e) = inl e
 contains_in (y ∷ xs) x (suc k, lt, e) = inr (contains_in xs x (k, omega arith, e))

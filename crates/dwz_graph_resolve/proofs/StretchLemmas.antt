@@ -14,7 +14,7 @@ use Rattle.dwz_graph_resolve.specs.Stretches.{IsStretch, IsWhole, JoinsLists}
 use Rattle.dwz_graph_resolve.specs.Surroundings.{around_in, common_view, entries_among, place_among}
 use Rattle.dwz_graph_resolve.proofs.JoinLemmas.{goes_on_both, lines_both, range_both, shows_both}
 use Rattle.dwz_graph_resolve.proofs.NamedLemmas.{collect_append}
-use Rattle.dwz_graph_resolve.proofs.NamedSteps.{each_append}
+use Rattle.dwz_model.proofs.Members.{each_append}
 use Rattle.dwz_graph_resolve.proofs.PartSteps.{all_parted}
 
 -- references were put together

@@ -19,12 +19,12 @@ use Rattle.dwz_def_reading.proofs.FileLemmas.{file_agrees}
 use Rattle.dwz_def_reading.proofs.ListFacts.{got_below, got_map, got_there}
 use Rattle.dwz_graph.specs.declared.file.File.{File}
 use Rattle.dwz_graph.specs.Files.{AreKept, docs_of}
-use Rattle.dwz_graph_resolve.specs.Places.{place_at, places}
+use Rattle.dwz_graph.specs.Places.{place_at, places}
 use Rattle.dwz_graph.proofs.FileLemmas.{files_few}
-use Rattle.dwz_graph_resolve.proofs.PlaceLemmas.{entry_place, places_many, places_rise}
-use Rattle.dwz_graph_resolve.proofs.RowLemmas.{entry_row, row_is, row_there, rows-length}
+use Rattle.dwz_graph.proofs.PlaceLemmas.{entry_place, places_many, places_rise}
+use Rattle.dwz_graph.proofs.RowLemmas.{entry_row, row_is, row_there, rows-length}
 use Rattle.dwz_graph.proofs.RowUnits.{unit_within}
-use Rattle.dwz_graph_resolve.proofs.SearchLemmas.{Rise}
+use Rattle.dwz_graph.proofs.SearchLemmas.{Rise}
 use Rattle.dwz_unit.specs.declared.rows.RawEntry.{RawEntry as EntryOfCode}
 use Rattle.dwz_unit.specs.Rows.{EntryRow, attr_count, entry_shown, rows_of, shown_entries, units_of}
 use Rattle.dwz_unit.specs.Values.{Reads}

@@ -10,12 +10,12 @@ use Rattle.dwz_def_reading.specs.Units.{RawUnit}
 use Rattle.dwz_def_reading.proofs.ListFacts.{in_cases, same_got}
 use Rattle.dwz_def_reading.proofs.MeaningLemmas.{has_in}
 use Rattle.dwz_graph.specs.declared.file.File.{File}
-use Rattle.dwz_graph_resolve.specs.declared.here.Here.{Here}
+use Rattle.dwz_graph.specs.Here.{Here}
 use Rattle.dwz_graph.specs.Files.{IsRead}
-use Rattle.dwz_graph_resolve.specs.Resolved.{IsHere, IsUnitHere, sources_view}
+use Rattle.dwz_graph.specs.Resolved.{IsHere, IsUnitHere, sources_view}
 use Rattle.dwz_label_entries.specs.Plain.{KnowsLine}
 use Rattle.dwz_label_entries.proofs.AttrsLemmas.{entry_in, line_for}
-use Rattle.dwz_graph_resolve.proofs.RowLemmas.{entry_row}
+use Rattle.dwz_graph.proofs.RowLemmas.{entry_row}
 use Rattle.dwz_graph.proofs.RowUnits.{unit_within}
 use Rattle.dwz_unit.specs.Rows.{EntryRow, rows_of, shown_entries, units_of}
 use Rattle.dwz_unit.specs.declared.rows.RawEntry.{RawEntry as EntryOfCode}

@@ -13,14 +13,14 @@ use Rattle.dwz_def_reading.specs.Units.{RawUnit, entries_in}
 use Rattle.dwz_def_tops.specs.Spaces.{space_text}
 use Rattle.dwz_def_tops.specs.Spots.{SpaceName}
 use Rattle.dwz_graph.specs.declared.file.File.{File}
-use Rattle.dwz_graph_resolve.specs.declared.here.Here.{Here}
+use Rattle.dwz_graph.specs.Here.{Here}
 use Rattle.dwz_graph.specs.declared.index.SpaceEntry.{SpaceEntry}
 use Rattle.dwz_graph.specs.Chains.{AreSpacesAt, IsOut, IsSpaceAt}
 use Rattle.dwz_graph.specs.Files.{IsRead}
 use Rattle.dwz_graph.specs.Index.{Index}
-use Rattle.dwz_graph_resolve.specs.Resolved.{IsHere, IsUnitHere}
+use Rattle.dwz_graph.specs.Resolved.{IsHere, IsUnitHere}
 use Rattle.dwz_graph.specs.Spaces.{IsOwn}
-use Rattle.dwz_graph_resolve.proofs.RowLemmas.{row_is, rows-length}
+use Rattle.dwz_graph.proofs.RowLemmas.{row_is, rows-length}
 use Rattle.dwz_unit.specs.declared.rows.RawEntry.{RawEntry as EntryOfCode}
 use Rattle.dwz_unit.specs.declared.rows.RawUnit.{RawUnit as UnitOfCode}
 use Rattle.dwz_unit.specs.Rows.{EntryRow, rows_of, shown_entries, units_of}

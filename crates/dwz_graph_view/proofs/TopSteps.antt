@@ -18,7 +18,7 @@ use Rattle.dwz_graph.specs.Files.{AreKept, docs_of}
 use Rattle.dwz_graph.specs.Index.{Index}
 use Rattle.dwz_graph.specs.Indexed.{AreIndexes}
 use Rattle.dwz_graph.specs.Names.{names_from, path_in, top_in}
-use Rattle.dwz_graph_resolve.specs.Places.{place_at}
+use Rattle.dwz_graph.specs.Places.{place_at}
 use Rattle.dwz_law_files.specs.Across.{name_at}
 use Rattle.dwz_law_files.specs.AcrossLaws.{IsAmong}
 use Rattle.dwz_law_files.proofs.FileCounts.{are_many}

@@ -9,7 +9,7 @@ use Rattle.dwz_graph.specs.declared.file.File.{File}
 use Rattle.dwz_graph.specs.Files.{AreKept, AreRead, docs_of}
 use Rattle.dwz_graph.proofs.GraphLemmas.{files_read}
 use Rattle.dwz_graph.proofs.IndexRoom.{entries_few, many_units}
-use Rattle.dwz_graph_resolve.proofs.UnitThere.{get_behind, get_front}
+use Rattle.dwz_graph.proofs.UnitThere.{get_behind, get_front}
 use Rattle.dwz_unit.specs.Rows.{units_of}
 use Rattle.dwz_unit.proofs.ShownLemmas.{units_few}
 use Rattle.dwz_graph_view.specs.Finding.{HasUnit}

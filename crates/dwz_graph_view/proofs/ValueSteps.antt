@@ -18,8 +18,8 @@ use Rattle.dwz_def_reading.specs.LocLists.{LocList}
 use Rattle.dwz_def_reading.specs.Meanings.{MeaningContext, any_with_address, block_begins, bytes_of, expr_context, expr_value, has, loc_value, number_of, offset_of, path_by}
 use Rattle.dwz_def_reading.specs.Meant.{as_class, entry_among, expr_meaning, expr_said, file_by, path_or, row_of_table}
 use Rattle.dwz_def_reading.proofs.PartLemmas.{bind_ok}
-use Rattle.dwz_graph_resolve.specs.FileRows.{HasTable, table_at}
-use Rattle.dwz_graph_resolve.specs.Operands.{is_named}
+use Rattle.dwz_graph.specs.FileRows.{HasTable, table_at}
+use Rattle.dwz_graph.specs.Operands.{is_named}
 use Rattle.dwz_graph_view.specs.PieceRows.{AreExprs, ArePieces}
 use Rattle.dwz_graph_view.specs.ValueViews.{Shows, named_in, part_of, value_in, value_shown}
 use Rattle.dwz_graph_view.specs.declared.value_views.ValueView.TheVariants as shown

@@ -5,7 +5,7 @@ ghost use Rattle.std.specs.Option.{option_map};
 ghost use Rattle.dwz_def_reading.specs.Meanings.{Around, without_siblings};
 ghost use Rattle.dwz_def_reading.specs.Units.{entries_in};
 ghost use Rattle.dwz_graph.specs.Files.{docs_of};
-ghost use Rattle.dwz_graph_resolve.specs.Places.{place_at};
+ghost use Rattle.dwz_graph.specs.Places.{place_at};
 ghost use Rattle.dwz_graph_view.specs.EntryRows.{IsNumberAt, IsRowOf};
 ghost use Rattle.dwz_graph_view.specs.EntryViews.{EntrySpot, entry_at, entry_view, first_offset};
 ghost use Rattle.dwz_unit.specs.Rows.{EntryRow, rows_of, units_of};

@@ -10,7 +10,7 @@ ghost use Rattle.dwz_unit.specs.Rows.{EntryRow, rows_of, units_of};
 
 use dwz_codes::{Class, DW_AT_LANGUAGE, class_of};
 use dwz_forms::Raw;
-use dwz_graph_resolve::first_attr;
+use dwz_graph::first_attr;
 use dwz_label_entries::number_of;
 use dwz_unit::Units;
 

@@ -11,7 +11,7 @@ ghost use Rattle.dwz_def_reading.specs.Meanings.{MeaningContext, entries_for, ha
 ghost use Rattle.dwz_def_reading.specs.Meant.{expr_meaning, list_from, list_meaning};
 ghost use Rattle.dwz_def_reading.specs.Sequences.{read_from};
 ghost use Rattle.dwz_def_reading.specs.Shared.{operands_of};
-ghost use Rattle.dwz_graph_resolve.specs.Operands.{is_named};
+ghost use Rattle.dwz_graph.specs.Operands.{is_named};
 ghost use Rattle.dwz_lists.specs.Gathering.{in_lists};
 ghost use Rattle.dwz_model.specs.declared.place.Piece.TheVariants.{Raw};
 ghost use Rattle.dwz_graph_view.specs.Settings.{KnowsSetting};
@@ -22,7 +22,7 @@ ghost use Rattle.dwz_graph_view.specs.ValueViews.{Shows};
 use crate::setting::Setting;
 use crate::value_views::ValueView;
 use dwz_expr::{Operand, Ops, read_into};
-use dwz_graph_resolve::slot;
+use dwz_graph::slot;
 use dwz_label_entries::{behind, front};
 use dwz_lists::{walk, walk_into};
 use dwz_model::{Base, Blob, DEBUG_INFO, Exprs, NoMemory, Piece, Pieces, Place, ReadErr};

@@ -8,8 +8,7 @@ ghost use Rattle.dwz_graph.specs.Files.{IsRead};
 ghost use Rattle.dwz_graph_view.specs.Settings.{IsSettingOf, IsSomeFile};
 ghost use Rattle.dwz_unit.specs.Rows.{EntryRow, rows_of, units_of};
 
-use dwz_graph::File;
-use dwz_graph_resolve::{Here, InputSections, here_of};
+use dwz_graph::{File, Here, InputSections, here_of};
 use dwz_lines::TableRows;
 use std::alloc::Global;
 

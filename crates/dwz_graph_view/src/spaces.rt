@@ -12,8 +12,7 @@ ghost use Rattle.dwz_graph_view.specs.SpaceRows;
 ghost use Rattle.dwz_graph_view.specs.SpaceRows.{HasTopAt, IsWayOut};
 ghost use Rattle.dwz_unit.specs.Rows.{units_of};
 
-use dwz_graph::{File, Graph, Index, SpaceEntry, TopEntry, space_text};
-use dwz_graph_resolve::here_of;
+use dwz_graph::{File, Graph, Index, SpaceEntry, TopEntry, here_of, space_text};
 use dwz_model::NoMemory;
 use std::alloc::Global;
 

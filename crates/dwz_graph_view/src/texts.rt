@@ -8,14 +8,14 @@ ghost use Rattle.dwz_def_reading.specs.Meanings;
 ghost use Rattle.dwz_def_reading.specs.Meanings.{MeaningContext, offset_of, path_by, stmt_list, str_offsets_base};
 ghost use Rattle.dwz_def_reading.specs.Meant.{file_by, path_or, text_from, text_or};
 ghost use Rattle.dwz_def_reading.specs.Texts.{text_at};
-ghost use Rattle.dwz_graph_resolve.specs.Parts.{numbers_file};
+ghost use Rattle.dwz_graph.specs.Parts.{numbers_file};
 ghost use Rattle.dwz_label_entries.specs.Plain.{KnowsLine};
 ghost use Rattle.dwz_graph_view.specs.Settings.{KnowsSetting};
 ghost use Rattle.dwz_graph_view.specs.ValueViews.{Shows};
 
 use crate::setting::Setting;
 use crate::value_views::ValueView;
-use dwz_graph_resolve::{slot, text_in};
+use dwz_graph::{slot, text_in};
 use dwz_label_entries::row_of;
 use dwz_model::{Blob, NoMemory};
 

@@ -19,7 +19,7 @@ use crate::setting::Setting;
 use crate::texts::{file_view, text_by_slot, text_view};
 use crate::value_views::ValueView;
 use dwz_codes::{Class, class_of, names_file, names_list};
-use dwz_graph_resolve::offset_of;
+use dwz_graph::offset_of;
 use dwz_label_entries::{bytes_of, is_set, number_of, width_of};
 use dwz_model::{Base, NoMemory};
 use dwz_unit::RawAttr;

@@ -12,7 +12,7 @@ use Rattle.dwz_def_reading.specs.Trees.{End, Entry, Forest, Position, behind, fi
 use Rattle.dwz_def_reading.specs.Units.{RawUnit, entry_count}
 use Rattle.dwz_def_expand.specs.Source.{imported_by, imported_in}
 use Rattle.dwz_graph.specs.Rows.{nodes}
-use Rattle.dwz_graph_resolve.specs.Surroundings.{behind_own}
+use Rattle.dwz_graph.specs.Surroundings.{behind_own}
 use Rattle.dwz_groups.specs.declared.groups.Edge.{Edge}
 use Rattle.dwz_unit.specs.Rows.{EntryRow, rows_below, rows_from, rows_in}
 use Rattle.dwz_imports.specs.Imports.{AreUnits, imports_any, same, unit_nodes}

@@ -12,7 +12,7 @@ use Rattle.dwz_def_reading.specs.Units.{RawUnit}
 use Rattle.dwz_def_reading.proofs.FileLemmas.{file_agrees_by}
 use Rattle.dwz_def_reading.proofs.MeaningUnits.{units_agree}
 use Rattle.dwz_graph.specs.ByRule.{numbered_rule}
-use Rattle.dwz_graph_resolve.specs.Surroundings.{behind_own}
+use Rattle.dwz_graph.specs.Surroundings.{behind_own}
 use Rattle.dwz_unit.specs.Rows.{units_of}
 use Rattle.dwz_imports.specs.ImportLaws.{SaysAloneLaw, SaysBesideLaw}
 

@@ -14,7 +14,7 @@ use Rattle.dwz_def_reading.specs.Entries.{RawAttr, RawEntry}
 use Rattle.dwz_def_reading.specs.Meanings.{Common, IfSo, IsFileBy, IsLocList, MeanAttrs, MeaningContext, MeansAs, MeansAttr, MeansNode}
 use Rattle.dwz_def_reading.specs.Meanings.{constant_value, number_of, offset_of, stmt_list, without_siblings}
 use Rattle.dwz_def_expand.specs.Source.{is_entry, is_import, is_import_attr}
-use Rattle.dwz_graph_resolve.specs.Surroundings.{behind_own}
+use Rattle.dwz_graph.specs.Surroundings.{behind_own}
 use Rattle.dwz_imports.specs.Imports.{same}
 use Rattle.dwz_imports.specs.Stored.{common_named, common_place, own_named, own_place}
 use Rattle.dwz_imports.proofs.Grouped.{has_append, not_equal}

@@ -10,6 +10,7 @@ use Rattle.std.proofs.lemmas.List.Sorted.{Contains-permutation, IsPermutation-sy
 use Rattle.std.proofs.lemmas.Map.Keys.{IsStrictlyIncreasing-dedup}
 use Rattle.dwz_model.specs.Lists.{In}
 use Rattle.dwz_imports.specs.Stored.{numbers_where}
+use Rattle.dwz_graph.proofs.SharedLaw.{contains_in, in_contains}
 
 -- ---- rising numbers
 
@@ -66,16 +67,6 @@ strict_rise (x ∷ xs) s first h = (
 )
 
 -- ---- numbers in order, each once
-
-pub in_contains : {X : Type 0} (xs : List X) (x : X) → In x xs → Contains xs x
-in_contains [] x is = absurd is
-in_contains (y ∷ xs) x (inl e) = (0, omega arith, e)
-in_contains (y ∷ xs) x (inr later) = let r = in_contains xs x later in let lt = r.1 in (suc r.0, omega arith, r.2)
-
-pub contains_in : {X : Type 0} (xs : List X) (x : X) → Contains xs x → In x xs
-contains_in [] x c = absurd (let lt = c.1 in omega arith)
-contains_in (y ∷ xs) x (zero, lt, e) = inl e
-contains_in (y ∷ xs) x (suc k, lt, e) = inr (contains_in xs x (k, omega arith, e))
 
 pub in_order : (old sorted new ys : List ℕ) → IsPermutation old sorted → IsSorted nat_cmp sorted → new ≡ dedup eqb sorted → RiseFrom 0 ys → ((n : ℕ) → In n old ↔ In n ys) → new ≡ ys
 in_order old sorted new ys moved is once rise both =

@@ -12,7 +12,7 @@ use Rattle.dwz_def_reading.specs.Entries.{RawEntry}
 use Rattle.dwz_def_reading.specs.Meanings.{Around, Common, MeanUnits, MeaningContext, MeansKind, MeansNode, scope_of}
 use Rattle.dwz_def_reading.specs.Units.{CompileUnit, PartialUnit, RawKind, RawUnit, TypeUnit}
 use Rattle.dwz_def_expand.specs.Source.{imported_by, is_import, is_import_attr, is_partial, once}
-use Rattle.dwz_graph_resolve.specs.Surroundings.{behind_own}
+use Rattle.dwz_graph.specs.Surroundings.{behind_own}
 use Rattle.dwz_imports.specs.Imports.{AreUnits, is_some_unit, same}
 use Rattle.dwz_imports.specs.Stored.{common_named, entry_parts, is_part_at, is_partial_kind, is_some_number, named_parts, numbers_where, once_each, own_named}
 use Rattle.dwz_imports.proofs.Grouped.{not_equal}

@@ -12,9 +12,9 @@ use Rattle.dwz_def_reading.proofs.MeaningUnits.{units_agree}
 use Rattle.dwz_def_cross.specs.Tops.{WithCommon, units_with_common}
 use Rattle.dwz_def_expand.specs.Source.{imported_in, once}
 use Rattle.dwz_graph.proofs.RowUnits.{unit_within}
-use Rattle.dwz_graph_resolve.proofs.PlaceLemmas.{unit_and_entries}
-use Rattle.dwz_graph_resolve.proofs.SearchLemmas.{Rise}
-use Rattle.dwz_graph_resolve.specs.Surroundings.{behind_own}
+use Rattle.dwz_graph.proofs.PlaceLemmas.{unit_and_entries}
+use Rattle.dwz_graph.proofs.SearchLemmas.{Rise}
+use Rattle.dwz_graph.specs.Surroundings.{behind_own}
 use Rattle.dwz_groups.specs.Groups.{grouped}
 use Rattle.dwz_unit.specs.Rows.{EntryRow, Source, rows_of, units_of}
 use Rattle.dwz_imports.specs.Imports.{AreImportLists, AreUnits, importing_flags, imports_any, same, unit_nodes}
@@ -24,6 +24,7 @@ use Rattle.dwz_imports.proofs.Children.{all_edges, all_import, children_units, i
 use Rattle.dwz_imports.proofs.Grouped.{grouped_back}
 use Rattle.dwz_imports.proofs.PartLists.{Apart, once_units}
 use Rattle.dwz_imports.proofs.RootPlaces.{all_below, begins, begins_rise, rise_one}
+use Rattle.dwz_graph.proofs.IndexRoom.{units_same}
 
 -- ---- places of units among all places
 
@@ -51,12 +52,6 @@ beside_rise None i j l m = absurd (omega (arith, m))
 beside_rise (Some s) i j l m = begins_rise s i j l m
 
 -- ---- units of a document, by the units that mean them
-
-pub means_long : (around : Around ℕ) (us : List RawUnit) (vs : List (DwUnit ℕ)) → MeanUnits around us vs → length us ≡ length vs
-means_long around [] [] h = refl
-means_long around [] (v ∷ vs) h = absurd h
-means_long around (u ∷ us) [] h = absurd h
-means_long around (u ∷ us) (v ∷ vs) h = ap (λ (n : ℕ). suc n) (means_long around us vs h.1)
 
 pub record Meant (around : Around ℕ) (us : List RawUnit) (k : ℕ) (v : DwUnit ℕ) : Type 0 where
   pub unit : RawUnit
@@ -129,7 +124,7 @@ module _ (s : Source) (o : Option Source) (short : length s.info < 2 ^ 32) (w : 
       (ap (λ (y : DwUnit ℕ). y.at) (sym is) ∙ ap behind_own (at ∙ sym (begins_at common k m.unit m.got)), got_below common k m.unit m.got)
 
   long : length own ≡ length w.own
-  long = means_long says.around own w.own means
+  long = units_same says.around own w.own means
 
   apart : Apart all
   apart k l v x e f same = by (of_two w.own (map (unit_map behind_own) says.said) k v e) (of_two w.own (map (unit_map behind_own) says.said) l x f) where

@@ -10,7 +10,7 @@ use Rattle.dwz_def_tops.specs.Shown.{units_keys}
 use Rattle.dwz_def_expand.specs.Source.{imported_in, once}
 use Rattle.dwz_graph.specs.declared.file.File.{File}
 use Rattle.dwz_graph.specs.ByRule.{IsReadBy, numbered_rule}
-use Rattle.dwz_graph_resolve.specs.Surroundings.{behind_own}
+use Rattle.dwz_graph.specs.Surroundings.{behind_own}
 use Rattle.dwz_unit.specs.declared.mode.FileKind.{FileKind}
 use Rattle.dwz_unit.specs.Rows.{units_of}
 use Rattle.dwz_imports.specs.Imports.{AreUnits, imports_any, same}

@@ -5,7 +5,7 @@ use Rattle.dwz_def_reading.specs.Meanings.{Around, Common, all_places}
 use Rattle.dwz_def_reading.specs.Meant.{units_meaning}
 use Rattle.dwz_def_reading.specs.Units.{RawUnit}
 use Rattle.dwz_def_cross.specs.Tops.{WithCommon}
-use Rattle.dwz_graph_resolve.specs.Surroundings.{behind_own}
+use Rattle.dwz_graph.specs.Surroundings.{behind_own}
 use Rattle.dwz_unit.specs.Rows.{Source, units_of}
 
 -- the units of the common file, as they are stored; none, where there is no such file

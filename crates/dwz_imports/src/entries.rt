@@ -8,7 +8,7 @@ ghost use Rattle.dwz_def_reading.specs.Meanings;
 ghost use Rattle.dwz_def_reading.specs.Units.{entries_in};
 ghost use Rattle.dwz_bytes.specs.Spelling.{reach};
 ghost use Rattle.dwz_forms.specs.RawValues.{raw_view};
-ghost use Rattle.dwz_graph_resolve.specs.Resolved.{stored};
+ghost use Rattle.dwz_graph.specs.Resolved.{stored};
 ghost use Rattle.dwz_imports.specs.Said.{raw_beside};
 ghost use Rattle.dwz_imports.specs.Stored.{IsPartOf, NamesPart, common_named, common_place, named_parts, own_named, own_place};
 ghost use Rattle.dwz_unit.specs.Rows.{EntryRow, rows_of, units_of};
@@ -16,7 +16,7 @@ ghost use Rattle.dwz_unit.specs.Rows.{EntryRow, rows_of, units_of};
 use crate::roots::part_at;
 use dwz_codes::{Class, DW_AT_IMPORT, class_of};
 use dwz_forms::Raw;
-use dwz_graph_resolve::offset_of;
+use dwz_graph::offset_of;
 use dwz_model::{NoMemory, Pair};
 use dwz_unit::{Units, Values, known_value};
 

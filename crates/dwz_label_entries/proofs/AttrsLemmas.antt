@@ -19,8 +19,8 @@ use Rattle.dwz_def_reading.specs.Documents.{Attr, attr_map}
 use Rattle.dwz_def_reading.specs.LineTables.{FileTable}
 use Rattle.dwz_def_reading.specs.Meanings.{Around, MeaningContext, scope_of, without_siblings}
 use Rattle.dwz_def_reading.specs.Meant.{attr_with, attrs_meaning, meaning, with_attr}
-use Rattle.dwz_graph_resolve.specs.Named.{attrs_refs, entries_of, preorder}
-use Rattle.dwz_graph_resolve.specs.Parts.{HasLine}
+use Rattle.dwz_graph.specs.Named.{attrs_refs, entries_of, preorder}
+use Rattle.dwz_graph.specs.Parts.{HasLine}
 use Rattle.dwz_unit.specs.Rows.{EntryRow, rows_below, rows_from, rows_in, rows_of}
 
 -- ---- what is left

@@ -24,7 +24,7 @@ use Rattle.dwz_def_reading.specs.Shared.{operands_of}
 use Rattle.dwz_model.specs.declared.fault.Fault.{Fault}
 use Rattle.dwz_model.specs.declared.fault.ReadErr.TheVariants.{Refused}
 use Rattle.dwz_model.specs.declared.fault.Reason.TheVariants.{BadList}
-use Rattle.dwz_graph_resolve.specs.Operands.{is_named}
+use Rattle.dwz_graph.specs.Operands.{is_named}
 
 -- the list that the value names
 within : (s : MeaningContext ℕ) (f : Fault) (v : Value ℕ) (r : Result LocList Fault) (b : Bool) → (if b then (r >>= loc_said s) else Err f) ≡ Ok v → (l : LocList) × (r ≡ Ok l) × (loc_value s l ≡ v)

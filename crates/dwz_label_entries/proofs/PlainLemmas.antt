@@ -22,8 +22,8 @@ use Rattle.dwz_model.specs.declared.fault.Fault.{Fault}
 use Rattle.dwz_model.specs.declared.fault.Reason.TheVariants.{BadFile, BadReference}
 use Rattle.dwz_def_reading.specs.LineTables.{file_table_at}
 use Rattle.dwz_def_reading.proofs.PartLemmas.{bind_ok}
-use Rattle.dwz_graph_resolve.specs.Named.{refs_beside, value_refs}
-use Rattle.dwz_graph_resolve.specs.Parts.{numbers_file}
+use Rattle.dwz_graph.specs.Named.{refs_beside, value_refs}
+use Rattle.dwz_graph.specs.Parts.{numbers_file}
 use Rattle.dwz_graph.proofs.PlainBeside.{none_beside}
 
 -- ---- values that name nothing

@@ -8,7 +8,7 @@ use Rattle.dwz_def_reading.specs.Units.{RawUnit, entries_in}
 use Rattle.dwz_graph.specs.Rows.{AreTargets}
 use Rattle.dwz_graph.specs.Names.{path_in, top_in}
 use Rattle.dwz_label.specs.Labels.{each_counted, number, target_label}
-use Rattle.dwz_graph_resolve.specs.Resolved.{place_at}
+use Rattle.dwz_graph.specs.Resolved.{place_at}
 
 pub no_path : (s : EntryName) → top_in s ≡ None → target_label s ≡ 0 ∷ []
 no_path (Within top path) e = absurd cc

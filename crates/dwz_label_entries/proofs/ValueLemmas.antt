@@ -10,7 +10,7 @@ use Rattle.dwz_graph.proofs.StepLemmas.{sibling}
 use Rattle.dwz_label.specs.Labels.{number, value_label}
 use Rattle.dwz_def_reading.specs.Documents.{Attr, value_map}
 use Rattle.dwz_def_reading.specs.Meanings.{MeaningContext}
-use Rattle.dwz_graph_resolve.specs.Named.{attrs_refs, value_refs}
+use Rattle.dwz_graph.specs.Named.{attrs_refs, value_refs}
 
 pub skipped : (raw : List RawUnit) (s : MeaningContext ℕ) (a : RawAttr) (values : List RawAttr) (name : ℕ → EntryName) (attrs : List (Attr ℕ)) (refs old : List ℕ) → a.pair.name ≡ 0x01
     → AreAttrsMeant raw s refs (a ∷ values) attrs → TellsAttr raw s values name attrs refs refs old old

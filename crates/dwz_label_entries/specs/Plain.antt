@@ -12,13 +12,13 @@ use Rattle.dwz_def_reading.specs.Meanings.{MeaningContext}
 use Rattle.dwz_def_reading.specs.Classes.{OfConstant, OfExpression, OfInfoEntry, OfListIndex, OfOffset, OfUnitEntry}
 use Rattle.dwz_def_reading.specs.Classes.{Class}
 use Rattle.dwz_def_reading.specs.Meanings.{loclists_base, stmt_list, str_offsets_base, targets}
-use Rattle.dwz_graph_resolve.specs.declared.here.Here.{Here}
-use Rattle.dwz_graph_resolve.specs.declared.sections.InputSections.{InputSections}
-use Rattle.dwz_graph_resolve.specs.FileRows.{HasTable}
-use Rattle.dwz_graph_resolve.specs.Named.{value_refs}
-use Rattle.dwz_graph_resolve.specs.Operands.{is_named}
-use Rattle.dwz_graph_resolve.specs.Parts.{numbers_file}
-use Rattle.dwz_graph_resolve.specs.Resolved.{sources_view}
+use Rattle.dwz_graph.specs.Here.{Here}
+use Rattle.dwz_graph.specs.InputSections.{InputSections}
+use Rattle.dwz_graph.specs.FileRows.{HasTable}
+use Rattle.dwz_graph.specs.Named.{value_refs}
+use Rattle.dwz_graph.specs.Operands.{is_named}
+use Rattle.dwz_graph.specs.Parts.{numbers_file}
+use Rattle.dwz_graph.specs.Resolved.{sources_view}
 
 -- what is kept of a unit says what its values stand in, in a file without a supplementary one
 pub record KnowsScope (sections : InputSections) (here : Here) (s : MeaningContext ℕ) : Type 0 where

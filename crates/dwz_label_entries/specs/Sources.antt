@@ -10,10 +10,10 @@ use Rattle.dwz_graph.specs.Rows.{AreAttrsMeant, node_refs}
 use Rattle.dwz_label.specs.Labels.{attr_label, each_counted, node_label, value_label}
 use Rattle.dwz_def_reading.specs.Documents.{Attr, Node, Value, attr_map, node_map, value_map}
 use Rattle.dwz_def_reading.specs.Meanings.{Around, MeaningContext}
-use Rattle.dwz_graph_resolve.specs.declared.here.Here.{Here}
-use Rattle.dwz_graph_resolve.specs.Named.{attrs_refs, value_refs}
-use Rattle.dwz_graph_resolve.specs.Parts.{HasLine}
-use Rattle.dwz_graph_resolve.specs.Resolved.{AreEntries, IsHere, around, scope_in}
+use Rattle.dwz_graph.specs.Here.{Here}
+use Rattle.dwz_graph.specs.Named.{attrs_refs, value_refs}
+use Rattle.dwz_graph.specs.Parts.{HasLine}
+use Rattle.dwz_graph.specs.Resolved.{AreEntries, IsHere, around, scope_in}
 use Rattle.dwz_unit.specs.Rows.{EntryRow, units_of}
 
 abbrev pub raw_of : Source → List RawUnit

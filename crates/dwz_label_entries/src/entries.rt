@@ -13,7 +13,7 @@ ghost use Rattle.dwz_unit.specs.Rows.{EntryRow};
 use crate::source::{Scratch, Source};
 use crate::values::put_attr;
 use dwz_codes::DW_AT_SIBLING;
-use dwz_graph_resolve::Here;
+use dwz_graph::Here;
 use dwz_label::put_number;
 use dwz_model::{NoMemory, Pair};
 use dwz_unit::{Values, known_value};

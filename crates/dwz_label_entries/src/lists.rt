@@ -17,7 +17,7 @@ ghost use Rattle.dwz_def_reading.specs.Sequences.{read_from};
 use crate::expressions::put_parts;
 use crate::named::Named;
 use dwz_expr::{Operand, Ops};
-use dwz_graph_resolve::slot;
+use dwz_graph::slot;
 use dwz_label::put_list;
 use dwz_lists::{walk, walk_into};
 use dwz_model::{NoMemory, ReadErr};

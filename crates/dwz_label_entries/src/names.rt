@@ -7,13 +7,12 @@ ghost use Rattle.dwz_graph.specs.Chains.{AreSpacesAt};
 ghost use Rattle.dwz_label.specs.Labels.{counted, each_counted};
 ghost use Rattle.dwz_def_reading.specs.Documents.{Node};
 ghost use Rattle.dwz_def_reading.specs.Meant.{node_meaning};
-ghost use Rattle.dwz_graph_resolve.specs.Resolved.{IsHere, around, scope_in};
+ghost use Rattle.dwz_graph.specs.Resolved.{IsHere, around, scope_in};
 ghost use Rattle.dwz_def_reading.specs.Lists.{Each};
 ghost use Rattle.dwz_def_tops.specs.Spaces;
 ghost use Rattle.dwz_unit.specs.Rows.{EntryRow, rows_of, units_of};
 
-use dwz_graph::space_text;
-use dwz_graph_resolve::{Here, InputSections};
+use dwz_graph::{Here, InputSections, space_text};
 use dwz_label::{put_counted, put_number};
 use dwz_model::NoMemory;
 use dwz_unit::Units;

@@ -9,7 +9,7 @@ ghost use Rattle.dwz_def_reading.specs.Classes;
 ghost use Rattle.dwz_def_reading.specs.Meanings.{MeaningContext, str_offsets_base};
 ghost use Rattle.dwz_def_reading.specs.Classes.{OfConstant, OfInfoEntry, OfOffset, OfUnitEntry};
 ghost use Rattle.dwz_def_reading.specs.Meant.{as_class, meaning};
-ghost use Rattle.dwz_graph_resolve.specs.Resolved.{sources_view, stored};
+ghost use Rattle.dwz_graph.specs.Resolved.{sources_view, stored};
 
 use crate::expressions::put_expr;
 use crate::lists::{put_list_at, put_list_by_slot};
@@ -20,7 +20,7 @@ use crate::texts::put_file_by;
 use dwz_codes::{Class, class_of, names_file, names_list};
 use dwz_expr::Operand;
 use dwz_forms::Raw;
-use dwz_graph_resolve::{Here, InputSections, offset_of};
+use dwz_graph::{Here, InputSections, offset_of};
 use dwz_label::{put_num, put_offset, put_ref};
 use dwz_lines::TableRows;
 use dwz_model::{NoMemory, Pair};

@@ -12,17 +12,16 @@ ghost use Rattle.dwz_def_reading.specs.declared.exprs.Operand.{Operand as Operan
 ghost use Rattle.dwz_def_reading.specs.Documents.{Value};
 ghost use Rattle.dwz_def_reading.specs.Exprs.{first_unnamed};
 ghost use Rattle.dwz_def_reading.specs.Meanings.{MeaningContext, target_of, targets};
-ghost use Rattle.dwz_graph_resolve.specs.Named.{value_refs};
-ghost use Rattle.dwz_graph_resolve.specs.Operands.{is_named};
-ghost use Rattle.dwz_graph_resolve.specs.Resolved.{AreEntries, IsHere, scope_in};
+ghost use Rattle.dwz_graph.specs.Named.{value_refs};
+ghost use Rattle.dwz_graph.specs.Operands.{is_named};
+ghost use Rattle.dwz_graph.specs.Resolved.{AreEntries, IsHere, scope_in};
 ghost use Rattle.dwz_def_reading.specs.Lists.{Each};
 ghost use Rattle.dwz_unit.specs.Rows.{units_of};
 
 use crate::named::Named;
 use crate::targets::{behind, part, put_target, put_targets};
 use dwz_expr::Operand;
-use dwz_graph::Index;
-use dwz_graph_resolve::{Here, InputSections, entry_of};
+use dwz_graph::{Here, Index, InputSections, entry_of};
 use dwz_label::put_number;
 use dwz_model::NoMemory;
 use dwz_unit::Units;

@@ -6,13 +6,13 @@ ghost use Rattle.dwz_label.specs.Labels.{plain_label};
 ghost use Rattle.dwz_def_reading.specs.Documents.{Value};
 ghost use Rattle.dwz_def_reading.specs.Meanings.{MeaningContext, str_offsets_base};
 ghost use Rattle.dwz_def_reading.specs.Meant.{as_class};
-ghost use Rattle.dwz_graph_resolve.specs.Resolved.{sources_view, stored};
+ghost use Rattle.dwz_graph.specs.Resolved.{sources_view, stored};
 
 use crate::numbers::{bytes_of, is_set};
 use crate::texts::{put_text_at, put_text_by_slot};
 use dwz_codes::Class;
 use dwz_forms::Raw;
-use dwz_graph_resolve::{InputSections, offset_of};
+use dwz_graph::{InputSections, offset_of};
 use dwz_label::{put_address, put_block, put_flag, put_index, put_signature, put_text};
 use dwz_model::{NoMemory, Pair};
 

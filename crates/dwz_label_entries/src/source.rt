@@ -3,8 +3,7 @@
 ghost use Rattle.std.specs.Prelude.{◌≡◌, []};
 
 use dwz_expr::Operand;
-use dwz_graph::Index;
-use dwz_graph_resolve::InputSections;
+use dwz_graph::{Index, InputSections};
 use dwz_lines::TableRows;
 use dwz_unit::Units;
 use std::alloc::Global;

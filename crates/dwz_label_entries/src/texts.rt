@@ -10,11 +10,11 @@ ghost use Rattle.dwz_def_reading.specs.Documents.{File, Text, Value};
 ghost use Rattle.dwz_def_reading.specs.LineTables.{FileTable};
 ghost use Rattle.dwz_def_reading.specs.Meanings.{MeaningContext, path_by, stmt_list};
 ghost use Rattle.dwz_def_reading.specs.Meant.{file_by};
-ghost use Rattle.dwz_graph_resolve.specs.Parts.{numbers_file};
+ghost use Rattle.dwz_graph.specs.Parts.{numbers_file};
 
 use crate::numbers::number_of;
 use dwz_forms::Raw;
-use dwz_graph_resolve::{InputSections, slot, text_in};
+use dwz_graph::{InputSections, slot, text_in};
 use dwz_label::{put_file, put_no_file, put_text};
 use dwz_lines::TableRows;
 use dwz_model::NoMemory;

@@ -18,7 +18,7 @@ ghost use Rattle.dwz_unit.specs.Rows.{rows_of};
 use crate::entries::put_rows;
 use crate::names::put_names;
 use crate::source::{Scratch, Source};
-use dwz_graph_resolve::Here;
+use dwz_graph::Here;
 use dwz_label::put_language;
 use dwz_model::NoMemory;
 

@@ -9,15 +9,15 @@ ghost use Rattle.dwz_def_reading.specs.Units.{RawUnit, entries_in};
 ghost use Rattle.dwz_graph.specs.Rows.{AreAttrsMeant, AreTargets};
 ghost use Rattle.dwz_def_reading.specs.Documents.{Attr, Value};
 ghost use Rattle.dwz_def_reading.specs.Meant.{meaning};
-ghost use Rattle.dwz_graph_resolve.specs.Named.{value_refs};
-ghost use Rattle.dwz_graph_resolve.specs.Resolved.{stored};
+ghost use Rattle.dwz_graph.specs.Named.{value_refs};
+ghost use Rattle.dwz_graph.specs.Resolved.{stored};
 
 use crate::plain::put_plain;
 use crate::refs::{behind_refs, put_refs};
 use crate::source::{Scratch, Source};
 use dwz_codes::DW_AT_SIBLING;
 use dwz_forms::Raw;
-use dwz_graph_resolve::Here;
+use dwz_graph::Here;
 use dwz_label::put_number;
 use dwz_model::{NoMemory, Pair};
 

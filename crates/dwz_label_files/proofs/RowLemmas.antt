@@ -13,7 +13,7 @@ use Rattle.dwz_graph.specs.Files.{AreKept, docs_of}
 use Rattle.dwz_graph.specs.declared.index.Starts.{Starts}
 use Rattle.dwz_graph.specs.Index.{Index, next_starts}
 use Rattle.dwz_graph.specs.Indexed.{AreIndexes}
-use Rattle.dwz_graph_resolve.proofs.UnitThere.{get_behind, get_front}
+use Rattle.dwz_graph.proofs.UnitThere.{get_behind, get_front}
 use Rattle.dwz_unit.specs.Rows.{units_of as raw_units}
 
 -- ---- one file

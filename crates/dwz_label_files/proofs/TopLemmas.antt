@@ -31,10 +31,10 @@ use Rattle.dwz_def_reading.specs.Documents.{Doc}
 use Rattle.dwz_def_reading.specs.Files.{around_of}
 use Rattle.dwz_def_reading.specs.Meanings.{Around, Sources, alone, scope_of}
 use Rattle.dwz_def_reading.specs.Meant.{unit_meaning}
-use Rattle.dwz_graph_resolve.specs.Parts.{HasLine}
-use Rattle.dwz_graph_resolve.specs.Resolved.{around}
+use Rattle.dwz_graph.specs.Parts.{HasLine}
+use Rattle.dwz_graph.specs.Resolved.{around}
 use Rattle.dwz_def_reading.specs.Lists.{Each}
-use Rattle.dwz_graph_resolve.proofs.RowLemmas.{rows-length}
+use Rattle.dwz_graph.proofs.RowLemmas.{rows-length}
 use Rattle.dwz_move.specs.Known.{KnowsRefs, StandsAt, tops_of_refs}
 use Rattle.dwz_move.proofs.FileSteps.{rows_meant}
 use Rattle.dwz_unit.specs.declared.rows.RawEntry.{RawEntry}

@@ -7,7 +7,7 @@ use Rattle.dwz_graph.specs.Index.{Index}
 use Rattle.dwz_def_reading.specs.Documents.{DwUnit, language}
 use Rattle.dwz_def_reading.specs.Meanings.{Around}
 use Rattle.dwz_def_reading.specs.Meant.{unit_meaning}
-use Rattle.dwz_graph_resolve.specs.Resolved.{IsHere}
+use Rattle.dwz_graph.specs.Resolved.{IsHere}
 use Rattle.dwz_unit.specs.Rows.{units_of as raw_units}
 
 -- what is kept of the unit with a number

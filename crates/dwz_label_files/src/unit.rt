@@ -6,7 +6,7 @@ ghost use Rattle.dwz_label_files.specs.Unit.{AddsRows, HaveRows, IsUnitRow};
 ghost use Rattle.dwz_unit.specs.Rows.{units_of};
 
 use crate::run::Run;
-use dwz_graph_resolve::{Here, here_of};
+use dwz_graph::{Here, here_of};
 use dwz_label_entries::language_of;
 use dwz_model::NoMemory;
 use dwz_unit::Units;

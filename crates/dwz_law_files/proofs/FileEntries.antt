@@ -21,9 +21,9 @@ use Rattle.dwz_graph.specs.Steps.{all_tops, below_root, is_space}
 use Rattle.dwz_graph.proofs.TopNameLemmas.{all_named, each_named, read_whole}
 use Rattle.dwz_graph.proofs.TopLemmas.{many, named}
 use Rattle.dwz_graph.proofs.TopUnits.{shows}
-use Rattle.dwz_graph_resolve.specs.Resolved.{place_at, places}
-use Rattle.dwz_graph_resolve.proofs.PlaceLemmas.{places_many}
-use Rattle.dwz_graph_resolve.proofs.RowLemmas.{rows-length}
+use Rattle.dwz_graph.specs.Resolved.{place_at, places}
+use Rattle.dwz_graph.proofs.PlaceLemmas.{places_many}
+use Rattle.dwz_graph.proofs.RowLemmas.{rows-length}
 use Rattle.dwz_def_tops.proofs.Members.{in_map_from, nth_in}
 use Rattle.dwz_move.specs.Known.{NamesEntries, StandsAt}
 use Rattle.dwz_move.proofs.StandLemmas.{stands_there}

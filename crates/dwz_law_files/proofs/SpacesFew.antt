@@ -20,8 +20,8 @@ use Rattle.dwz_graph.proofs.AmongLemmas.{spaces_many}
 use Rattle.dwz_graph.proofs.TopNameLemmas.{all_named}
 use Rattle.dwz_graph.specs.Indexed.{IsIndexOf}
 use Rattle.dwz_graph.proofs.IndexRoom.{many_units}
-use Rattle.dwz_graph_resolve.specs.Resolved.{places}
-use Rattle.dwz_graph_resolve.proofs.PlaceLemmas.{places_many}
+use Rattle.dwz_graph.specs.Resolved.{places}
+use Rattle.dwz_graph.proofs.PlaceLemmas.{places_many}
 use Rattle.dwz_law_files.proofs.UnitsFew.{units_few}
 
 under_few : {E : Type 0} (space : E → Bool) (f : Forest E) → spaces_by space f ≤ size f

@@ -11,7 +11,7 @@ use Rattle.dwz_graph.proofs.TreeLemmas.{parts}
 use Rattle.dwz_graph.specs.declared.file.File.{File}
 use Rattle.dwz_graph.specs.Index.{Index}
 use Rattle.dwz_unit.specs.Rows.{EntryRow, rows_below, rows_of}
-use Rattle.dwz_law_files.specs.Across.{IsFileAmong, name_at}
+use Rattle.dwz_layout_order.specs.Across.{IsFileAmong, name_at}
 use Rattle.dwz_layout.specs.declared.known.Row.{Row}
 use Rattle.dwz_law_layout.specs.Knows.{FileRead, ShowsRow, ShowsTree}
 use Rattle.dwz_law_layout.proofs.AfterLemmas.{entries_after, node_after}

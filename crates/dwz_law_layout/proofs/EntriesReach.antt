@@ -17,12 +17,12 @@ use Rattle.dwz_def_plan.proofs.UserLemmas.{stay_fixed}
 use Rattle.dwz_def_images.specs.Units.{changes, kept_unit, kept_units, out_units, partial_units}
 use Rattle.dwz_def_readback.proofs.WithinLemmas.{kept_to}
 use Rattle.dwz_unit.specs.Rows.{EntryRow, rows_of, units_of as raw_units}
-use Rattle.dwz_graph_resolve.specs.Resolved.{place_at}
-use Rattle.dwz_graph_resolve.proofs.RowLemmas.{row_there}
+use Rattle.dwz_graph.specs.Resolved.{place_at}
+use Rattle.dwz_graph.proofs.RowLemmas.{row_there}
 use Rattle.dwz_graph.specs.declared.file.File.{File}
-use Rattle.dwz_law_files.proofs.FileCounts.{are_many}
-use Rattle.dwz_law_files.proofs.FileEntries.{all_entries, gives_top}
-use Rattle.dwz_law_files.proofs.OwnNames.{Own, names_own}
+use Rattle.dwz_layout_order.proofs.FileCounts.{are_many}
+use Rattle.dwz_layout_order.proofs.FileEntries.{all_entries, gives_top}
+use Rattle.dwz_layout_order.proofs.OwnNames.{Own, names_own}
 use Rattle.dwz_layout_numbers.specs.Images.{starts_from}
 use Rattle.dwz_layout_numbers.specs.Names.{all_names}
 use Rattle.dwz_layout_numbers.specs.Owners.{StandsIn}

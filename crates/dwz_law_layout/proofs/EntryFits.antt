@@ -13,7 +13,7 @@ use Rattle.dwz_def_reading.specs.Meant.{attr_with, attrs_meaning, meaning, with_
 use Rattle.dwz_def_tops.specs.Spots.{EntryName}
 use Rattle.dwz_graph.proofs.StepLemmas.{skipped, taken}
 use Rattle.dwz_graph.proofs.TreeLemmas.{node_attrs}
-use Rattle.dwz_graph_resolve.specs.Named.{attrs_refs}
+use Rattle.dwz_graph.specs.Named.{attrs_refs}
 use Rattle.dwz_def_reading.specs.Lists.{Each}
 use Rattle.dwz_unit.specs.Rows.{EntryRow}
 use Rattle.dwz_def_encoding.specs.Carried.{IsStored}

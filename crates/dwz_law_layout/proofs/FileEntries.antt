@@ -15,9 +15,9 @@ use Rattle.dwz_def_plan.specs.Plan.{image}
 use Rattle.dwz_def_images.specs.After.{at_file}
 use Rattle.dwz_def_readback.specs.Files.{name_after}
 use Rattle.dwz_unit.specs.Rows.{EntryRow, rows_of, units_of as raw_units}
-use Rattle.dwz_graph_resolve.specs.Parts.{AreParted}
-use Rattle.dwz_graph_resolve.specs.Resolved.{AreEntries, place_at, places}
-use Rattle.dwz_graph_resolve.proofs.RowLemmas.{rows-length}
+use Rattle.dwz_graph.specs.Parts.{AreParted}
+use Rattle.dwz_graph.specs.Resolved.{AreEntries, place_at, places}
+use Rattle.dwz_graph.proofs.RowLemmas.{rows-length}
 use Rattle.dwz_graph.specs.Rows.{AreTargets, node_refs}
 use Rattle.dwz_graph.proofs.PartLemmas.{part_meant}
 use Rattle.dwz_graph.specs.declared.file.File.{File}
@@ -25,9 +25,9 @@ use Rattle.dwz_graph.specs.declared.index.Starts.{Starts}
 use Rattle.dwz_graph.specs.Index.{Index}
 use Rattle.dwz_graph.specs.Names.{names_from}
 use Rattle.dwz_graph.proofs.TopLemmas.{get_later}
-use Rattle.dwz_law_files.specs.Across.{IsFileAmong, name_at}
-use Rattle.dwz_law_files.proofs.FileEntries.{names_entries}
-use Rattle.dwz_law_files.proofs.FileWalk.{is_among}
+use Rattle.dwz_layout_order.specs.Across.{IsFileAmong, name_at}
+use Rattle.dwz_layout_order.proofs.FileEntries.{names_entries}
+use Rattle.dwz_layout_order.proofs.FileWalk.{is_among}
 use Rattle.dwz_layout_numbers.specs.Images.{IsFile, starts_from}
 use Rattle.dwz_layout_numbers.specs.Names.{StandFrom, all_names}
 use Rattle.dwz_layout_numbers.specs.Whole.{IsFileAt}

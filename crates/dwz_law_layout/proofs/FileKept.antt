@@ -15,8 +15,8 @@ use Rattle.dwz_graph.specs.declared.file.File.{File}
 use Rattle.dwz_graph.specs.Index.{Index}
 use Rattle.dwz_graph.specs.Names.{names_from}
 use Rattle.dwz_graph.proofs.TopNameLemmas.{read_whole}
-use Rattle.dwz_law_files.specs.Across.{IsFileAmong, name_at}
-use Rattle.dwz_law_files.proofs.FileEntries.{names_entries}
+use Rattle.dwz_layout_order.specs.Across.{IsFileAmong, name_at}
+use Rattle.dwz_layout_order.proofs.FileEntries.{names_entries}
 use Rattle.dwz_layout_numbers.specs.Images.{starts_from}
 use Rattle.dwz_layout_order.specs.Kept.{AreKept, imports_at}
 use Rattle.dwz_layout_order.specs.Orders.{Entered, KeptShown}

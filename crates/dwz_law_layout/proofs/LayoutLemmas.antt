@@ -11,7 +11,7 @@ use Rattle.dwz_def_encoding.specs.Placing.{has_key}
 use Rattle.dwz_unit.specs.Rows.{EntryRow, Source, rows_of, units_of as raw_units}
 use Rattle.dwz_graph.specs.declared.file.File.{File}
 use Rattle.dwz_graph.specs.Index.{Index}
-use Rattle.dwz_law_files.specs.Across.{name_at}
+use Rattle.dwz_layout_order.specs.Across.{name_at}
 use Rattle.dwz_layout_numbers.specs.Owners.{StandsIn}
 use Rattle.dwz_layout.specs.declared.known.FileRows.{FileRows}
 use Rattle.dwz_layout.specs.declared.known.EntryTable.{EntryTable}

@@ -20,7 +20,7 @@ use Rattle.dwz_graph.proofs.TopLemmas.{get_cases, get_later}
 use Rattle.dwz_graph.specs.Indexed.{AreIndexed, first_starts, starts_behind}
 use Rattle.dwz_unit.specs.Rows.{EntryRow, units_of as raw_units}
 use Rattle.dwz_graph.proofs.TopThere.{named_same}
-use Rattle.dwz_law_files.specs.Across.{IsFileAmong, file_units}
+use Rattle.dwz_layout_order.specs.Across.{IsFileAmong, file_units}
 use Rattle.dwz_layout_numbers.proofs.NumberingLemmas.{nth_get}
 use Rattle.dwz_layout_order.specs.Shown.{Pairs}
 use Rattle.dwz_layout_order.specs.Spaces.{name_in, spaces_below, spaces_of, name_by as name_with}

@@ -19,12 +19,12 @@ use Rattle.dwz_def_plan.specs.Plan.{image_by}
 use Rattle.dwz_def_images.specs.After.{AreOld, IsNamedBelow}
 use Rattle.dwz_def_images.proofs.ApartTrees.{behind}
 use Rattle.dwz_def_images.proofs.OldFiles.{files_old}
-use Rattle.dwz_graph_resolve.specs.Resolved.{place_at}
+use Rattle.dwz_graph.specs.Resolved.{place_at}
 use Rattle.dwz_graph.specs.declared.file.File.{File}
 use Rattle.dwz_graph.specs.Index.{Index}
 use Rattle.dwz_unit.specs.Rows.{EntryRow, rows_in, rows_of, units_of as raw_units}
 use Rattle.dwz_graph.proofs.TopThere.{alone_means}
-use Rattle.dwz_law_files.specs.Across.{IsFileAmong}
+use Rattle.dwz_layout_order.specs.Across.{IsFileAmong}
 use Rattle.dwz_layout_order.specs.Sorts.{SortBy, SortOf, row_of}
 use Rattle.dwz_layout.specs.declared.known.EntryTable.{EntryTable}
 use Rattle.dwz_layout.specs.declared.order.Sort.{Sort}

@@ -20,7 +20,7 @@ use Rattle.dwz_def_reading.specs.Meant.{meaning}
 use Rattle.dwz_def_reading.proofs.MeaningLemmas.{value_agrees}
 use Rattle.dwz_model.specs.declared.place.Pair.{Pair}
 use Rattle.dwz_def_tops.specs.Spots.{EntryName}
-use Rattle.dwz_graph_resolve.specs.Named.{value_refs}
+use Rattle.dwz_graph.specs.Named.{value_refs}
 use Rattle.dwz_def_encoding.specs.Carried.{IsStored}
 use Rattle.dwz_def_encoding.specs.Placing.{Chosen, CommonUnit, UnitForms, UnitRole, InCommon, InFile, InUnit, NewUnit, OldUnit, Reach, as_constant, as_reference, as_file, as_read, as_line_text, as_slot}
 use Rattle.dwz_def_encoding.specs.Placing.{file_number}

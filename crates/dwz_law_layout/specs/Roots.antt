@@ -8,7 +8,7 @@ use Rattle.dwz_def_plan.specs.Moves.{image_in}
 use Rattle.dwz_unit.specs.Rows.{units_of as raw_units}
 use Rattle.dwz_graph.specs.declared.file.File.{File}
 use Rattle.dwz_graph.specs.Index.{Index}
-use Rattle.dwz_law_files.specs.Across.{IsFileAmong}
+use Rattle.dwz_layout_order.specs.Across.{IsFileAmong}
 use Rattle.dwz_layout_numbers.specs.Images.{starts_from}
 use Rattle.dwz_layout_order.specs.declared.marks.Marks.{Marks}
 use Rattle.dwz_layout_order.specs.declared.outline.Next.{Next}

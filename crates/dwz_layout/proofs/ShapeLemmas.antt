@@ -96,21 +96,5 @@ shape_at decls table place d s same lt is shape =
 
 -- ---- a declaration that is compared with a shape
 
-pair_same : (p q : Pair) → p.name ≡ q.name → p.form ≡ q.form → p.constant ≡ q.constant → p ≡ q
-pair_same p q name form constant = (λ i. record { name = name i; form = form i; constant = constant i })
-
-pub pair_decides : (p q : Pair) → Decides (eqb p.name q.name && (eqb p.form q.form && int_eq p.constant q.constant)) (p ≡ q)
-pair_decides p q =
-    let parts =
-    Decides-and (eqb p.name q.name) (eqb p.form q.form && int_eq p.constant q.constant) (Decides-eqb p.name q.name)
-    (Decides-and (eqb p.form q.form) (int_eq p.constant q.constant) (Decides-eqb p.form q.form) (Decides-int_eq p.constant q.constant)) in
-    (λ e. pair_same p q (parts.0 e).0 (parts.0 e).1.0 (parts.0 e).1.1, λ e. parts.1 (ap (λ (r : Pair). r.name) e, (ap (λ (r : Pair). r.form) e, ap (λ (r : Pair). r.constant) e)))
-
-pub bools_same : (a b : Bool) → not (beq a b) ≡ false → a ≡ b
-bools_same true true e = refl
-bools_same false false e = refl
-bools_same true false e = absurd cc
-bools_same false true e = absurd cc
-
 pub decl_shape : (d : Decl) (tag : ℕ) (children : Bool) (pairs : List Pair) → d.tag ≡ tag → d.children ≡ children → d.pairs ≡ pairs → shape_in (decl_view d) ≡ shape_of tag children pairs
 decl_shape d tag children pairs a b e = (λ i. shape_of (a i) (b i) (e i))

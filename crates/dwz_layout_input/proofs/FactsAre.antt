@@ -3,7 +3,7 @@ use Rattle.std.proofs.Common.{◌≡◌, ℕ, Bool, List, length, map, sym, subs
 use Rattle.dwz_def_tops.specs.Alike.{IsAlike, TopScope}
 use Rattle.dwz_def_tops.specs.Spots.{file_numbers, units_of}
 use Rattle.dwz_def_readback.specs.Files.{imports_common}
-use Rattle.dwz_law_files.proofs.FilesFew.{names_few}
+use Rattle.dwz_layout_order.proofs.FilesFew.{names_few}
 use Rattle.dwz_graph.specs.Files.{docs_of}
 use Rattle.dwz_graph.specs.Index.{Index}
 use Rattle.dwz_def_plan.specs.Homes.{IsChoice}

@@ -5,3 +5,4 @@ pub mod Fits
 pub mod TextSteps
 pub mod FactsAre
 pub mod SettledParts
+pub use Rattle.dwz_plan_files.proofs.PlanFits

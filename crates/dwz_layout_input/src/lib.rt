@@ -19,6 +19,7 @@ mod settled;
 mod texts;
 mod tops;
 
+pub use dwz_plan_files::plan_files;
 pub use facts::facts_laws;
 pub use laws::listed_laws;
 pub use listing::{FileTexts, known_of};

@@ -23,7 +23,7 @@ use Rattle.dwz_layout.specs.declared.order.Sort.{Sort}
 use Rattle.dwz_layout.specs.declared.order.Sort.TheVariants.{OfType as TypeSort}
 use Rattle.dwz_layout.specs.declared.order.UnitItems.{UnitItems}
 use Rattle.dwz_plan.specs.Shows.{import_row}
-use Rattle.dwz_graph_resolve.specs.Resolved.{place_at}
+use Rattle.dwz_graph.specs.Resolved.{place_at}
 use Rattle.dwz_def_images.specs.Units.{changes, kept_unit}
 use Rattle.dwz_layout_order.specs.declared.marks.Marks.{Marks}
 use Rattle.dwz_layout_order.specs.declared.outline.Next.{Next}

@@ -18,7 +18,7 @@ use Rattle.dwz_def_plan.specs.Moves.{Move, image_in}
 use Rattle.dwz_def_plan.specs.Plan.{PartialUnit, imports, part_row}
 use Rattle.dwz_layout.specs.declared.order.UnitItems.{UnitItems}
 use Rattle.dwz_plan.specs.Shows.{import_row}
-use Rattle.dwz_graph_resolve.specs.Resolved.{place_at}
+use Rattle.dwz_graph.specs.Resolved.{place_at}
 use Rattle.dwz_def_images.specs.Units.{changes, partial_unit}
 use Rattle.dwz_def_tops.specs.Seen.{IsPartial}
 use Rattle.dwz_layout_order.specs.declared.marks.Marks.{Marks}

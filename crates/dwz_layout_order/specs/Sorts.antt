@@ -6,7 +6,7 @@ use Rattle.dwz_def_reading.specs.Meanings.{places_of}
 use Rattle.dwz_layout.specs.declared.known.Row.{Row}
 use Rattle.dwz_layout.specs.declared.order.Sort.{Sort}
 use Rattle.dwz_layout.specs.declared.order.Sort.TheVariants.{Compile, OfType}
-use Rattle.dwz_graph_resolve.specs.Resolved.{place_at}
+use Rattle.dwz_graph.specs.Resolved.{place_at}
 
 -- the entry with that number is the one at that offset in the unit, where one of its entries is there
 abbrev pub IsMainOf : List RawUnit → RawUnit → (offset main : ℕ) → Type 0

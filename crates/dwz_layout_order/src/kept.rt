@@ -12,7 +12,7 @@ use crate::marks::Marks;
 use crate::outline::{Next, put_list};
 use crate::sorts::sort_of;
 use dwz_codes::DW_UT_COMPILE;
-use dwz_graph_resolve::InputSections;
+use dwz_graph::InputSections;
 use dwz_layout::UnitItems;
 use dwz_layout_items::{Item, Outer, put_kept, put_whole};
 use dwz_model::{DwzList, NoMemory};

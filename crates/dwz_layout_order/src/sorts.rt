@@ -7,7 +7,7 @@ ghost use Rattle.dwz_unit.specs.Rows.{shown_units, units_of};
 
 use dwz_codes::DW_UT_COMPILE;
 use dwz_expr::Operand;
-use dwz_graph_resolve::{InputSections, entry_of, here_of};
+use dwz_graph::{InputSections, entry_of, here_of};
 use dwz_layout::{Row, Sort};
 use dwz_model::Base;
 use dwz_unit::{RawUnit as RawUnitOfCode, Units};

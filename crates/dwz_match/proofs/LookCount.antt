@@ -7,11 +7,7 @@ use Rattle.dwz_def_tops.specs.Spots.{EntryName, FileUnit, top_count, tops_of}
 use Rattle.dwz_def_images.proofs.OldFiles.{counted, tops_length}
 use Rattle.dwz_def_taken.specs.Beside.{Reused, all_below, as_one, look_units, muted, then_entries, together}
 use Rattle.dwz_def_taken.proofs.LookTops.{AreWhole}
-
-counted_both : (xs ys : List (FileUnit EntryName)) → counted (xs ++ ys) ≡ counted xs + counted ys
-unfolding counted
-counted_both [] ys = (let e : counted ys ≡ 0 + counted ys = omega arith in e)
-counted_both (f ∷ xs) ys = let more = counted_both xs ys in omega (arith, more)
+use Rattle.dwz_def_taken.proofs.NamesOver.{counted_append}
 
 counted_muted : (units : List (FileUnit EntryName)) → counted (map muted units) ≡ counted units
 unfolding counted
@@ -50,8 +46,8 @@ look_many r whole =
     let one = muted (as_one r.file (length r.units) r.commons) in
     let a = tops_length 0 0 (look_units r) in
     let b = tops_length 0 0 (together r) in
-    let d = counted_both (map muted r.units) (one ∷ []) in
-    let e = counted_both r.units r.commons in
+    let d = counted_append (map muted r.units) (one ∷ []) in
+    let e = counted_append r.units r.commons in
     let m = counted_muted r.units in
     let n = one_counted one refl in
     let k = under_all r.commons whole in

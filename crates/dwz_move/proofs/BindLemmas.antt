@@ -26,7 +26,7 @@ use Rattle.dwz_def_reading.specs.Classes.{class_rows, names_file}
 use Rattle.dwz_def_reading.specs.Meant.{meaning}
 use Rattle.dwz_def_reading.proofs.ExprLemmas.{expr_agrees}
 use Rattle.dwz_def_reading.proofs.MeaningLemmas.{value_agrees}
-use Rattle.dwz_graph_resolve.specs.Named.{refs_beside, value_refs}
+use Rattle.dwz_graph.specs.Named.{refs_beside, value_refs}
 use Rattle.dwz_graph.proofs.PlainBeside.{none_beside}
 use Rattle.dwz_move.specs.Bound.{AreInto, count_of, is_expression}
 use Rattle.dwz_graph.specs.Names.{top_in}

@@ -15,7 +15,7 @@ use Rattle.dwz_graph.proofs.StepLemmas.{entry, no_value, sibling, value}
 use Rattle.dwz_def_reading.specs.Documents.{Attr, Node, Value, attr_map, node_map}
 use Rattle.dwz_def_reading.specs.Meanings.{MeaningContext}
 use Rattle.dwz_def_reading.specs.Meant.{attr_with, meaning}
-use Rattle.dwz_graph_resolve.specs.Named.{attrs_refs, value_refs}
+use Rattle.dwz_graph.specs.Named.{attrs_refs, value_refs}
 use Rattle.dwz_unit.specs.declared.rows.RawEntry.{RawEntry as RawEntryOfCode}
 use Rattle.dwz_unit.specs.Rows.{EntryRow, shown_entries}
 use Rattle.dwz_move.specs.Bound.{AreInto}

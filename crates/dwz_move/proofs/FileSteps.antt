@@ -12,7 +12,7 @@ use Rattle.dwz_graph.proofs.PartLemmas.{part_meant, rows_unit}
 use Rattle.dwz_graph.proofs.TreeLemmas.{tree_means}
 use Rattle.dwz_def_reading.specs.Documents.{DwUnit, Node}
 use Rattle.dwz_def_reading.specs.Meanings.{Around, MeaningContext, scope_of}
-use Rattle.dwz_graph_resolve.specs.Resolved.{place_at}
+use Rattle.dwz_graph.specs.Resolved.{place_at}
 use Rattle.dwz_def_reading.specs.Lists.{Each}
 use Rattle.dwz_unit.specs.Rows.{EntryRow, rows_below, rows_of}
 use Rattle.dwz_unit.proofs.RowLemmas.{shown-length}

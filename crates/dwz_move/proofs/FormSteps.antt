@@ -4,7 +4,7 @@ use Rattle.std.specs.Prelude.{is_some}
 use Rattle.std.proofs.lemmas.List.{length-map}
 use Rattle.dwz_def_reading.specs.Entries.{RawAttr}
 use Rattle.dwz_def_reading.specs.Classes.{class_of}
-use Rattle.dwz_graph_resolve.proofs.ValueSteps.{no_pair}
+use Rattle.dwz_graph.proofs.ValueSteps.{no_pair}
 use Rattle.dwz_model.specs.declared.place.Pair.{Pair}
 use Rattle.dwz_unit.specs.Named.{named_count}
 use Rattle.dwz_move.specs.Bound.{is_expression}

@@ -23,7 +23,7 @@ use Rattle.dwz_def_reading.specs.Meant.{meaning}
 use Rattle.dwz_def_reading.proofs.CutLemmas.{le_len}
 use Rattle.dwz_def_reading.proofs.MeaningLemmas.{value_agrees}
 use Rattle.dwz_def_plan.specs.Gain.{attrs_weight, value_weight}
-use Rattle.dwz_graph_resolve.specs.Named.{value_refs}
+use Rattle.dwz_graph.specs.Named.{value_refs}
 use Rattle.dwz_graph.specs.Rows.{AreAttrsMeant, IsEntryMeant}
 use Rattle.dwz_graph.proofs.StepLemmas.{entry as node, no_value, sibling, value}
 use Rattle.dwz_model.specs.declared.place.Pair.{Pair}

@@ -3,7 +3,7 @@ use Rattle.std.proofs.Common.{◌≡◌, ℕ, zero, suc, ◌+◌, ◌<◌, List,
 use Rattle.dwz_def_tops.specs.Spots.{EntryName}
 use Rattle.dwz_def_reading.specs.Units.{RawUnit, entries_in}
 use Rattle.dwz_graph.specs.Names.{top_in}
-use Rattle.dwz_graph_resolve.specs.Resolved.{AreEntries, place_at}
+use Rattle.dwz_graph.specs.Resolved.{AreEntries, place_at}
 use Rattle.dwz_move.specs.Known.{tops_of_refs}
 
 pub entry_at : (raw : List RawUnit) (refs : List ℕ) (k : ℕ) → AreEntries raw refs → k < length refs → get_or refs k 0 < entries_in raw

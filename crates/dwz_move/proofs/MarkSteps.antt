@@ -14,7 +14,7 @@ use Rattle.dwz_graph.proofs.StepLemmas.{entry, sibling, value}
 use Rattle.dwz_def_reading.specs.Documents.{Attr, Node, Value, attr_map, node_map}
 use Rattle.dwz_def_reading.specs.Meanings.{MeaningContext}
 use Rattle.dwz_def_reading.specs.Meant.{attr_with, meaning}
-use Rattle.dwz_graph_resolve.specs.Named.{attrs_refs, value_refs}
+use Rattle.dwz_graph.specs.Named.{attrs_refs, value_refs}
 use Rattle.dwz_groups.specs.Spreading.{IsMarked}
 use Rattle.dwz_unit.specs.Rows.{EntryRow}
 use Rattle.dwz_move.specs.Bound.{AreInto}

@@ -23,7 +23,7 @@ use Rattle.dwz_def_reading.specs.Classes.{names_file, names_list}
 use Rattle.dwz_def_reading.specs.Meant.{meaning}
 use Rattle.dwz_def_reading.proofs.MeaningLemmas.{value_agrees}
 use Rattle.dwz_def_plan.specs.Plan.{pins, uleb_targets}
-use Rattle.dwz_graph_resolve.specs.Named.{value_refs}
+use Rattle.dwz_graph.specs.Named.{value_refs}
 use Rattle.dwz_def_tops.proofs.Targets.{or_first, or_second}
 use Rattle.dwz_move.specs.Bound.{AreInto, is_expression}
 use Rattle.dwz_graph.specs.Names.{top_in}

@@ -18,8 +18,8 @@ use Rattle.dwz_def_reading.specs.Meanings.{MeaningContext}
 use Rattle.dwz_def_reading.specs.Classes.{class_of}
 use Rattle.dwz_def_reading.specs.Meant.{attr_with, meaning}
 use Rattle.dwz_model.specs.declared.place.Pair.{Pair}
-use Rattle.dwz_graph_resolve.specs.Named.{value_refs}
-use Rattle.dwz_graph_resolve.proofs.ValueSteps.{next_read, no_pair}
+use Rattle.dwz_graph.specs.Named.{value_refs}
+use Rattle.dwz_graph.proofs.ValueSteps.{next_read, no_pair}
 use Rattle.dwz_unit.specs.Known.{pairs_of}
 use Rattle.dwz_unit.specs.Named.{named_count, names_entry}
 use Rattle.dwz_unit.specs.Rows.{EntryRow}

@@ -23,8 +23,8 @@ use Rattle.dwz_def_reading.specs.Documents.{Doc, DwUnit, Node}
 use Rattle.dwz_def_reading.specs.Files.{Limits, around_of, file_meaning}
 use Rattle.dwz_def_reading.specs.Meanings.{MeaningContext, scope_of, without_siblings}
 use Rattle.dwz_def_reading.specs.Meant.{attrs_meaning, node_meaning, node_with}
-use Rattle.dwz_graph_resolve.specs.Resolved.{place_at}
-use Rattle.dwz_graph_resolve.proofs.RowLemmas.{rows-length}
+use Rattle.dwz_graph.specs.Resolved.{place_at}
+use Rattle.dwz_graph.proofs.RowLemmas.{rows-length}
 use Rattle.dwz_def_images.proofs.OldNames.{tops_labelled}
 use Rattle.dwz_def_tops.specs.Lists.{NoneTwice}
 use Rattle.dwz_def_tops.specs.Seen.{IsPartial}

@@ -12,7 +12,7 @@ use Rattle.dwz_def_reading.specs.Documents.{Attr, Node, Value, attr_map, node_ma
 use Rattle.dwz_def_reading.specs.Meanings.{MeaningContext, number_of}
 use Rattle.dwz_def_reading.specs.Meant.{meaning}
 use Rattle.dwz_def_plan.specs.Gain.{attrs_weight, value_weight}
-use Rattle.dwz_graph_resolve.specs.Named.{value_refs}
+use Rattle.dwz_graph.specs.Named.{value_refs}
 use Rattle.dwz_unit.specs.Rows.{EntryRow}
 use Rattle.dwz_move.specs.Weights.{capped, node_weight, rows_weight}
 use Rattle.dwz_move.proofs.WeightLemmas.{capped_add}

@@ -8,8 +8,8 @@ use Rattle.dwz_graph.specs.FlatTops.{HasTopOfFile}
 use Rattle.dwz_graph.specs.Names.{top_in}
 use Rattle.dwz_def_reading.specs.Documents.{DwUnit, Node}
 use Rattle.dwz_def_reading.specs.Meanings.{Around}
-use Rattle.dwz_graph_resolve.specs.Parts.{AreParted}
-use Rattle.dwz_graph_resolve.specs.Resolved.{AreEntries, place_at}
+use Rattle.dwz_graph.specs.Parts.{AreParted}
+use Rattle.dwz_graph.specs.Resolved.{AreEntries, place_at}
 
 -- the entries have the names of their places, by their numbers
 abbrev pub NamesEntries : List RawUnit → (ℕ → EntryName) → List EntryName → Type 0

@@ -11,8 +11,8 @@ ghost use Rattle.dwz_def_reading.specs.Documents.{Node, Value, attr_map, node_ma
 ghost use Rattle.dwz_def_reading.specs.Classes;
 ghost use Rattle.dwz_def_reading.specs.Meanings.{MeaningContext};
 ghost use Rattle.dwz_def_reading.specs.Meant.{attr_with, meaning};
-ghost use Rattle.dwz_graph_resolve.specs.Named.{value_refs};
-ghost use Rattle.dwz_graph_resolve.specs.Resolved.{stored};
+ghost use Rattle.dwz_graph.specs.Named.{value_refs};
+ghost use Rattle.dwz_graph.specs.Resolved.{stored};
 ghost use Rattle.dwz_move.specs.Bound;
 ghost use Rattle.dwz_move.specs.Bound.{AreInto, HasTops};
 ghost use Rattle.dwz_graph.specs.Names.{top_in};

@@ -4,7 +4,7 @@ ghost use Rattle.std.specs.Prelude.{◌≡◌, ℕ, ◌<◌, ◌^◌, List, Some
 ghost use Rattle.dwz_def_tops.specs.Spots.{EntryName};
 ghost use Rattle.dwz_def_reading.specs.Units.{RawUnit, entries_in};
 ghost use Rattle.dwz_graph.specs.Index.{IsIndex};
-ghost use Rattle.dwz_graph_resolve.specs.Resolved.{AreEntries, place_at};
+ghost use Rattle.dwz_graph.specs.Resolved.{AreEntries, place_at};
 ghost use Rattle.dwz_graph.specs.Names.{top_in};
 ghost use Rattle.dwz_move.specs.Known.{NamesEntries, tops_of_refs};
 

@@ -17,7 +17,7 @@ use crate::bind::TopRange;
 use crate::marks::{Named, mark_entries};
 use crate::tops::entries_bind;
 use dwz_expr::Operand;
-use dwz_graph_resolve::here_of;
+use dwz_graph::here_of;
 use dwz_model::NoMemory;
 use dwz_unit::Units;
 

@@ -10,7 +10,7 @@ ghost use Rattle.dwz_def_reading.specs.Documents.{Node, Value, node_map};
 ghost use Rattle.dwz_def_reading.specs.Meanings.{MeaningContext, number_of};
 ghost use Rattle.dwz_def_reading.specs.Meant.{meaning};
 ghost use Rattle.dwz_def_plan.specs.Groups.{value_weight};
-ghost use Rattle.dwz_graph_resolve.specs.Resolved.{stored};
+ghost use Rattle.dwz_graph.specs.Resolved.{stored};
 ghost use Rattle.dwz_move.specs.Weights;
 ghost use Rattle.dwz_move.specs.Weights.{capped, node_weight};
 ghost use Rattle.dwz_unit.specs.Rows.{EntryRow, rows_of, units_of};

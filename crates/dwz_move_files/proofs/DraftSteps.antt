@@ -22,9 +22,9 @@ use Rattle.dwz_graph.proofs.TopLemmas.{get_cases, many}
 use Rattle.dwz_def_reading.specs.Documents.{Doc}
 use Rattle.dwz_def_reading.specs.Files.{around_of}
 use Rattle.dwz_def_plan.specs.Gain.{top_weight}
-use Rattle.dwz_graph_resolve.specs.Parts.{AreParted}
-use Rattle.dwz_graph_resolve.specs.Resolved.{place_at}
-use Rattle.dwz_graph_resolve.proofs.RowLemmas.{rows-length}
+use Rattle.dwz_graph.specs.Parts.{AreParted}
+use Rattle.dwz_graph.specs.Resolved.{place_at}
+use Rattle.dwz_graph.proofs.RowLemmas.{rows-length}
 use Rattle.dwz_def_images.specs.After.{at_file, name_of_place}
 use Rattle.dwz_move.specs.Bound.{some_of, somes, target_of}
 use Rattle.dwz_move.specs.Known.{KnowsRefs, StandsAt, tops_of_refs}

@@ -18,8 +18,8 @@ use Rattle.dwz_def_reading.specs.Meant.{units_meaning}
 use Rattle.dwz_def_reading.specs.Shared.{OneOf}
 use Rattle.dwz_def_reading.proofs.FileLemmas.{file_agrees}
 use Rattle.dwz_def_plan.specs.Plan.{pinned_in, pins}
-use Rattle.dwz_graph_resolve.specs.declared.operands.ListOperand.{ListOperand}
-use Rattle.dwz_graph_resolve.specs.Resolved.{AreEntries, place_at}
+use Rattle.dwz_graph.specs.ListOperand.{ListOperand}
+use Rattle.dwz_graph.specs.Resolved.{AreEntries, place_at}
 use Rattle.dwz_move.specs.Known.{in_unit, tops_of_refs}
 use Rattle.dwz_move.specs.Marked.{expression_names, expression_pins}
 use Rattle.dwz_move.proofs.NameMarks.{is_top}

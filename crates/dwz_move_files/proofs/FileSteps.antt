@@ -10,9 +10,9 @@ use Rattle.dwz_graph.specs.Index.{Index}
 use Rattle.dwz_def_reading.specs.Documents.{Doc, unit_map}
 use Rattle.dwz_def_reading.specs.Files.{around_of}
 use Rattle.dwz_def_plan.specs.Plan.{pinned_in}
-use Rattle.dwz_graph_resolve.specs.declared.operands.ListOperand.{ListOperand}
-use Rattle.dwz_graph_resolve.specs.Parts.{AreParted}
-use Rattle.dwz_graph_resolve.specs.Resolved.{AreEntries}
+use Rattle.dwz_graph.specs.ListOperand.{ListOperand}
+use Rattle.dwz_graph.specs.Parts.{AreParted}
+use Rattle.dwz_graph.specs.Resolved.{AreEntries}
 use Rattle.dwz_move.specs.Known.{KnowsRefs, in_unit, tops_of_refs}
 use Rattle.dwz_move.specs.Marked.{Marks, MarksIf, expression_names, expression_pins}
 use Rattle.dwz_unit.specs.Rows.{units_of as raw_units}

@@ -25,7 +25,7 @@ use Rattle.dwz_move.specs.Known.{in_unit, tops_of_refs}
 use Rattle.dwz_def_reading.specs.Lists.{In}
 use Rattle.dwz_def_reading.proofs.ListFacts.{got_below, got_there, in_cases, in_left, in_right, replicate_long}
 use Rattle.dwz_def_reading.proofs.CaseFacts.{same_bool}
-use Rattle.dwz_graph_resolve.specs.declared.operands.ListOperand.{ListOperand}
+use Rattle.dwz_graph.specs.ListOperand.{ListOperand}
 use Rattle.dwz_move.specs.Marked.{Marks, MarksIf, if_asked}
 use Rattle.dwz_groups.specs.Spreading.{IsMarked}
 use Rattle.dwz_move_files.specs.Lists.{entries_of, uleb_tops}

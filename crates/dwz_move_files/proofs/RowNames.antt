@@ -20,10 +20,10 @@ use Rattle.dwz_def_reading.specs.NamedLists.{lists_of_units}
 use Rattle.dwz_def_reading.specs.Shared.{AreRows, ListOperand, NamedList, OneOf, of_unit, operands_in_lists, operands_of, own_operands}
 use Rattle.dwz_def_reading.proofs.MeaningLemmas.{has_in}
 use Rattle.dwz_def_plan.specs.Plan.{plain_parts as plan_parts, uleb_targets}
-use Rattle.dwz_graph_resolve.specs.declared.operands.ListOperand.{ListOperand as Row}
-use Rattle.dwz_graph_resolve.specs.ListRows.{number_for, operand_view, start_of}
-use Rattle.dwz_graph_resolve.specs.Resolved.{place_at}
-use Rattle.dwz_graph_resolve.proofs.PlaceLemmas.{unit_and_entries}
+use Rattle.dwz_graph.specs.ListOperand.{ListOperand as Row}
+use Rattle.dwz_graph.specs.ListRows.{number_for, operand_view, start_of}
+use Rattle.dwz_graph.specs.Resolved.{place_at}
+use Rattle.dwz_graph.proofs.PlaceLemmas.{unit_and_entries}
 use Rattle.dwz_def_tops.specs.Lists.{NoneTwice}
 use Rattle.dwz_def_tops.proofs.Members.{any_from, any_true, in_map_from}
 use Rattle.dwz_def_tops.proofs.OnceLemmas.{none_left, none_right}

@@ -26,10 +26,10 @@ use Rattle.dwz_def_reading.specs.Classes.{class_of}
 use Rattle.dwz_def_reading.specs.Meant.{meaning}
 use Rattle.dwz_def_reading.proofs.MeaningLemmas.{value_agrees}
 use Rattle.dwz_def_reading.proofs.MeaningUnits.{node_agrees}
-use Rattle.dwz_graph_resolve.specs.Named.{attrs_refs, refs_beside, value_refs}
-use Rattle.dwz_graph_resolve.specs.Resolved.{place_at}
-use Rattle.dwz_graph_resolve.proofs.RowLemmas.{rows-length}
-use Rattle.dwz_graph_resolve.proofs.SurroundingLemmas.{own_range}
+use Rattle.dwz_graph.specs.Named.{attrs_refs, refs_beside, value_refs}
+use Rattle.dwz_graph.specs.Resolved.{place_at}
+use Rattle.dwz_graph.proofs.RowLemmas.{rows-length}
+use Rattle.dwz_graph.proofs.SurroundingLemmas.{own_range}
 use Rattle.dwz_graph.proofs.PlainBeside.{none_beside}
 use Rattle.dwz_unit.specs.Rows.{EntryRow, rows_below, rows_of}
 use Rattle.dwz_unit.proofs.RowLemmas.{shown-length}

@@ -1,6 +1,6 @@
 -- What operands of location lists name.
 use Rattle.std.specs.Prelude.{ℕ, List, [], ◌∷◌, Option, map, if◌then◌else◌}
-use Rattle.dwz_graph_resolve.specs.declared.operands.ListOperand.{ListOperand}
+use Rattle.dwz_graph.specs.ListOperand.{ListOperand}
 
 abbrev pub entries_of : List ListOperand → List ℕ
 entries_of rows = map (λ row. row.entry) rows

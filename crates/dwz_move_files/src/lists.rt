@@ -5,12 +5,11 @@ ghost use Rattle.dwz_def_tops.specs.Spots.{EntryName};
 ghost use Rattle.dwz_def_reading.specs.Units.{RawUnit, entries_in};
 ghost use Rattle.dwz_graph.specs.Index.{IsIndex};
 ghost use Rattle.dwz_move_files.specs.Lists.{entries_of, uleb_tops};
-ghost use Rattle.dwz_graph_resolve.specs.Resolved.{AreEntries};
+ghost use Rattle.dwz_graph.specs.Resolved.{AreEntries};
 ghost use Rattle.dwz_move.specs.Known.{NamesEntries, tops_of_refs};
 ghost use Rattle.dwz_move.specs.Marked.{Marks, if_asked};
 
-use dwz_graph::Index;
-use dwz_graph_resolve::ListOperand;
+use dwz_graph::{Index, ListOperand};
 use dwz_model::NoMemory;
 use dwz_move::{Named, mark, tops_of};
 use std::alloc::Global;

@@ -21,10 +21,10 @@ use Rattle.dwz_layout_order.specs.Spaces.{Numbered, spaces_of}
 use Rattle.dwz_layout_order.proofs.SpaceNumbers.{numbered_by}
 use Rattle.dwz_move.specs.Marked.{MarksIf}
 use Rattle.dwz_unit.specs.Rows.{units_of as raw_units}
-use Rattle.dwz_law_files.specs.Across.{IsFileAmong, file_units, name_at, starts_at}
-use Rattle.dwz_law_files.proofs.FileCounts.{all_ends, are_many, starts_are}
-use Rattle.dwz_law_files.proofs.FileWalk.{is_among}
-use Rattle.dwz_law_files.proofs.TopRows.{units_long}
+use Rattle.dwz_layout_order.specs.Across.{IsFileAmong, file_units, name_at, starts_at}
+use Rattle.dwz_layout_order.proofs.FileCounts.{all_ends, are_many, starts_are}
+use Rattle.dwz_layout_order.proofs.FileWalk.{is_among}
+use Rattle.dwz_layout_order.proofs.TopRows.{units_long}
 use Rattle.dwz_move_files.proofs.MarkSteps.{MarkedBy, files_first, files_next, starts_zero}
 use Rattle.dwz_move_files.proofs.FilesKnown.{below}
 use Rattle.dwz_plan_files.specs.Pinned.{ArePinned, FlagsSpace}

@@ -15,13 +15,13 @@ use Rattle.dwz_def_reading.specs.Documents.{Doc, unit_map}
 use Rattle.dwz_def_reading.specs.Files.{around_of}
 use Rattle.dwz_def_reading.specs.Shared.{OneOf}
 use Rattle.dwz_def_plan.specs.Plan.{pinned_in, pins}
-use Rattle.dwz_graph_resolve.specs.declared.operands.ListOperand.{ListOperand}
-use Rattle.dwz_graph_resolve.specs.Parts.{AreParted}
-use Rattle.dwz_graph_resolve.specs.Resolved.{AreEntries, place_at}
+use Rattle.dwz_graph.specs.ListOperand.{ListOperand}
+use Rattle.dwz_graph.specs.Parts.{AreParted}
+use Rattle.dwz_graph.specs.Resolved.{AreEntries, place_at}
 use Rattle.dwz_move.specs.Known.{KnowsRefs, in_unit, tops_of_refs}
 use Rattle.dwz_move.specs.Marked.{Marks, MarksIf, expression_pins, if_asked}
 use Rattle.dwz_unit.specs.Rows.{units_of as raw_units}
-use Rattle.dwz_law_files.specs.Across.{IsFileAmong, file_units, name_at}
+use Rattle.dwz_layout_order.specs.Across.{IsFileAmong, file_units, name_at}
 use Rattle.dwz_move_files.proofs.FileMarks.{lists_pin}
 use Rattle.dwz_move_files.proofs.UnitAttrs.{any_filed, named_attrs, pins_either}
 use Rattle.dwz_plan_files.specs.Places.{AreSpaceNumbers, NamesApart, list_spaces, number_at, spot_at}

@@ -19,16 +19,16 @@ use Rattle.dwz_graph.specs.Indexed.{AreIndexes}
 use Rattle.dwz_layout_order.specs.Shown.{Pairs, text_of}
 use Rattle.dwz_layout_order.specs.Spaces.{name_by as named_by, name_in, said_of, spaces_of}
 use Rattle.dwz_graph.specs.Spaces.{IsOwn}
-use Rattle.dwz_graph_resolve.specs.declared.here.Here.{Here}
-use Rattle.dwz_graph_resolve.specs.declared.sections.InputSections.{InputSections}
-use Rattle.dwz_graph_resolve.specs.Resolved.{IsHere, around, scope_in}
-use Rattle.dwz_graph_resolve.proofs.RowLemmas.{row_is, rows-length}
+use Rattle.dwz_graph.specs.Here.{Here}
+use Rattle.dwz_graph.specs.InputSections.{InputSections}
+use Rattle.dwz_graph.specs.Resolved.{IsHere, around, scope_in}
+use Rattle.dwz_graph.proofs.RowLemmas.{row_is, rows-length}
 use Rattle.dwz_unit.specs.declared.rows.RawEntry.{RawEntry as EntryOfCode}
 use Rattle.dwz_unit.specs.Rows.{EntryRow, rows_of, shown_entries, units_of as raw_units}
-use Rattle.dwz_law_files.specs.Across.{IsFileAmong, IsPart, file_units, name_at, starts_at}
-use Rattle.dwz_law_files.proofs.FileCounts.{next_starts_are, starts_are}
-use Rattle.dwz_law_files.proofs.FileWalk.{is_among}
-use Rattle.dwz_law_files.proofs.ListGets.{part_get}
+use Rattle.dwz_layout_order.specs.Across.{IsFileAmong, IsPart, file_units, name_at, starts_at}
+use Rattle.dwz_layout_order.proofs.FileCounts.{next_starts_are, starts_are}
+use Rattle.dwz_layout_order.proofs.FileWalk.{is_among}
+use Rattle.dwz_layout_order.proofs.ListGets.{part_get}
 use Rattle.dwz_plan_files.specs.Names.{IsSpaceNamed, Reads}
 use Rattle.dwz_plan_files.proofs.SpaceCounts.{spaces_few, spaces_part, starts_low}
 use Rattle.dwz_plan_files.proofs.SpaceEntries.{IsSpaceOf, file_spaces, said_spaces, spaces_named}

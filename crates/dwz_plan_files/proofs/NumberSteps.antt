@@ -9,7 +9,7 @@ use Rattle.dwz_def_reading.specs.Lists.{In}
 use Rattle.dwz_def_reading.proofs.ListFacts.{got_below}
 use Rattle.dwz_graph.specs.declared.index.SpaceEntry.{SpaceEntry}
 use Rattle.dwz_graph.specs.Index.{Index}
-use Rattle.dwz_graph_resolve.specs.declared.operands.ListOperand.{ListOperand}
+use Rattle.dwz_graph.specs.ListOperand.{ListOperand}
 use Rattle.dwz_move.specs.Marked.{Marks, if_asked}
 use Rattle.dwz_move_files.proofs.MarkSteps.{in_more, marks_none, marks_then, set_both}
 use Rattle.dwz_layout_order.specs.Lists.{all_spaces}

@@ -27,17 +27,17 @@ use Rattle.dwz_graph.specs.declared.index.TopEntry.{TopEntry}
 use Rattle.dwz_graph.specs.Index.{Index}
 use Rattle.dwz_layout.specs.declared.known.Row.{Row}
 use Rattle.dwz_plan.specs.Shows.{ShowsRows, ShowsTops}
-use Rattle.dwz_graph_resolve.proofs.RowLemmas.{row_there as row_at}
+use Rattle.dwz_graph.proofs.RowLemmas.{row_there as row_at}
 use Rattle.dwz_move.specs.Known.{StandsAt}
 use Rattle.dwz_move.proofs.TreeBinds.{any_top}
 use Rattle.dwz_unit.specs.declared.rows.RawEntry.{RawEntry}
 use Rattle.dwz_unit.specs.Rows.{EntryRow, entry_shown, rows_below, rows_of, shown_entries, units_of as raw_units}
 use Rattle.dwz_unit.proofs.RowLemmas.{shown-length}
-use Rattle.dwz_law_files.specs.Across.{IsFileAmong, IsTopOf, file_units, name_at}
-use Rattle.dwz_law_files.proofs.FileCounts.{found}
-use Rattle.dwz_law_files.proofs.FileEntries.{gives_top}
-use Rattle.dwz_law_files.proofs.FileWalk.{is_among}
-use Rattle.dwz_law_files.proofs.ListGets.{part_get}
+use Rattle.dwz_layout_order.specs.Across.{IsFileAmong, IsTopOf, file_units, name_at}
+use Rattle.dwz_layout_order.proofs.FileCounts.{found}
+use Rattle.dwz_layout_order.proofs.FileEntries.{gives_top}
+use Rattle.dwz_layout_order.proofs.FileWalk.{is_among}
+use Rattle.dwz_layout_order.proofs.ListGets.{part_get}
 use Rattle.dwz_plan_files.specs.Roots.{numbers_file, path_in, root_line}
 use Rattle.dwz_plan_files.specs.Steps.{IsPlaced, KnowsTops, LineOf, SaysLine}
 use Rattle.dwz_plan_files.proofs.LineLemmas.{root_got, root_says, root_some}

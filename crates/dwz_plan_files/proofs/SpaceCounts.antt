@@ -25,10 +25,10 @@ use Rattle.dwz_layout_order.proofs.RowLemmas.{spaces_counted}
 use Rattle.dwz_layout_order.proofs.UnitRows.{spaces_append}
 use Rattle.dwz_layout_order.proofs.FileChains.{entries_many}
 use Rattle.dwz_unit.specs.Rows.{units_of as raw_units}
-use Rattle.dwz_law_files.specs.Across.{IsFileAmong, IsPart, file_units, name_at, starts_at, starts_from}
-use Rattle.dwz_law_files.proofs.FileWalk.{first_doc}
-use Rattle.dwz_law_files.proofs.TopRows.{units_long}
-use Rattle.dwz_law_files.proofs.FileRoom.{no_doc}
+use Rattle.dwz_layout_order.specs.Across.{IsFileAmong, IsPart, file_units, name_at, starts_at, starts_from}
+use Rattle.dwz_layout_order.proofs.FileWalk.{first_doc}
+use Rattle.dwz_layout_order.proofs.TopRows.{units_long}
+use Rattle.dwz_layout_order.proofs.FileRoom.{no_doc}
 use Rattle.dwz_plan_files.proofs.SpaceEntries.{said_spaces, spaces_named}
 
 -- ---- of a file

@@ -20,8 +20,8 @@ use Rattle.dwz_layout_order.proofs.ChainShown.{pairs_append, pairs_long, rows_lo
 use Rattle.dwz_layout_order.proofs.FileChains.{file_chain}
 use Rattle.dwz_layout_order.proofs.RowLemmas.{numbered_split}
 use Rattle.dwz_layout_order.proofs.UnitRows.{spaces_append}
-use Rattle.dwz_law_files.specs.Across.{file_tops, file_units, name_at}
-use Rattle.dwz_law_files.proofs.TopRows.{tops_behind}
+use Rattle.dwz_layout_order.specs.Across.{file_tops, file_units, name_at}
+use Rattle.dwz_layout_order.proofs.TopRows.{tops_behind}
 use Rattle.dwz_plan_files.specs.declared.spaces.Spaces.{Spaces}
 use Rattle.dwz_plan_files.specs.Known.{AreSpaces}
 use Rattle.dwz_plan_files.proofs.SpaceCounts.{file_count, many_spaces}

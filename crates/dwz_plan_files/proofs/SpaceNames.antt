@@ -20,14 +20,14 @@ use Rattle.dwz_layout_numbers.proofs.WholeLemmas.{file_at}
 use Rattle.dwz_layout_numbers.proofs.StartLemmas.{files_apart}
 use Rattle.dwz_layout_order.specs.Lists.{all_spaces}
 use Rattle.dwz_layout_order.specs.Spaces.{spaces_of}
-use Rattle.dwz_graph_resolve.specs.Resolved.{place_at}
-use Rattle.dwz_graph_resolve.proofs.PlaceLemmas.{entry_place}
-use Rattle.dwz_graph_resolve.proofs.RowLemmas.{rows-length}
+use Rattle.dwz_graph.specs.Resolved.{place_at}
+use Rattle.dwz_graph.proofs.PlaceLemmas.{entry_place}
+use Rattle.dwz_graph.proofs.RowLemmas.{rows-length}
 use Rattle.dwz_unit.specs.Rows.{entry_shown, rows_of, units_of as raw_units}
-use Rattle.dwz_law_files.specs.Across.{IsFileAmong, name_at}
-use Rattle.dwz_law_files.proofs.FileCounts.{are_many, starts_are}
-use Rattle.dwz_law_files.proofs.FileEntries.{all_entries, names_entries}
-use Rattle.dwz_law_files.proofs.FileWalk.{is_among}
+use Rattle.dwz_layout_order.specs.Across.{IsFileAmong, name_at}
+use Rattle.dwz_layout_order.proofs.FileCounts.{are_many, starts_are}
+use Rattle.dwz_layout_order.proofs.FileEntries.{all_entries, names_entries}
+use Rattle.dwz_layout_order.proofs.FileWalk.{is_among}
 use Rattle.dwz_plan_files.specs.Places.{IsSpaceNumber, NamesApart}
 use Rattle.dwz_plan_files.proofs.FileTexts.{node_there}
 use Rattle.dwz_plan_files.proofs.SpaceCounts.{many_spaces, spaces_part}

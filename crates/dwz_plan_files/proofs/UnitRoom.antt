@@ -12,10 +12,10 @@ use Rattle.dwz_graph.specs.Indexed.{AreIndexed, AreIndexes, first_starts, starts
 use Rattle.dwz_graph.proofs.IndexRoom.{entries_few, many_units}
 use Rattle.dwz_unit.specs.Rows.{units_of as raw_units}
 use Rattle.dwz_unit.proofs.ShownLemmas.{units_few}
-use Rattle.dwz_law_files.specs.Across.{starts_from}
-use Rattle.dwz_law_files.proofs.FileCounts.{all_ends}
-use Rattle.dwz_law_files.proofs.FileWalk.{first_doc}
-use Rattle.dwz_law_files.proofs.FileRoom.{no_doc}
+use Rattle.dwz_layout_order.specs.Across.{starts_from}
+use Rattle.dwz_layout_order.proofs.FileCounts.{all_ends}
+use Rattle.dwz_layout_order.proofs.FileWalk.{first_doc}
+use Rattle.dwz_layout_order.proofs.FileRoom.{no_doc}
 
 room : (most : ℕ) (l : Limits) (contents : List (List ℕ)) (files : List File) (left : Limits) (n : ℕ) (docs : List (Doc ℕ)) (indexes : List Index) (s end : Starts)
     → AreRead l n contents files left → files_meaning l n contents ≡ Ok docs → AreIndexed s docs indexes end → s.unit + l.bytes ≤ most → (k : ℕ) → (starts_from s docs indexes k).unit ≤ most

@@ -9,8 +9,8 @@ use Rattle.dwz_def_reading.specs.Units.{RawUnit}
 use Rattle.dwz_def_reading.specs.Documents.{Node}
 use Rattle.dwz_def_reading.specs.Meanings.{Around, MeansNode, scope_of}
 use Rattle.dwz_graph.specs.declared.index.SpaceEntry.{SpaceEntry}
-use Rattle.dwz_graph_resolve.specs.declared.here.Here.{Here}
-use Rattle.dwz_graph_resolve.specs.Resolved.{IsHere}
+use Rattle.dwz_graph.specs.Here.{Here}
+use Rattle.dwz_graph.specs.Resolved.{IsHere}
 use Rattle.dwz_def_tops.specs.Spaces.{space_text}
 use Rattle.dwz_unit.specs.Rows.{EntryRow, rows_of}
 

@@ -1,6 +1,6 @@
 -- Inner: no public clause cites what follows. Where tops stand, and what the roots of their units say of a line table.
 use Rattle.std.specs.Prelude.{◌≡◌, ℕ, pos, List, [], ◌∷◌, None, Option, Some, slice_get}
-use Rattle.dwz_law_files.specs.Across.{IsFileAmong, IsTopOf}
+use Rattle.dwz_layout_order.specs.Across.{IsFileAmong, IsTopOf}
 use Rattle.dwz_def_tops.specs.Spots.{EntryName, FileUnit, Top, tops_of, units_of}
 use Rattle.dwz_def_reading.specs.Entries.{RawAttr}
 use Rattle.dwz_graph.specs.declared.file.File.{File}

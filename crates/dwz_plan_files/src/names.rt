@@ -13,13 +13,12 @@ ghost use Rattle.dwz_def_reading.specs.Meant.{node_meaning};
 ghost use Rattle.dwz_layout_order.specs.Lists.{all_spaces, rows_from};
 ghost use Rattle.dwz_layout_order.specs.Shown.{NumbersTexts};
 ghost use Rattle.dwz_layout_order.specs.Spaces.{said_of};
-ghost use Rattle.dwz_graph_resolve.specs.Resolved.{IsHere, around};
+ghost use Rattle.dwz_graph.specs.Resolved.{IsHere, around};
 ghost use Rattle.dwz_def_tops.specs.Spaces as Seen;
 ghost use Rattle.dwz_unit.specs.Rows.{EntryRow, rows_of, units_of as raw_units};
 ghost use Rattle.dwz_plan_files.specs.Names.{HaveNumbers, IsFound, Reads, WasHere, look};
 
-use dwz_graph::{Graph, SpaceEntry, space_text};
-use dwz_graph_resolve::{Here, InputSections, here_of};
+use dwz_graph::{Graph, Here, InputSections, SpaceEntry, here_of, space_text};
 use dwz_model::NoMemory;
 use dwz_unit::Units;
 use std::alloc::Global;

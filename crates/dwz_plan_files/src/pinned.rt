@@ -5,7 +5,7 @@
 
 ghost use Rattle.std.specs.Prelude.{◌≡◌, ℕ, ◌+◌, ◌<◌, ◌++◌, ◌^◌, None, Ok, List, false, length, map, replicate, true, IfOk, OnOk};
 ghost use Rattle.std.specs.List.{list_any};
-ghost use Rattle.dwz_law_files.specs.Across.{IsFileAmong, file_units, name_at};
+ghost use Rattle.dwz_layout_order.specs.Across.{IsFileAmong, file_units, name_at};
 ghost use Rattle.dwz_def_tops.specs.Alike.{any_attr};
 ghost use Rattle.dwz_def_tops.specs.Spots.{EntryName, same_spot, units_of};
 ghost use Rattle.dwz_graph.specs.Files.{docs_of};
@@ -22,8 +22,7 @@ ghost use Rattle.dwz_plan_files.specs.Places;
 ghost use Rattle.dwz_plan_files.specs.Places.{AreNone, AreSpaceNumbers, NamesApart, list_spaces, spot_at};
 
 use dwz_expr::Operand;
-use dwz_graph::{File, Graph, Index, SpaceEntry};
-use dwz_graph_resolve::ListOperand;
+use dwz_graph::{File, Graph, Index, ListOperand, SpaceEntry};
 use dwz_model::NoMemory;
 use dwz_move::{Named, mark, mark_unit};
 use dwz_unit::Units;

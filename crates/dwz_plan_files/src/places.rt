@@ -14,8 +14,7 @@ ghost use Rattle.dwz_plan_files.specs.Steps.{IsPlacedAt, KnowsTops, LineIs, Line
 ghost use Rattle.dwz_unit.specs.Rows.{attr_view, units_of as raw_units};
 
 use dwz_codes::{DW_AT_STMT_LIST, DW_FORM_SEC_OFFSET};
-use dwz_graph::Index;
-use dwz_graph_resolve::{first_attr, offset_of};
+use dwz_graph::{Index, first_attr, offset_of};
 use dwz_groups::Tops;
 use dwz_layout::Row;
 use dwz_unit::{RawAttr, Units};

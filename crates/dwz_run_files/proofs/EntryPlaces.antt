@@ -14,7 +14,7 @@ use Rattle.dwz_def_encoding.specs.Placing.{files_keys}
 use Rattle.dwz_def_readback.specs.Files.{file_out, name_after, places}
 use Rattle.dwz_def_readback.proofs.NameLemmas.{common_names, fitted_names}
 use Rattle.dwz_unit.specs.Rows.{units_of as raw_units}
-use Rattle.dwz_graph_resolve.specs.Resolved.{place_at}
+use Rattle.dwz_graph.specs.Resolved.{place_at}
 use Rattle.dwz_layout_numbers.specs.Names.{all_names}
 use Rattle.dwz_layout_numbers.specs.Owners.{StandsIn}
 use Rattle.dwz_layout.specs.declared.known.EntryTable.{EntryTable}

@@ -5,7 +5,7 @@ use Rattle.dwz_def_readback.specs.Files.{Stored}
 use Rattle.dwz_graph.specs.declared.file.File.{File}
 use Rattle.dwz_graph.specs.Files.{docs_of}
 use Rattle.dwz_graph.proofs.GraphLemmas.{as_many}
-use Rattle.dwz_law_files.proofs.FileCounts.{files_many}
+use Rattle.dwz_layout_order.proofs.FileCounts.{files_many}
 use Rattle.dwz_graph.specs.Index.{Index}
 use Rattle.dwz_layout_numbers.specs.declared.numbers.UnitNumbers.{UnitNumbers}
 use Rattle.dwz_layout_numbers.specs.Owners.{AreUnitNumbers}
@@ -13,9 +13,9 @@ use Rattle.dwz_def_images.specs.Units.{changes}
 use Rattle.dwz_layout_order.specs.declared.orders.Settled.{Settled as Lent}
 use Rattle.dwz_law_layout.specs.Settled.{IsSettled}
 use Rattle.dwz_plan.specs.declared.plan.Scope.{Scope}
-use Rattle.dwz_plan_files.specs.declared.planned.PlannedFiles.{PlannedFiles}
-use Rattle.dwz_plan_files.specs.Rules.{alike_scope, rule_by}
-use Rattle.dwz_plan_files.proofs.PlanFits.{alike_is, choice_is}
+use Rattle.dwz_layout_input.specs.PlannedFiles.{PlannedFiles}
+use Rattle.dwz_layout_input.specs.Rules.{alike_scope, rule_by}
+use Rattle.dwz_layout_input.proofs.PlanFits.{alike_is, choice_is}
 use Rattle.dwz_law_layout.specs.Facts.{RunFacts, move, units, written}
 use Rattle.dwz_layout_input.specs.declared.settled.SettledFiles.{SettledFiles}
 use Rattle.dwz_layout_input.specs.Settled.{AreFactsOf, ArePlanned, Lends}

@@ -19,11 +19,11 @@ use Rattle.dwz_encode_sections.specs.Numbers.{EndIn}
 use Rattle.dwz_encode_sections.specs.Ranges.{AreMoved}
 use Rattle.dwz_encode_sections.proofs.ListLemmas.{all_end}
 use Rattle.dwz_unit.specs.Rows.{units_of as raw_units}
-use Rattle.dwz_graph_resolve.specs.declared.operands.ListOperand.{ListOperand}
-use Rattle.dwz_graph_resolve.specs.Resolved.{sources_view}
+use Rattle.dwz_graph.specs.ListOperand.{ListOperand}
+use Rattle.dwz_graph.specs.Resolved.{sources_view}
 use Rattle.dwz_graph.specs.declared.file.File.{File}
 use Rattle.dwz_graph.specs.Index.{Index}
-use Rattle.dwz_law_files.proofs.FilesFew.{all_small}
+use Rattle.dwz_layout_order.proofs.FilesFew.{all_small}
 use Rattle.dwz_layout_numbers.specs.Images.{IsFile, IsPlanned, entry_count, starts_from, tops_from}
 use Rattle.dwz_layout_numbers.specs.Names.{AreTopEntries}
 use Rattle.dwz_layout_numbers.proofs.WholeLemmas.{top_entries}

@@ -16,7 +16,7 @@ use Rattle.dwz_def_output.specs.Written.{stored_of}
 use Rattle.dwz_plan.specs.declared.plan.Scope.{Scope}
 use Rattle.dwz_plan.specs.Shows.{shown_part}
 use Rattle.dwz_plan.proofs.BridgeLemmas.{file_numbers_are}
-use Rattle.dwz_plan_files.specs.Rules.{alike_scope, rule_by}
+use Rattle.dwz_layout_input.specs.Rules.{alike_scope, rule_by}
 use Rattle.dwz_graph.specs.Files.{docs_of}
 use Rattle.dwz_law_layout.specs.Facts.{AreFacts, RunFacts, docs, move, rule, run, units}
 use Rattle.dwz_run_files.specs.declared.prepared.PreparedFiles.{PreparedFiles}

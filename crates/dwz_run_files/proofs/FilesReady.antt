@@ -17,8 +17,8 @@ use Rattle.dwz_encode_texts.specs.PrunedFiles.{IsPrunedFile}
 use Rattle.dwz_encode_texts.specs.Used.{order_uses}
 use Rattle.dwz_encode_texts.proofs.NamedUses.{after_uses}
 use Rattle.dwz_run_files.specs.Moved.{AreMoved, ArePruned, IsPrunedIf, pruned_at}
-use Rattle.dwz_plan_files.specs.Rules.{alike_scope}
-use Rattle.dwz_plan_files.specs.Fits.{FitsFiles}
+use Rattle.dwz_layout_input.specs.Rules.{alike_scope}
+use Rattle.dwz_layout_input.specs.Fits.{FitsFiles}
 use Rattle.dwz_run_files.specs.Prepared.{AreRanks, CanLay, firsts_from}
 use Rattle.dwz_run_files.specs.declared.settled.SettledRun.{SettledRun}
 use Rattle.dwz_run_files.specs.declared.ordered.OrderedFiles.{OrderedFiles}

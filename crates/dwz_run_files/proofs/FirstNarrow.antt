@@ -13,8 +13,8 @@ use Rattle.dwz_encode_operands.proofs.ListedLemmas.{listed as listed_all}
 use Rattle.dwz_def_readback.specs.Files.{Run}
 use Rattle.dwz_def_output.specs.Contents.{listed}
 use Rattle.dwz_def_output.specs.Refusals.{FirstNarrow, narrow_at, operands_of_units, spoken}
-use Rattle.dwz_graph_resolve.specs.ListRows.{operand_view}
-use Rattle.dwz_graph_resolve.specs.Named.{units_refs}
+use Rattle.dwz_graph.specs.ListRows.{operand_view}
+use Rattle.dwz_graph.specs.Named.{units_refs}
 use Rattle.dwz_law_layout.specs.Facts.{RunFacts, run}
 use Rattle.dwz_encode_operands.specs.NumberLaws.{HaveNewNumbers}
 use Rattle.dwz_encode_operands.proofs.FilePlaces.{numbers_are, starts_after, targets}

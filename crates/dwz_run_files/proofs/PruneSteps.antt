@@ -15,7 +15,7 @@ use Rattle.dwz_unit.specs.Rows.{units_of as raw_units}
 use Rattle.dwz_graph.specs.declared.file.File.{File}
 use Rattle.dwz_graph.specs.Files.{HasRead}
 use Rattle.dwz_graph.proofs.TopLemmas.{get_cases}
-use Rattle.dwz_law_files.proofs.FileCounts.{are_many}
+use Rattle.dwz_layout_order.proofs.FileCounts.{are_many}
 use Rattle.dwz_layout.specs.declared.known.EntryTable.{EntryTable}
 use Rattle.dwz_layout.specs.declared.order.UnitItems.{UnitItems}
 use Rattle.dwz_encode.specs.Shown.{unit_count}

@@ -6,7 +6,7 @@ use Rattle.dwz_def_reading.proofs.ListFacts.{got_below, got_there}
 use Rattle.dwz_def_images.specs.Units.{changes}
 use Rattle.dwz_def_encoding.specs.Placing.{FileOut}
 use Rattle.dwz_def_readback.specs.Files.{file_out}
-use Rattle.dwz_law_files.proofs.FileCounts.{are_many}
+use Rattle.dwz_layout_order.proofs.FileCounts.{are_many}
 use Rattle.dwz_layout.specs.declared.known.EntryTable.{EntryTable}
 use Rattle.dwz_layout.specs.declared.order.UnitItems.{UnitItems}
 use Rattle.dwz_encode.specs.Shown.{Keys, ShowFiles, unit_count}

@@ -17,9 +17,9 @@ use Rattle.dwz_layout.specs.declared.known.FileRows.{FileRows}
 use Rattle.dwz_encode_operands.specs.Narrow.{FirstPlace, after_in, number_by}
 use Rattle.dwz_def_output.specs.Contents.{listed, lists_after, ranges_after}
 use Rattle.dwz_def_output.specs.Refusals.{operands_of_units, spoken}
-use Rattle.dwz_graph_resolve.specs.declared.operands.ListOperand.{ListOperand as OperandOfCode}
-use Rattle.dwz_graph_resolve.specs.ListRows.{operand_view}
-use Rattle.dwz_graph_resolve.specs.Named.{units_refs}
+use Rattle.dwz_graph.specs.ListOperand.{ListOperand as OperandOfCode}
+use Rattle.dwz_graph.specs.ListRows.{operand_view}
+use Rattle.dwz_graph.specs.Named.{units_refs}
 use Rattle.dwz_encode_sections.specs.Ranges.{AreMoved}
 use Rattle.dwz_law_layout.specs.Facts.{RunFacts, docs, rule, run}
 use Rattle.dwz_encode_operands.specs.Operands.{AreNewNumbers, HasNewNumbers}

@@ -15,14 +15,14 @@ use Rattle.dwz_def_plan.specs.Plan.{image}
 use Rattle.dwz_def_encoding.specs.Writing.{written_header_size}
 use Rattle.dwz_def_readback.specs.Files.{name_after, places}
 use Rattle.dwz_unit.specs.Rows.{EntryRow, rows_of, units_of as raw_units}
-use Rattle.dwz_graph_resolve.specs.Resolved.{place_at}
-use Rattle.dwz_graph_resolve.specs.Resolved.{places as entry_places_of}
-use Rattle.dwz_graph_resolve.proofs.RowLemmas.{rows-length}
+use Rattle.dwz_graph.specs.Resolved.{place_at}
+use Rattle.dwz_graph.specs.Resolved.{places as entry_places_of}
+use Rattle.dwz_graph.proofs.RowLemmas.{rows-length}
 use Rattle.dwz_graph.specs.declared.file.File.{File}
 use Rattle.dwz_graph.specs.Index.{Index}
 use Rattle.dwz_graph.specs.declared.index.Starts.{Starts}
-use Rattle.dwz_law_files.specs.Across.{file_units, name_at}
-use Rattle.dwz_law_files.proofs.FileEntries.{unit_of}
+use Rattle.dwz_layout_order.specs.Across.{file_units, name_at}
+use Rattle.dwz_layout_order.proofs.FileEntries.{unit_of}
 use Rattle.dwz_layout_numbers.specs.Images.{starts_from}
 use Rattle.dwz_layout_numbers.specs.Names.{all_names}
 use Rattle.dwz_layout.specs.declared.known.EntryTable.{EntryTable}

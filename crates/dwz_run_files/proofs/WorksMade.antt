@@ -3,8 +3,8 @@ use Rattle.std.proofs.Common.{◌≡◌, ◌<◌, ◌^◌, ℕ, Bool, List, leng
 use Rattle.std.specs.Prelude.{All}
 use Rattle.std.proofs.lemmas.Option.{slice_get-get_or}
 use Rattle.dwz_def_tops.proofs.FileNumbers.{numbers_long}
-use Rattle.dwz_law_files.proofs.FileCounts.{are_many}
-use Rattle.dwz_law_files.proofs.FilesFew.{all_small}
+use Rattle.dwz_layout_order.proofs.FileCounts.{are_many}
+use Rattle.dwz_layout_order.proofs.FilesFew.{all_small}
 use Rattle.dwz_graph.specs.declared.file.File.{File}
 use Rattle.dwz_graph.specs.Index.{Index}
 use Rattle.dwz_layout_numbers.specs.Images.{entry_count, starts_from, tops_from}

@@ -1,5 +1,5 @@
 -- By which rule tops share is handed on: who lists this crate finds it here.
-pub use Rattle.dwz_plan_files.specs.Rules
+pub use Rattle.dwz_layout_input.specs.Rules
 pub mod Prepared
 pub mod Moved
 pub mod Stored

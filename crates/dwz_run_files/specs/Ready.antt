@@ -8,8 +8,8 @@ use Rattle.dwz_law_layout.specs.Facts.{RunFacts, docs, move, run, units}
 use Rattle.dwz_law_layout.specs.Listed.{TextsAt}
 use Rattle.dwz_run_files.specs.Moved.{pruned_at}
 use Rattle.dwz_run_files.specs.Prepared.{AreRanks, CanLay, firsts_from}
-use Rattle.dwz_plan_files.specs.Fits.{FitsFiles}
-use Rattle.dwz_plan_files.specs.Rules.{alike_scope}
+use Rattle.dwz_layout_input.specs.Fits.{FitsFiles}
+use Rattle.dwz_layout_input.specs.Rules.{alike_scope}
 use Rattle.dwz_graph.specs.Files.{docs_of}
 use Rattle.dwz_encode_texts.specs.declared.pruning.PrunedFile.{PrunedFile}
 use Rattle.dwz_encode_texts.specs.UseLaws.{ArePruned}

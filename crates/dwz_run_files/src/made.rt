@@ -6,7 +6,7 @@ ghost use Rattle.dwz_def_readback.specs.Back.{run_of};
 ghost use Rattle.dwz_law_layout.specs.Facts.{RunFacts, run};
 ghost use Rattle.dwz_graph.specs.Files.{docs_of};
 ghost use Rattle.dwz_def_output.specs.Written.{ArePrunable, stored_of};
-ghost use Rattle.dwz_plan_files.specs.Rules.{rule_by};
+ghost use Rattle.dwz_layout_input.specs.Rules.{rule_by};
 ghost use Rattle.dwz_run_files.specs.Common.{HasTexts};
 ghost use Rattle.dwz_run_files.specs.Works.{AreNewFiles, WorksOf};
 

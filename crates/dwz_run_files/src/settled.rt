@@ -5,10 +5,9 @@ ghost use Rattle.dwz_run_files.specs.SettledRun.{IsSettledRun};
 
 use dwz_gate::Gate;
 use dwz_graph::{Graph, Index};
-use dwz_layout_input::{SettledFiles, settle_files};
+use dwz_layout_input::{SettledFiles, plan_files, settle_files};
 use dwz_model::NoMemory;
 use dwz_plan::Scope;
-use dwz_plan_files::plan_files;
 use std::alloc::Global;
 use std::thread::Threads;
 

@@ -2,6 +2,7 @@
 
 use crate::expect::{bytes_of, number_of, prints_as, same, split_bar};
 use dwz_abbrev::{PairRow, ReadTable, Table};
+use dwz_model::{DwzList, Pair};
 
 // A table, behind so many bytes that are none of it, how many declarations are passed over, a code; and the first declaration with that
 // code behind those, if there is one. The tables have a compile unit with a name and a base type with a constant; four declarations with
@@ -122,4 +123,38 @@ fn writes_by_ascending_code(rt: HostRuntime) {
     let mut out = Vec::new(rt.alloc());
     table.write(&mut out).expect(&rt, "no memory");
     same(&rt, &out.as_slice(), &SORTED);
+}
+
+// The least code of equal declarations, of which two are in the table; none has children.
+#[test]
+fn numbers_shapes(rt: HostRuntime) {
+    let alloc = rt.alloc();
+    let table = Table::read(alloc, UNSORTED, 0).expect(&rt, "a table");
+    let mut constant = Vec::new(alloc);
+    let pair = Pair {
+        name: 62,
+        form: 33,
+        constant: -1,
+    };
+    constant.push(pair).expect(&rt, "no memory");
+    let constant = DwzList::new(constant);
+    let none = DwzList::new(Vec::new(alloc));
+    same(&rt, &table.code_of(0x34, false, &none), &Some(1));
+    same(&rt, &table.code_of(0x34, false, &constant), &Some(2));
+    same(&rt, &table.code_of(0x34, true, &none), &None);
+    same(&rt, &table.code_of(0x24, false, &none), &None);
+}
+
+// A shape that is there already gets its code again.
+#[test]
+fn adds_shapes_once(rt: HostRuntime) {
+    let alloc = rt.alloc();
+    let mut table = Table::new(alloc);
+    let first = table.add(0x34, false, DwzList::new(Vec::new(alloc)));
+    same(&rt, &first.expect(&rt, "no memory"), &1);
+    let other = table.add(0x34, true, DwzList::new(Vec::new(alloc)));
+    same(&rt, &other.expect(&rt, "no memory"), &2);
+    let again = table.add(0x34, false, DwzList::new(Vec::new(alloc)));
+    same(&rt, &again.expect(&rt, "no memory"), &1);
+    same(&rt, &table.decls().len(), &2);
 }

@@ -1,4 +1,4 @@
-use Rattle.dwz_graph_resolve.specs.Surroundings.{entries_among}
+use Rattle.dwz_graph.specs.Surroundings.{entries_among}
 use Rattle.dwz_check_labels.specs.Files.{common_of, raw_of}
 use Rattle.dwz_check_labels.proofs.entries.refs_of.Goals as goal
 

@@ -1,6 +1,6 @@
 use Rattle.std.proofs.Common.{◌≡◌, ◌∷◌, [], ℕ, List, ap, arith, inl, inr, length, slice_get, subst, sym, ◌∙◌}
 use Rattle.std.proofs.lemmas.List.{length-append}
-use Rattle.dwz_graph_resolve.specs.declared.here.Here.{Here}
+use Rattle.dwz_graph.specs.Here.{Here}
 use Rattle.dwz_check_index.proofs.Shown.{pushed}
 use Rattle.dwz_unit.specs.Rows.{units_of}
 use Rattle.dwz_check_labels.specs.Files.{IsHereOf}

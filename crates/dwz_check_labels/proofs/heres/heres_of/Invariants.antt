@@ -1,5 +1,5 @@
 use Rattle.std.proofs.Common.{◌≡◌, ℕ, Some, length, slice_get}
-use Rattle.dwz_graph_resolve.specs.declared.here.Here.{Here}
+use Rattle.dwz_graph.specs.Here.{Here}
 use Rattle.dwz_unit.specs.Rows.{units_of}
 use Rattle.dwz_check_labels.specs.Files.{IsHereOf}
 use Rattle.dwz_check_labels.proofs.heres.heres_of.Given as goal

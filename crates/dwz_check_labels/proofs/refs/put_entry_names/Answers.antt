@@ -1,7 +1,7 @@
 use Rattle.std.proofs.Common.{◌+◌, ◌<◌, drop, get_or, length}
 use Rattle.std.proofs.lemmas.List.{drop_all}
 use Rattle.dwz_def_reading.proofs.ListFacts.{drop_pairs}
-use Rattle.dwz_graph_resolve.specs.Surroundings.{entries_among}
+use Rattle.dwz_graph.specs.Surroundings.{entries_among}
 use Rattle.dwz_label_entries.proofs.ListFacts.{each_rest}
 use Rattle.dwz_check_labels.specs.Files.{common_of, place_of, raw_of}
 use Rattle.dwz_check_labels.proofs.RefLemmas.{first_into, first_label, names_none, into_none}

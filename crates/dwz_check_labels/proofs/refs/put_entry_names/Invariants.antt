@@ -3,7 +3,7 @@ use Rattle.std.specs.List.{flat_map}
 use Rattle.dwz_def_reading.specs.Documents.{DwUnit}
 use Rattle.dwz_def_check.specs.CrossLabels.{name_label, names_into}
 use Rattle.dwz_def_check.specs.CrossNames.{CrossName}
-use Rattle.dwz_graph_resolve.specs.Surroundings.{AreAmong}
+use Rattle.dwz_graph.specs.Surroundings.{AreAmong}
 use Rattle.dwz_check_labels.specs.Files.{KnowsSource, common_of, place_of, raw_of}
 use Rattle.dwz_check_labels.proofs.RefLemmas.{names_of}
 use Rattle.dwz_check_labels.proofs.ToldLemmas.{IsLeft}

@@ -1,5 +1,5 @@
 use Rattle.std.proofs.Common.{ap, drop, map, ◌∙◌}
-use Rattle.dwz_graph_resolve.specs.Surroundings.{entries_among}
+use Rattle.dwz_graph.specs.Surroundings.{entries_among}
 use Rattle.dwz_check_labels.specs.Files.{common_of, place_of, raw_of}
 use Rattle.dwz_check_labels.proofs.RefLemmas.{counted_told, front_of}
 use Rattle.dwz_check_labels.proofs.refs.put_next.Goals as goal

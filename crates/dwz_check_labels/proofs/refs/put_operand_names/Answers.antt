@@ -3,7 +3,7 @@ use Rattle.std.proofs.lemmas.List.{drop_all}
 use Rattle.dwz_def_reading.proofs.ListFacts.{drop_pairs}
 use Rattle.dwz_def_reading.specs.declared.exprs.Operand.{Operand}
 use Rattle.dwz_model.specs.declared.place.Base.TheVariants.{Unit as FromUnit}
-use Rattle.dwz_graph_resolve.specs.Operands.{is_named}
+use Rattle.dwz_graph.specs.Operands.{is_named}
 use Rattle.dwz_label_entries.proofs.RefLemmas.{each_named}
 use Rattle.dwz_check_labels.specs.Files.{scope_at}
 use Rattle.dwz_check_labels.proofs.RefLemmas.{first_operand_into, first_operand_label, operands_into_none, operands_none}

@@ -6,8 +6,8 @@ use Rattle.dwz_def_reading.specs.Meanings.{targets}
 use Rattle.dwz_def_reading.specs.Units.{RawUnit}
 use Rattle.dwz_def_check.specs.CrossLabels.{name_label, names_into}
 use Rattle.dwz_def_check.specs.CrossNames.{CrossName}
-use Rattle.dwz_graph_resolve.specs.Operands.{is_named}
-use Rattle.dwz_graph_resolve.specs.Resolved.{IsHere}
+use Rattle.dwz_graph.specs.Operands.{is_named}
+use Rattle.dwz_graph.specs.Resolved.{IsHere}
 use Rattle.dwz_check_labels.specs.Files.{KnowsSource, raw_of, scope_at}
 use Rattle.dwz_check_labels.proofs.ToldLemmas.{IsLeft}
 use Rattle.dwz_check_labels.proofs.refs.put_operand_names.Given as goal

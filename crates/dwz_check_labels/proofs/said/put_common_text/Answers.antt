@@ -1,7 +1,7 @@
 use Rattle.std.proofs.Common.{List, ℕ, ap, sym, ◌∙◌}
 use Rattle.dwz_def_reading.specs.Texts.{text_at}
 use Rattle.dwz_def_reading.specs.Meanings.{offset_of}
-use Rattle.dwz_graph_resolve.specs.Resolved.{stored}
+use Rattle.dwz_graph.specs.Resolved.{stored}
 use Rattle.dwz_check_labels.proofs.AloneLemmas.{text_names, text_told}
 use Rattle.dwz_check_labels.proofs.said.put_common_text.Goals as goal
 

@@ -1,6 +1,6 @@
 use Rattle.std.proofs.Common.{refl}
 use Rattle.dwz_def_reading.specs.Classes.{OfCommonEntry, OfCommonText}
-use Rattle.dwz_graph_resolve.specs.Resolved.{stored}
+use Rattle.dwz_graph.specs.Resolved.{stored}
 use Rattle.dwz_label_entries.proofs.PlainLemmas.{as_is}
 use Rattle.dwz_label_entries.specs.Plain.{KnowsScope}
 use Rattle.dwz_check_labels.specs.Files.{scope_at}

@@ -1,6 +1,6 @@
 use Rattle.std.proofs.Common.{drop}
-use Rattle.dwz_graph_resolve.specs.Resolved.{stored}
-use Rattle.dwz_graph_resolve.specs.Named.{attrs_refs}
+use Rattle.dwz_graph.specs.Resolved.{stored}
+use Rattle.dwz_graph.specs.Named.{attrs_refs}
 use Rattle.dwz_check_labels.specs.Files.{place_of, scope_at}
 use Rattle.dwz_check_labels.proofs.ValueLemmas.{next_attr, skipped, told}
 use Rattle.dwz_check_labels.proofs.values.put_attr.Goals as goal

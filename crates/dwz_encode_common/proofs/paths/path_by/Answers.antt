@@ -3,7 +3,7 @@ use Rattle.std.specs.Global.{Vec}
 use Rattle.std.specs.Option.{option_map}
 use mir.Syntax.{w128}
 use Rattle.std.proofs.lemmas.Int.{to_z-of_z}
-use Rattle.dwz_graph_resolve.proofs.FileSteps.{plain_number}
+use Rattle.dwz_graph.proofs.FileSteps.{plain_number}
 use Rattle.dwz_encode_common.proofs.PathSteps.{past_all}
 use Rattle.dwz_encode_common.proofs.paths.path_by.Goals as goal
 

@@ -1,6 +1,6 @@
 use Rattle.std.proofs.Common.{◌≡◌, ℕ, List, subst}
 use Rattle.std.specs.Prelude.{OnOk}
-use Rattle.dwz_graph_resolve.specs.Resolved.{sources_view}
+use Rattle.dwz_graph.specs.Resolved.{sources_view}
 use Rattle.dwz_encode_common.specs.Gathered.{with_all}
 use Rattle.dwz_encode_common.specs.Stored.{name_read}
 use Rattle.dwz_encode_common.proofs.texts.put_name.Goals as goal

@@ -1,6 +1,6 @@
 use Rattle.std.proofs.Common.{◌≡◌, drop, take, Some, slice_get}
 use Rattle.std.specs.List.{flat_map}
-use Rattle.dwz_graph_resolve.specs.Resolved.{sources_view}
+use Rattle.dwz_graph.specs.Resolved.{sources_view}
 use Rattle.dwz_unit.specs.Rows.{EntryRow, rows_of, units_of}
 use Rattle.dwz_unit.specs.Values.{Reads}
 use Rattle.dwz_encode_common.specs.Gathered.{with_all}

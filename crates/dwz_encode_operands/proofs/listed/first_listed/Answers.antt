@@ -4,8 +4,8 @@ use Rattle.dwz_def_reading.specs.Shared.{ListOperand}
 use Rattle.dwz_model.specs.declared.place.Base.TheVariants.{Unit as FromUnit}
 use Rattle.dwz_encode_operands.specs.First.{is_over, first_of_two, place_if}
 use Rattle.dwz_encode_operands.proofs.FirstLemmas.{beside, first_so, left_at, left_end, noted_end, noted_more}
-use Rattle.dwz_graph_resolve.specs.declared.operands.ListOperand.{ListOperand as OperandOfCode}
-use Rattle.dwz_graph_resolve.specs.ListRows.{operand_view}
+use Rattle.dwz_graph.specs.ListOperand.{ListOperand as OperandOfCode}
+use Rattle.dwz_graph.specs.ListRows.{operand_view}
 use Rattle.dwz_encode_operands.proofs.listed.first_listed.Goals as goal
 
 no_row : OperandOfCode

@@ -2,7 +2,7 @@ use Rattle.std.proofs.Common.{◌≡◌, ℕ, None, drop, map, List}
 use Rattle.dwz_def_reading.specs.Units.{RawUnit}
 use Rattle.dwz_def_reading.specs.Shared.{ListOperand}
 use Rattle.dwz_encode_operands.proofs.FirstLemmas.{Noted}
-use Rattle.dwz_graph_resolve.specs.ListRows.{operand_view}
+use Rattle.dwz_graph.specs.ListRows.{operand_view}
 use Rattle.dwz_encode_operands.proofs.listed.first_listed.Given as goal
 
 abbrev pub invariant-loop-k : goal.invariant-loop-k

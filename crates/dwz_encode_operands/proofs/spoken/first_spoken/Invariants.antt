@@ -3,7 +3,7 @@ use Rattle.dwz_def_reading.specs.Documents.{DwUnit}
 use Rattle.dwz_def_reading.specs.Meanings.{Sources, alone}
 use Rattle.dwz_def_reading.specs.Meant.{units_meaning}
 use Rattle.dwz_encode_operands.proofs.UnitLemmas.{UnitsLeft}
-use Rattle.dwz_graph_resolve.specs.Named.{units_refs}
+use Rattle.dwz_graph.specs.Named.{units_refs}
 use Rattle.dwz_unit.specs.Rows.{units_of}
 use Rattle.dwz_encode_operands.proofs.spoken.first_spoken.Given as goal
 

@@ -2,7 +2,7 @@ use Rattle.std.proofs.Common.{◌≡◌, ℕ, true, false, ap, drop, sym, ◌∙
 use Rattle.dwz_def_reading.specs.Entries.{RawAttr}
 use Rattle.dwz_def_reading.specs.Classes.{class_of}
 use Rattle.dwz_encode_operands.proofs.ValueLemmas.{m, of_entry, of_expression, of_other, reads, targets_are}
-use Rattle.dwz_graph_resolve.specs.Resolved.{stored}
+use Rattle.dwz_graph.specs.Resolved.{stored}
 use Rattle.dwz_move.specs.Bound.{is_expression}
 use Rattle.dwz_move.specs.Values.{is_entry}
 use Rattle.dwz_encode_operands.proofs.values.note_value.Goals as goal

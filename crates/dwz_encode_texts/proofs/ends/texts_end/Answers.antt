@@ -1,5 +1,5 @@
 use Rattle.std.proofs.Common.{◌∙◌, refl, sym}
-use Rattle.dwz_graph_resolve.proofs.ValueSteps.{no_pair}
+use Rattle.dwz_graph.proofs.ValueSteps.{no_pair}
 use Rattle.dwz_encode_texts.specs.Texts.{texts_end}
 use Rattle.dwz_encode_texts.proofs.EndLemmas.{end_before, end_here}
 use Rattle.dwz_encode_texts.proofs.ends.texts_end.Goals as goal

@@ -1,6 +1,6 @@
 use Rattle.std.proofs.Common.{◌≡◌, ◌++◌, take}
 use Rattle.dwz_unit.specs.Rows.{units_of}
-use Rattle.dwz_graph_resolve.specs.Resolved.{around}
+use Rattle.dwz_graph.specs.Resolved.{around}
 use Rattle.dwz_encode_texts.specs.Names.{names_of_spaces}
 use Rattle.dwz_encode_texts.proofs.names.put_names.Given as goal
 

@@ -3,7 +3,7 @@ use Rattle.dwz_def_reading.proofs.ListFacts.{item_got}
 use Rattle.dwz_unit.specs.Rows.{units_of}
 use Rattle.dwz_graph.specs.Files.{docs_of}
 use Rattle.dwz_graph.specs.Index.{Index}
-use Rattle.dwz_graph_resolve.specs.Resolved.{around}
+use Rattle.dwz_graph.specs.Resolved.{around}
 use Rattle.dwz_graph.proofs.IndexesThere.{of_indexes}
 use Rattle.dwz_law_files.proofs.FileCounts.{are_many}
 use Rattle.dwz_law_files.proofs.FileWalk.{is_among}

@@ -1,7 +1,7 @@
 use Rattle.std.proofs.Common.{◌≡◌, take}
 use Rattle.std.specs.List.{flat_map}
 use Rattle.dwz_unit.specs.Rows.{rows_of, units_of}
-use Rattle.dwz_graph_resolve.specs.Resolved.{around}
+use Rattle.dwz_graph.specs.Resolved.{around}
 use Rattle.dwz_encode_texts.specs.Texts.{row_texts}
 use Rattle.dwz_encode_texts.proofs.texts.texts_of.Given as goal
 

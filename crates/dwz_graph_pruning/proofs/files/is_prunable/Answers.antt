@@ -4,7 +4,7 @@ use Rattle.dwz_def_reading.specs.Files.{around_of}
 use Rattle.dwz_def_reading.specs.LineTables.{FileTable}
 use Rattle.dwz_graph_pruning.proofs.FileLemmas.{bad_lines, bad_macro, bad_slots, no_fault, offsets_short, other_use, prunable, same_use, units_mean}
 use Rattle.dwz_graph_pruning.proofs.SlotLemmas.{slots_rise}
-use Rattle.dwz_graph_resolve.specs.Parts.{HaveLines}
+use Rattle.dwz_graph.specs.Parts.{HaveLines}
 use Rattle.dwz_unit.specs.Rows.{units_of}
 use Rattle.dwz_graph_pruning.proofs.files.is_prunable.Goals as goal
 

@@ -4,7 +4,7 @@ use Rattle.std.proofs.Common.{ℕ}
 use Rattle.dwz_def_reading.specs.Meanings.{Around, text_sections_of}
 use Rattle.dwz_def_reading.specs.Meant.{units_meaning}
 use Rattle.dwz_graph_pruning.proofs.UnitLemmas.{Left}
-use Rattle.dwz_graph_resolve.specs.Parts.{HaveLines}
+use Rattle.dwz_graph.specs.Parts.{HaveLines}
 use Rattle.dwz_unit.specs.Rows.{units_of}
 use Rattle.dwz_def_encoding.specs.Pruned.{UnitStays}
 use Rattle.dwz_graph_pruning.proofs.units.units_stay.Given as goal

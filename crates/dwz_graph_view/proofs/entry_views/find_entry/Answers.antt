@@ -1,9 +1,9 @@
 use Rattle.std.proofs.Common.{arith}
 use Rattle.dwz_unit.specs.Rows.{units_of}
 use Rattle.dwz_def_reading.specs.Units.{entries_in}
-use Rattle.dwz_graph_resolve.specs.Places.{places}
-use Rattle.dwz_graph_resolve.proofs.PlaceLemmas.{entry_place, places_many, places_rise}
-use Rattle.dwz_graph_resolve.proofs.SearchLemmas.{search_down, search_up}
+use Rattle.dwz_graph.specs.Places.{places}
+use Rattle.dwz_graph.proofs.PlaceLemmas.{entry_place, places_many, places_rise}
+use Rattle.dwz_graph.proofs.SearchLemmas.{search_down, search_up}
 use Rattle.dwz_graph_view.proofs.entry_views.find_entry.Goals as goal
 
 pub loop-low-preserved-then-at-offset-2 : goal.loop-low-preserved-then-at-offset-2

@@ -1,7 +1,7 @@
 use Rattle.std.proofs.Common.{◌-◌}
 use Rattle.dwz_def_reading.specs.Units.{entries_in}
-use Rattle.dwz_graph_resolve.specs.Places.{places}
-use Rattle.dwz_graph_resolve.proofs.SearchLemmas.{Searched}
+use Rattle.dwz_graph.specs.Places.{places}
+use Rattle.dwz_graph.proofs.SearchLemmas.{Searched}
 use Rattle.dwz_unit.specs.Rows.{units_of}
 use Rattle.dwz_graph_view.proofs.entry_views.find_entry.Given as goal
 

@@ -4,7 +4,7 @@ use Rattle.dwz_expr.specs.Gathering.{added}
 use Rattle.dwz_def_reading.specs.Exprs.{Expression, first_unnamed}
 use Rattle.dwz_def_reading.specs.Input.{Input}
 use Rattle.dwz_def_reading.specs.declared.exprs.Operand.{Operand}
-use Rattle.dwz_graph_resolve.specs.Operands.{is_named}
+use Rattle.dwz_graph.specs.Operands.{is_named}
 use Rattle.dwz_graph_view.proofs.PieceSteps.{of_expr}
 use Rattle.dwz_graph_view.proofs.ValueSteps.{expr_shown, expr_told, input_of}
 use Rattle.dwz_graph_view.proofs.pieces.expr_view.Goals as goal

@@ -2,7 +2,7 @@ use Rattle.std.proofs.Common.{◌≡◌, Some, map, ap, sym, ◌∙◌}
 use Rattle.std.specs.List.{flat_map}
 use Rattle.dwz_def_reading.specs.Exprs.{first_unnamed}
 use Rattle.dwz_def_reading.proofs.ListFacts.{drop_here, item_got}
-use Rattle.dwz_graph_resolve.specs.Operands.{is_named}
+use Rattle.dwz_graph.specs.Operands.{is_named}
 use Rattle.dwz_graph_view.specs.ValueViews.{named_in, part_of}
 use Rattle.dwz_graph_view.proofs.PieceSteps.{first_expr, last_exprs, last_places, next_expr, next_places, of_expr}
 use Rattle.dwz_graph_view.proofs.pieces.exprs_of.Goals as goal

@@ -2,7 +2,7 @@ use Rattle.std.proofs.Common.{◌≡◌, ◌++◌, ℕ, None, drop, map}
 use Rattle.dwz_def_reading.specs.Exprs.{first_unnamed, parts_of}
 use Rattle.dwz_def_reading.specs.Meanings.{MeaningContext, targets}
 use Rattle.dwz_def_reading.specs.Shared.{operands_of}
-use Rattle.dwz_graph_resolve.specs.Operands.{is_named}
+use Rattle.dwz_graph.specs.Operands.{is_named}
 use Rattle.dwz_graph_view.specs.Settings.{KnowsSetting}
 use Rattle.dwz_graph_view.specs.UnitViews.{place_in}
 use Rattle.dwz_graph_view.proofs.PieceSteps.{parts_in, places_in}

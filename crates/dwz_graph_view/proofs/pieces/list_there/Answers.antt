@@ -3,7 +3,7 @@ use Rattle.dwz_def_reading.specs.Exprs.{Expression, first_unnamed}
 use Rattle.dwz_def_reading.specs.LocLists.{LocList}
 use Rattle.dwz_def_reading.specs.Meanings.{any_with_address}
 use Rattle.dwz_def_reading.specs.Shared.{operands_of}
-use Rattle.dwz_graph_resolve.specs.Operands.{is_named}
+use Rattle.dwz_graph.specs.Operands.{is_named}
 use Rattle.dwz_graph_view.specs.PieceRows.{AreExprs}
 use Rattle.dwz_graph_view.proofs.ValueSteps.{list_shown}
 use Rattle.dwz_graph_view.proofs.pieces.list_there.Goals as goal

@@ -8,7 +8,7 @@ use Rattle.dwz_def_reading.specs.LocLists.{LocList}
 use Rattle.dwz_def_reading.specs.Meanings.{Sources}
 use Rattle.dwz_def_reading.specs.Shared.{operands_of}
 use Rattle.dwz_def_reading.specs.declared.exprs.Operand.{Operand}
-use Rattle.dwz_graph_resolve.specs.Operands.{is_named}
+use Rattle.dwz_graph.specs.Operands.{is_named}
 use Rattle.dwz_graph_view.specs.ValueViews.{Shows}
 use Rattle.dwz_label_entries.proofs.ListLemmas.{list_named, list_there}
 use Rattle.dwz_graph_view.proofs.pieces.list_view.Goals as goal

@@ -4,7 +4,7 @@ use Rattle.dwz_model.specs.declared.place.Piece.{Piece}
 use Rattle.dwz_def_reading.specs.Meanings.{target_of}
 use Rattle.dwz_def_reading.specs.declared.exprs.Operand.{Operand}
 use Rattle.dwz_def_reading.proofs.ListFacts.{drop_pairs}
-use Rattle.dwz_graph_resolve.specs.Operands.{is_named}
+use Rattle.dwz_graph.specs.Operands.{is_named}
 use Rattle.dwz_graph_view.specs.UnitViews.{place_in}
 use Rattle.dwz_label_entries.proofs.RefLemmas.{each_named}
 use Rattle.dwz_graph_view.proofs.PieceSteps.{last_named, last_part, next_named, next_parts}

@@ -2,7 +2,7 @@ use Rattle.std.proofs.Common.{◌≡◌, ◌++◌, ℕ, None, drop, map}
 use Rattle.std.specs.List.{flat_map}
 use Rattle.dwz_def_reading.specs.Exprs.{first_unnamed, parts_from}
 use Rattle.dwz_def_reading.specs.Meanings.{MeaningContext, targets}
-use Rattle.dwz_graph_resolve.specs.Operands.{is_named}
+use Rattle.dwz_graph.specs.Operands.{is_named}
 use Rattle.dwz_graph_view.specs.Settings.{KnowsSetting}
 use Rattle.dwz_graph_view.specs.UnitViews.{place_in}
 use Rattle.dwz_graph_view.specs.ValueViews.{named_in, part_of}

@@ -5,7 +5,7 @@ use Rattle.dwz_def_reading.specs.Classes.{Class, class_of}
 use Rattle.dwz_def_reading.specs.Entries.{RawAttr}
 use Rattle.dwz_def_reading.specs.Lists.{In}
 use Rattle.dwz_def_reading.specs.Meanings.{offset_of}
-use Rattle.dwz_graph_resolve.specs.Resolved.{stored}
+use Rattle.dwz_graph.specs.Resolved.{stored}
 use Rattle.dwz_unit.specs.Rows.{units_of}
 use Rattle.dwz_imports.specs.Said.{raw_beside}
 use Rattle.dwz_imports.specs.Stored.{IsPartOf, common_named, common_place, own_named, own_place}

@@ -1,6 +1,6 @@
 use Rattle.std.proofs.Common.{length, arith, sym, subst, ◌∙◌}
 use Rattle.dwz_unit.specs.Rows.{units_of}
-use Rattle.dwz_graph_resolve.proofs.SearchLemmas.{Searched, search_begins, search_down, search_ends, search_up}
+use Rattle.dwz_graph.proofs.SearchLemmas.{Searched, search_begins, search_down, search_ends, search_up}
 use Rattle.dwz_imports.specs.Stored.{roots}
 use Rattle.dwz_imports.proofs.RootPlaces.{roots_many, roots_rise}
 use Rattle.dwz_imports.proofs.roots.unit_with_root.Goals as goal

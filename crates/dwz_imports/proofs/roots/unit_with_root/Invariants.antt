@@ -1,6 +1,6 @@
 use Rattle.std.proofs.Common.{◌-◌, length}
 use Rattle.dwz_unit.specs.Rows.{units_of}
-use Rattle.dwz_graph_resolve.proofs.SearchLemmas.{Searched}
+use Rattle.dwz_graph.proofs.SearchLemmas.{Searched}
 use Rattle.dwz_imports.specs.Stored.{roots}
 use Rattle.dwz_imports.proofs.roots.unit_with_root.Given as goal
 

@@ -1,6 +1,6 @@
 use Rattle.std.proofs.Common.{arith}
 use Rattle.dwz_label_entries.proofs.KeptLemmas.{kept_done, kept_one, kept_other}
-use Rattle.dwz_graph_resolve.proofs.ValueSteps.{no_pair}
+use Rattle.dwz_graph.proofs.ValueSteps.{no_pair}
 use Rattle.dwz_label_entries.proofs.entries.count_of.Goals as goal
 use Rattle.dwz_label_entries.proofs.entries.count_of.Goals.{then-pair-ne-DW_AT_SIBLING, else-pair-ne-DW_AT_SIBLING}
 

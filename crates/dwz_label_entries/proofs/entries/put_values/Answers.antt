@@ -3,9 +3,9 @@ use Rattle.std.specs.Prelude.{IsOk}
 use Rattle.dwz_def_reading.specs.Entries.{RawAttr}
 use Rattle.dwz_forms.specs.RawValues.{raw_view}
 use Rattle.dwz_unit.proofs.ReadsLemmas.{reads_count, reads_next}
-use Rattle.dwz_graph_resolve.proofs.RowLemmas.{row_there}
-use Rattle.dwz_graph_resolve.proofs.ValueSteps.{next_read, no_pair}
-use Rattle.dwz_graph_resolve.specs.Resolved.{around}
+use Rattle.dwz_graph.proofs.RowLemmas.{row_there}
+use Rattle.dwz_graph.proofs.ValueSteps.{next_read, no_pair}
+use Rattle.dwz_graph.specs.Resolved.{around}
 use Rattle.dwz_graph.proofs.StepLemmas.{entry}
 use Rattle.dwz_label_entries.specs.Sources.{raw_of, scope_at}
 use Rattle.dwz_label_entries.proofs.AttrsLemmas.{entry_in, left_all, left_means, left_more, left_none, line_for}

@@ -1,6 +1,6 @@
 use Rattle.std.proofs.Common.{◌≡◌, ◌++◌, List, ℕ, ap, refl, ◌∙◌}
 use Rattle.dwz_label.specs.Labels.{counted}
-use Rattle.dwz_graph_resolve.specs.Resolved.{scope_in}
+use Rattle.dwz_graph.specs.Resolved.{scope_in}
 use Rattle.dwz_unit.specs.Rows.{units_of}
 use Rattle.dwz_label_entries.proofs.names.put_name.Goals as goal
 

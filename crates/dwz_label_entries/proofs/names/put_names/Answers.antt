@@ -3,7 +3,7 @@ use Rattle.std.proofs.lemmas.List.{drop_all}
 use Rattle.dwz_def_reading.specs.Units.{entries_in}
 use Rattle.dwz_def_reading.proofs.ListFacts.{drop_pairs}
 use Rattle.dwz_label.specs.Labels.{counted}
-use Rattle.dwz_graph_resolve.specs.Resolved.{around}
+use Rattle.dwz_graph.specs.Resolved.{around}
 use Rattle.dwz_unit.specs.Rows.{units_of}
 use Rattle.dwz_label_entries.proofs.NamesLemmas.{names_all, next_name, no_name, space_means, space_named}
 use Rattle.dwz_label_entries.proofs.ListFacts.{each_rest}

@@ -3,7 +3,7 @@ use Rattle.dwz_def_tops.specs.Spots.{SpaceName}
 use Rattle.dwz_def_reading.specs.Units.{RawUnit, entries_in}
 use Rattle.dwz_graph.specs.Chains.{AreSpacesAt}
 use Rattle.dwz_label.specs.Labels.{counted, each_counted}
-use Rattle.dwz_graph_resolve.specs.Resolved.{IsHere, around}
+use Rattle.dwz_graph.specs.Resolved.{IsHere, around}
 use Rattle.dwz_def_reading.specs.Lists.{Each}
 use Rattle.dwz_unit.specs.Rows.{units_of}
 use Rattle.dwz_label_entries.proofs.NamesLemmas.{NamesLeft}

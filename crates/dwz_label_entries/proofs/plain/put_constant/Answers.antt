@@ -1,6 +1,6 @@
 use Rattle.std.proofs.Common.{refl, sym, ◌∙◌}
 use Rattle.dwz_def_reading.specs.Meanings.{stmt_list}
-use Rattle.dwz_graph_resolve.specs.Resolved.{stored}
+use Rattle.dwz_graph.specs.Resolved.{stored}
 use Rattle.dwz_label_entries.proofs.PlainLemmas.{file_means, file_names, numbers}
 use Rattle.dwz_label_entries.proofs.plain.put_constant.Goals as goal
 

@@ -1,7 +1,7 @@
 use Rattle.std.proofs.Common.{ℕ, ap, sym, ◌∙◌}
 use Rattle.dwz_def_reading.specs.Meanings.{Sources}
 use Rattle.dwz_def_reading.specs.Meant.{list_meaning}
-use Rattle.dwz_graph_resolve.specs.Resolved.{stored}
+use Rattle.dwz_graph.specs.Resolved.{stored}
 use Rattle.dwz_label_entries.proofs.PlainLemmas.{list_means}
 use Rattle.dwz_label_entries.proofs.plain.put_offset_of.Goals as goal
 

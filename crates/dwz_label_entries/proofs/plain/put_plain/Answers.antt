@@ -2,7 +2,7 @@ use Rattle.std.proofs.Common.{ℕ, Option, ap, sym, refl, ◌∙◌}
 use Rattle.dwz_def_reading.specs.Classes.{OfConstant, OfExpression, OfInfoEntry, OfListIndex, OfOffset, OfUnitEntry}
 use Rattle.dwz_def_reading.specs.Meanings.{Sources}
 use Rattle.dwz_def_reading.specs.Meant.{list_from}
-use Rattle.dwz_graph_resolve.specs.Resolved.{stored}
+use Rattle.dwz_graph.specs.Resolved.{stored}
 use Rattle.dwz_label_entries.proofs.PlainLemmas.{as_is, is_class, simple_is}
 use Rattle.dwz_label_entries.proofs.plain.put_plain.Goals as goal
 

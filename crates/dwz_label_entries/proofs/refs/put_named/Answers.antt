@@ -1,6 +1,6 @@
 use Rattle.std.proofs.Common.{◌≡◌, false, sym, true, ◌∙◌}
 use Rattle.dwz_def_reading.specs.Meanings.{target_of}
-use Rattle.dwz_graph_resolve.specs.Resolved.{scope_in}
+use Rattle.dwz_graph.specs.Resolved.{scope_in}
 use Rattle.dwz_unit.specs.Rows.{units_of}
 use Rattle.dwz_label_entries.proofs.TargetLemmas.{name_there}
 use Rattle.dwz_label_entries.proofs.refs.put_named.Goals as goal

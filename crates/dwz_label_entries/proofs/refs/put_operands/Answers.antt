@@ -4,8 +4,8 @@ use Rattle.dwz_def_reading.specs.declared.exprs.Operand.{Operand}
 use Rattle.dwz_def_reading.specs.Meanings.{target_of}
 use Rattle.dwz_model.specs.declared.place.Base.TheVariants.{Unit as FromUnit}
 use Rattle.dwz_def_reading.proofs.ListFacts.{drop_pairs}
-use Rattle.dwz_graph_resolve.specs.Operands.{is_named}
-use Rattle.dwz_graph_resolve.specs.Resolved.{scope_in}
+use Rattle.dwz_graph.specs.Operands.{is_named}
+use Rattle.dwz_graph.specs.Resolved.{scope_in}
 use Rattle.dwz_unit.specs.Rows.{units_of}
 use Rattle.dwz_label_entries.proofs.RefLemmas.{each_named, next_operand, no_operand}
 use Rattle.dwz_label_entries.proofs.refs.put_operands.Goals as goal

@@ -5,8 +5,8 @@ use Rattle.dwz_def_reading.specs.Units.{RawUnit}
 use Rattle.dwz_label.specs.Labels.{target_label}
 use Rattle.dwz_def_reading.specs.Exprs.{first_unnamed}
 use Rattle.dwz_def_reading.specs.Meanings.{targets}
-use Rattle.dwz_graph_resolve.specs.Operands.{is_named}
-use Rattle.dwz_graph_resolve.specs.Resolved.{IsHere, scope_in}
+use Rattle.dwz_graph.specs.Operands.{is_named}
+use Rattle.dwz_graph.specs.Resolved.{IsHere, scope_in}
 use Rattle.dwz_unit.specs.Rows.{units_of}
 use Rattle.dwz_label_entries.specs.Targets.{KnowsNames}
 use Rattle.dwz_label_entries.proofs.refs.put_operands.Given as goal

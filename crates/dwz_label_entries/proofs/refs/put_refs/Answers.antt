@@ -2,7 +2,7 @@ use Rattle.std.proofs.Common.{ℕ, List, drop, subst}
 use Rattle.dwz_graph.specs.Rows.{AreTargets}
 use Rattle.dwz_label_entries.specs.declared.named.Named.{Named}
 use Rattle.dwz_label_entries.specs.Plain.{NamesSo}
-use Rattle.dwz_graph_resolve.specs.Resolved.{scope_in}
+use Rattle.dwz_graph.specs.Resolved.{scope_in}
 use Rattle.dwz_unit.specs.Rows.{units_of}
 use Rattle.dwz_label_entries.proofs.RefLemmas.{counted_operands}
 use Rattle.dwz_label_entries.proofs.refs.put_refs.Goals as goal

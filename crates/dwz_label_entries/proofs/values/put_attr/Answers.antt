@@ -1,5 +1,5 @@
 use Rattle.std.proofs.Common.{drop}
-use Rattle.dwz_graph_resolve.specs.Resolved.{stored}
+use Rattle.dwz_graph.specs.Resolved.{stored}
 use Rattle.dwz_graph.proofs.StepLemmas.{value}
 use Rattle.dwz_label_entries.specs.Sources.{raw_of, scope_at}
 use Rattle.dwz_label_entries.proofs.ValueLemmas.{skipped, told}

@@ -10,8 +10,8 @@ use Rattle.dwz_def_reading.proofs.ListFacts.{got_below, item_got, same_got}
 use Rattle.dwz_graph.specs.Rows.{AreTargets, nodes, nodes_refs}
 use Rattle.dwz_label.specs.Shown.{nth_label}
 use Rattle.dwz_def_reading.specs.LineTables.{FileTable}
-use Rattle.dwz_graph_resolve.specs.Parts.{HasLine}
-use Rattle.dwz_graph_resolve.specs.Resolved.{AreEntries, around}
+use Rattle.dwz_graph.specs.Parts.{HasLine}
+use Rattle.dwz_graph.specs.Resolved.{AreEntries, around}
 use Rattle.dwz_unit.specs.Rows.{units_of}
 use Rattle.dwz_graph.specs.Index.{Index}
 use Rattle.dwz_label_files.proofs.top.put_top_of.Goals as goal

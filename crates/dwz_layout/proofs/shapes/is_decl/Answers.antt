@@ -1,6 +1,7 @@
 use Rattle.std.proofs.Common.{◌≡◌, ◌∙◌, sym}
 use Rattle.std.proofs.lemmas.Slice.Eq.{slice_eq-Decides}
-use Rattle.dwz_layout.proofs.ShapeLemmas.{bools_same, decl_shape, pair_decides}
+use Rattle.dwz_abbrev.proofs.ShapeLemmas.{bools_same, pair_decides}
+use Rattle.dwz_layout.proofs.ShapeLemmas.{decl_shape}
 use Rattle.dwz_layout.proofs.shapes.is_decl.Goals as goal
 
 pub returns : goal.returns

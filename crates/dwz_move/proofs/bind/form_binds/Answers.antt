@@ -3,7 +3,7 @@ use Rattle.dwz_def_tops.specs.Alike.{binding_forms}
 use Rattle.dwz_def_reading.specs.Rows.{has}
 use Rattle.dwz_def_reading.specs.Documents.{Value}
 use Rattle.dwz_def_reading.specs.Classes.{class_of}
-use Rattle.dwz_graph_resolve.specs.Named.{value_refs}
+use Rattle.dwz_graph.specs.Named.{value_refs}
 use Rattle.dwz_move.specs.Bound.{AreInto, is_expression}
 use Rattle.dwz_move.specs.Values.{is_entry}
 use Rattle.dwz_move.proofs.BindLemmas.{binds_entry, binds_form, binds_plain, first_into, value_says}

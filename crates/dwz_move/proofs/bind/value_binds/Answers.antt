@@ -4,7 +4,7 @@ use Rattle.dwz_def_tops.specs.Alike.{binding_forms}
 use Rattle.dwz_def_reading.specs.Entries.{RawAttr}
 use Rattle.dwz_def_reading.specs.Rows.{has}
 use Rattle.dwz_def_reading.specs.Classes.{class_of}
-use Rattle.dwz_graph_resolve.specs.Resolved.{stored}
+use Rattle.dwz_graph.specs.Resolved.{stored}
 use Rattle.dwz_move.specs.Bound.{is_expression}
 use Rattle.dwz_move.proofs.BindLemmas.{binds_address, binds_operands, reads, said_expression}
 use Rattle.dwz_move.proofs.bind.value_binds.Goals as goal

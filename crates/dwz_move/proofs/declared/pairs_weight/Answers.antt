@@ -1,5 +1,5 @@
 use Rattle.std.proofs.Common.{sym, ◌∙◌, arith}
-use Rattle.dwz_graph_resolve.proofs.ValueSteps.{no_pair}
+use Rattle.dwz_graph.proofs.ValueSteps.{no_pair}
 use Rattle.dwz_move.specs.Weights.{pairs_weight}
 use Rattle.dwz_move.proofs.DeclaredWeights.{weights_all, weights_end, weights_more, weights_unknown}
 use Rattle.dwz_move.proofs.WeightLemmas.{capped_few}

@@ -1,6 +1,6 @@
 use Rattle.std.proofs.Common.{ℕ, ◌<◌, List, get_or, arith}
 use Rattle.dwz_def_reading.specs.Units.{entries_in}
-use Rattle.dwz_graph_resolve.specs.Resolved.{place_at}
+use Rattle.dwz_graph.specs.Resolved.{place_at}
 use Rattle.dwz_move.proofs.IntoLemmas.{entry_at, refs_next}
 use Rattle.dwz_move.proofs.into.tops_of.Goals as goal
 

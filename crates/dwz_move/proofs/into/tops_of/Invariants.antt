@@ -2,7 +2,7 @@ use Rattle.std.proofs.Common.{◌≡◌, ℕ, List, length, take}
 use Rattle.dwz_def_tops.specs.Spots.{EntryName}
 use Rattle.dwz_def_reading.specs.Units.{RawUnit, entries_in}
 use Rattle.dwz_graph.specs.Index.{IsIndex}
-use Rattle.dwz_graph_resolve.specs.Resolved.{AreEntries}
+use Rattle.dwz_graph.specs.Resolved.{AreEntries}
 use Rattle.dwz_move.specs.Known.{NamesEntries, tops_of_refs}
 use Rattle.dwz_move.proofs.into.tops_of.Given as goal
 

@@ -6,8 +6,8 @@ use Rattle.dwz_def_reading.specs.declared.exprs.Operand.{Operand}
 use Rattle.dwz_def_reading.specs.Documents.{attr_map}
 use Rattle.dwz_def_reading.specs.Classes.{class_of}
 use Rattle.dwz_def_reading.specs.Meant.{attr_with}
-use Rattle.dwz_graph_resolve.specs.Named.{value_refs}
-use Rattle.dwz_graph_resolve.specs.Resolved.{stored}
+use Rattle.dwz_graph.specs.Named.{value_refs}
+use Rattle.dwz_graph.specs.Resolved.{stored}
 use Rattle.dwz_move.specs.Bound.{is_expression}
 use Rattle.dwz_move.specs.Marked.{Marks, asked_tops, expression_names, expression_pins}
 use Rattle.dwz_move.specs.Values.{is_entry}

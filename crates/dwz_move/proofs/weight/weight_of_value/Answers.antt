@@ -2,7 +2,7 @@ use Rattle.std.proofs.Common.{◌≡◌, ℕ, ◌+◌, List, Option, Some, None,
 use Rattle.dwz_def_reading.specs.Values.{value_bytes}
 use Rattle.dwz_forms.specs.RawValues.{raw_view}
 use Rattle.dwz_def_reading.specs.Classes.{class_of, names_file}
-use Rattle.dwz_graph_resolve.specs.Resolved.{stored}
+use Rattle.dwz_graph.specs.Resolved.{stored}
 use Rattle.dwz_move.specs.Weights.{set_weight}
 use Rattle.dwz_move.proofs.WeightLemmas.{form_fits, text_weighs, value_weighs, weight_or}
 use Rattle.dwz_move.proofs.weight.weight_of_value.Goals as goal

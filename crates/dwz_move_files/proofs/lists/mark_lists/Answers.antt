@@ -1,5 +1,5 @@
 use Rattle.std.proofs.Common.{ℕ, List, Option, length, sym, ap, subst, ◌∙◌}
-use Rattle.dwz_graph_resolve.specs.Resolved.{AreEntries}
+use Rattle.dwz_graph.specs.Resolved.{AreEntries}
 use Rattle.dwz_move.specs.Known.{tops_of_refs}
 use Rattle.dwz_move.specs.Marked.{Marks}
 use Rattle.dwz_move_files.specs.Lists.{uleb_tops}

@@ -1,7 +1,7 @@
 use Rattle.std.proofs.Common.{◌≡◌, ◌∙◌, ℕ, Option, Some, false, true, length, map, ap, sym, subst}
 use Rattle.std.specs.List.{list_any}
 use Rattle.dwz_def_tops.specs.Spots.{Top, units_of}
-use Rattle.dwz_law_files.proofs.FileCounts.{files_many}
+use Rattle.dwz_layout_order.proofs.FileCounts.{files_many}
 use Rattle.dwz_graph.specs.Files.{docs_of}
 use Rattle.dwz_def_plan.specs.Moves.{line_attrs}
 use Rattle.dwz_layout_order.specs.Orders.{ShowsLine}

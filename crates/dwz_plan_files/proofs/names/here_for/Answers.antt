@@ -1,5 +1,5 @@
 use Rattle.std.proofs.Common.{arith}
-use Rattle.dwz_graph_resolve.proofs.UnitThere.{unit_ends, unit_there}
+use Rattle.dwz_graph.proofs.UnitThere.{unit_ends, unit_there}
 use Rattle.dwz_unit.specs.Rows.{units_of}
 use Rattle.dwz_plan_files.proofs.names.here_for.Goals as goal
 

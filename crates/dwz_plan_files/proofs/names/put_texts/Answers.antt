@@ -4,8 +4,8 @@ use Rattle.std.proofs.lemmas.Option.{slice_get-get_or}
 use Rattle.dwz_def_reading.proofs.ListFacts.{got_there}
 use Rattle.dwz_graph.specs.declared.index.SpaceEntry.{SpaceEntry}
 use Rattle.dwz_graph.proofs.RowUnits.{unit_within}
-use Rattle.dwz_graph_resolve.specs.Resolved.{around}
-use Rattle.dwz_graph_resolve.proofs.RowLemmas.{entry_row}
+use Rattle.dwz_graph.specs.Resolved.{around}
+use Rattle.dwz_graph.proofs.RowLemmas.{entry_row}
 use Rattle.dwz_unit.specs.declared.rows.RawEntry.{RawEntry}
 use Rattle.dwz_unit.specs.Rows.{units_of}
 use Rattle.dwz_plan_files.specs.Names.{look}

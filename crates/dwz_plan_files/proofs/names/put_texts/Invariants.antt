@@ -1,5 +1,5 @@
 use Rattle.std.proofs.Common.{◌≡◌, ◌+◌, ℕ, List, length}
-use Rattle.dwz_graph_resolve.specs.Resolved.{around}
+use Rattle.dwz_graph.specs.Resolved.{around}
 use Rattle.dwz_unit.specs.Rows.{units_of}
 use Rattle.dwz_plan_files.specs.Names.{HaveNumbers, Reads, WasHere, look}
 use Rattle.dwz_plan_files.proofs.names.put_texts.Given as goal

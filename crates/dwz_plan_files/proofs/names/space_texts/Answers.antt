@@ -9,10 +9,10 @@ use Rattle.dwz_graph.specs.declared.index.Starts.{Starts}
 use Rattle.dwz_layout_order.specs.Lists.{all_spaces}
 use Rattle.dwz_layout_order.specs.Shown.{text_of}
 use Rattle.dwz_layout_order.specs.Spaces.{said_of}
-use Rattle.dwz_graph_resolve.specs.Resolved.{around}
+use Rattle.dwz_graph.specs.Resolved.{around}
 use Rattle.dwz_unit.specs.Rows.{units_of as raw_units}
-use Rattle.dwz_law_files.specs.Across.{starts_at}
-use Rattle.dwz_law_files.proofs.FileCounts.{are_many}
+use Rattle.dwz_layout_order.specs.Across.{starts_at}
+use Rattle.dwz_layout_order.proofs.FileCounts.{are_many}
 use Rattle.dwz_move_files.proofs.FilesKnown.{below}
 use Rattle.dwz_move_files.proofs.MarkSteps.{starts_zero}
 use Rattle.dwz_plan_files.specs.Names.{HaveNumbers, Reads, look}

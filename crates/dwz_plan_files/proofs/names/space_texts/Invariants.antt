@@ -1,7 +1,7 @@
 use Rattle.std.proofs.Common.{◌≡◌, length}
 use Rattle.dwz_def_tops.specs.Spots.{units_of}
 use Rattle.dwz_graph.specs.Files.{docs_of}
-use Rattle.dwz_law_files.specs.Across.{starts_at}
+use Rattle.dwz_layout_order.specs.Across.{starts_at}
 use Rattle.dwz_layout_order.specs.Shown.{text_of}
 use Rattle.dwz_layout_order.specs.Spaces.{said_of}
 use Rattle.dwz_plan_files.specs.Names.{HaveNumbers, look}

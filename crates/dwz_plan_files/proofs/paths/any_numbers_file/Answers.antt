@@ -1,7 +1,7 @@
 use Rattle.std.proofs.Common.{refl, arith}
 use Rattle.std.specs.Prelude.{slice_range}
 use Rattle.std.specs.List.{list_any}
-use Rattle.dwz_graph_resolve.proofs.RowLemmas.{row_there}
+use Rattle.dwz_graph.proofs.RowLemmas.{row_there}
 use Rattle.dwz_unit.specs.Rows.{rows_of, units_of}
 use Rattle.dwz_plan_files.specs.Roots.{numbers_file}
 use Rattle.dwz_plan_files.proofs.WalkLemmas.{any_end, any_here, any_next}

@@ -2,8 +2,8 @@ use Rattle.std.proofs.Common.{◌∙◌, List, Option, ℕ, ap, subst, map}
 use Rattle.dwz_def_reading.specs.Files.{around_of}
 use Rattle.dwz_move.specs.Marked.{Marks}
 use Rattle.dwz_unit.specs.Rows.{units_of}
-use Rattle.dwz_law_files.specs.Across.{name_at}
-use Rattle.dwz_law_files.proofs.FileEntries.{all_entries}
+use Rattle.dwz_layout_order.specs.Across.{name_at}
+use Rattle.dwz_layout_order.proofs.FileEntries.{all_entries}
 use Rattle.dwz_move_files.proofs.FileMarks.{units_mean}
 use Rattle.dwz_plan_files.specs.Places.{list_spaces, number_at}
 use Rattle.dwz_plan_files.proofs.FilePins.{file_pins, knows}

@@ -3,7 +3,7 @@ use Rattle.dwz_def_reading.specs.Entries.{RawAttr}
 use Rattle.dwz_def_reading.specs.Units.{RawUnit}
 use Rattle.dwz_graph.proofs.UnitBuilding.{root_within}
 use Rattle.dwz_def_reading.specs.Meanings.{first_raw}
-use Rattle.dwz_graph_resolve.proofs.UnitThere.{root_found, same_unit, unit_there}
+use Rattle.dwz_graph.proofs.UnitThere.{root_found, same_unit, unit_there}
 use Rattle.dwz_unit.specs.Rows.{units_of}
 use Rattle.dwz_plan_files.specs.Steps.{LineOf}
 use Rattle.dwz_plan_files.proofs.places.line_of_unit.Goals as goal

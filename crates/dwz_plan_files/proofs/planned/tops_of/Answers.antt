@@ -1,7 +1,7 @@
 use Rattle.std.proofs.Common.{length, arith}
 use Rattle.dwz_graph.specs.Files.{docs_of}
 use Rattle.dwz_graph.proofs.IndexesThere.{indexes_there}
-use Rattle.dwz_law_files.proofs.FileCounts.{are_many}
+use Rattle.dwz_layout_order.proofs.FileCounts.{are_many}
 use Rattle.dwz_move_files.proofs.FilesLow.{tops_few}
 use Rattle.dwz_plan_files.proofs.OutlineNeeds.{rows_many, units_many, with_files}
 use Rattle.dwz_plan_files.proofs.UnitRoom.{units_small}

@@ -3,7 +3,7 @@ use Rattle.dwz_def_reading.specs.Units.{entries_in}
 use Rattle.dwz_def_reading.proofs.ListFacts.{got_below, same_got}
 use Rattle.dwz_graph.specs.declared.file.File.{File}
 use Rattle.dwz_layout.proofs.KnownLemmas.{file_found}
-use Rattle.dwz_graph_resolve.proofs.RowLemmas.{row_is, rows-length}
+use Rattle.dwz_graph.proofs.RowLemmas.{row_is, rows-length}
 use Rattle.dwz_unit.specs.declared.rows.RawEntry.{RawEntry}
 use Rattle.dwz_unit.specs.Rows.{rows_of, units_of}
 use Rattle.dwz_plan_files.proofs.tops.line_at.Goals as goal

@@ -1,4 +1,4 @@
-use Rattle.dwz_graph_resolve.proofs.RowLemmas.{row_there}
+use Rattle.dwz_graph.proofs.RowLemmas.{row_there}
 use Rattle.dwz_unit.specs.Rows.{units_of}
 use Rattle.dwz_plan_files.proofs.PlaceLemmas.{says_line, unit_is, within}
 use Rattle.dwz_plan_files.proofs.tops.line_of_top.Goals as goal

@@ -1,5 +1,5 @@
 use Rattle.std.proofs.Common.{◌≡◌, ◌&&◌, Bool, Some, true, false, refl, sym, ◌∙◌}
-use Rattle.dwz_graph_resolve.proofs.RowLemmas.{row_there}
+use Rattle.dwz_graph.proofs.RowLemmas.{row_there}
 use Rattle.dwz_unit.specs.Rows.{entry_shown, units_of}
 use Rattle.dwz_plan_files.proofs.PlaceLemmas.{ends, says_path, shown_here, within}
 use Rattle.dwz_plan_files.proofs.tops.top_numbers_file.Goals as goal

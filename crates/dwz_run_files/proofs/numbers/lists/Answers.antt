@@ -1,6 +1,6 @@
 use Rattle.std.proofs.Common.{◌<◌, List, length, sym, subst, ◌∙◌}
 use Rattle.std.specs.Prelude.{All}
-use Rattle.dwz_graph_resolve.specs.declared.operands.ListOperand.{ListOperand}
+use Rattle.dwz_graph.specs.ListOperand.{ListOperand}
 use Rattle.dwz_encode_sections.specs.Numbers.{EndIn}
 use Rattle.dwz_run_files.proofs.FileFacts.{few_entries, operands_end, operands_inside, stand_ins_many}
 use Rattle.dwz_run_files.proofs.StepsFound.{lists_found}

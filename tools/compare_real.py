@@ -8,7 +8,8 @@ The files are those of `small_programs.py`. The program writes each anew with `-
 --jobs). Status, text and bytes have to be those of the model, the common file's too. Where something of a file moved, each reader that
 is at hand (gdb, readelf, eu-readelf, llvm-dwarfdump) has to say of the new file what it said of the old one: `debug_readers.py` tells
 what is asked, and what may differ. In the way `alone` they are asked too of the file that the dwz of a distribution writes, where it is
-at hand and takes the file: how much differs there is shown beside. gdb 13, readelf 2.40, eu-readelf 0.188 and llvm-dwarfdump 14 don't
+at hand and takes the file: how much differs there is shown beside. The program itself has to say (--check) that each new file is the same as
+the old one; where it doesn't find two files of a set to differ, a line says so. gdb 13, readelf 2.40, eu-readelf 0.188 and llvm-dwarfdump 14 don't
 follow references into a common file by DWARF 5 (7.5.4); so of files with one they are asked of what tools/gnu_forms.py makes of them.
 With --only just the sets are taken whose names have one of these words.
 
@@ -84,6 +85,28 @@ def read_files(name, asked, folder, before, after, counts):
             read_again("%s, %s" % (name, os.fsdecode(file)), asked, old, made, other, counts)
 
 
+def check_files(name, program, before, after, counts):
+    """Asks the program itself (--check) of each file of a set whether it means what it meant, and of each pair of two whether it sees that these differ."""
+    new = {file: data for file, data in after.items() if file != b"out"}
+    if b"out" in after:
+        new[b"one"] = after[b"out"]
+    sup = [b"--sup", COMMON] if COMMON in new else []
+    held = {**{b"old-" + file: data for file, data in before.items()}, **new}
+    for file in before:
+        with tempfile.TemporaryDirectory() as place:
+            status, text, _ = run_program(program, [b"--check", b"old-" + file, file] + sup, held, place)
+        counts["checked"] += 1
+        if (status, text) != (0, b"same\n"):
+            counts["not the same"] += 1
+            print("%s, %s: --check says %d, %s" % (name, os.fsdecode(file), status, text.decode(errors="replace")), flush=True)
+    names = sorted(before)
+    for one, other in zip(names, names[1:]):
+        with tempfile.TemporaryDirectory() as place:
+            status, text, _ = run_program(program, [b"--check", b"old-" + one, other] + sup, held, place)
+        if status != 8 and before[one] != before[other]:
+            print("%s, %s and %s: --check says %d, %s" % (name, os.fsdecode(one), os.fsdecode(other), status, text.decode(errors="replace")), flush=True)
+
+
 def compare_set(name, words, held, jobs, program, model, counts):
     """The status and the files after a run, once it was compared, for each number of workers."""
     counts["sets"] += 1
@@ -122,16 +145,17 @@ def main():
     else:
         print("no model in %s: status, text and bytes aren't compared" % options.model)
     asked = at_hand()
-    counts = dict.fromkeys(["sets", "written", "with a common file", "refused", "differ", "asked", "not asked", "read less"], 0)
+    counts = dict.fromkeys(["sets", "written", "with a common file", "refused", "differ", "checked", "not the same", "asked", "not asked", "read less"], 0)
     with tempfile.TemporaryDirectory() as temporary:
         folder = options.keep or temporary
         for name, words, held in sets_of(os.path.join(folder, "built"), options.ways):
             if any(word in name for word in options.only.split(",")):
                 status, after = compare_set(name, words, held, options.jobs, program, model, counts)
                 if status == 0:
+                    check_files(name, program, held, after, counts)
                     read_files(name, asked, os.path.join(folder, "read", name), held, after, counts)
     print(", ".join("%s %d" % pair for pair in counts.items()))
-    return 1 if counts["differ"] or counts["read less"] else 0
+    return 1 if counts["differ"] or counts["not the same"] or counts["read less"] else 0
 
 
 if __name__ == "__main__":

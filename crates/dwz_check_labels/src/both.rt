@@ -48,7 +48,8 @@ pub fn labels_of_sources(
     requires new { IsSourceReady new.now }
     requires common { IsBesideReady common.now }
     requires few { AreFew old.now new.now common.now }
-    ensures { (a b c : Named) → KnowsNamed old.now a → KnowsNamed new.now b → KnowsBeside common.now c
+    ensures many { IfOk result (λ x. length x.targets ≡ length x.labels) }
+    ensures labels { (a b c : Named) → KnowsNamed old.now a → KnowsNamed new.now b → KnowsBeside common.now c
         → IfOk result (λ x. (x.labels ≡ all_labels a b c) × (x.targets ≡ all_targets a b c)) }
 {
     let mut labels = Labels::new(old.alloc);

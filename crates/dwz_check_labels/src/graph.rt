@@ -74,7 +74,8 @@ fn labels_alone<'s, 'a>(
     requires said { AreFilesSaid old.now new.now None indexes.now }
     requires old_heres { AreHeres (units_of old.now.units) heres.now.old.items }
     requires new_heres { AreHeres (units_of new.now.units) heres.now.new.items }
-    ensures { IfOk result (λ x. AreLabelsFor old.now new.now None indexes.now x.labels x.targets) }
+    ensures many { IfOk result (λ x. length x.targets ≡ length x.labels) }
+    ensures labels { IfOk result (λ x. AreLabelsFor old.now new.now None indexes.now x.labels x.targets) }
 {
     let first = named_file(old, &[], &indexes.old, heres.old.as_slice());
     let second = named_file(new, &[], &indexes.new, heres.new.as_slice());
@@ -97,7 +98,8 @@ fn labels_with<'s, 'a>(
     requires old_heres { AreHeres (units_of old.now.units) heres.now.old.items }
     requires new_heres { AreHeres (units_of new.now.units) heres.now.new.items }
     requires heres { AreHeres (units_of common.now.units) heres.now.common.items }
-    ensures { IfOk result (λ x. AreLabelsFor old.now new.now (Some common.now) (with_index indexes.now index.now) x.labels x.targets) }
+    ensures many { IfOk result (λ x. length x.targets ≡ length x.labels) }
+    ensures labels { IfOk result (λ x. AreLabelsFor old.now new.now (Some common.now) (with_index indexes.now index.now) x.labels x.targets) }
 {
     let strs = common.sections.strs.bytes;
     let first = named_file(old, strs, &indexes.old, heres.old.as_slice());
@@ -119,7 +121,8 @@ fn labels_beside<'s, 'a>(
     index: &'s CrossIndex,
 ) -> Result<CrossLabels, NoMemory>
     requires { AreFilesSaid old.now new.now (Some common.now) (with_index indexes.now index.now) }
-    ensures { IfOk result (λ x. AreLabelsFor old.now new.now (Some common.now) (with_index indexes.now index.now) x.labels x.targets) }
+    ensures many { IfOk result (λ x. length x.targets ≡ length x.labels) }
+    ensures labels { IfOk result (λ x. AreLabelsFor old.now new.now (Some common.now) (with_index indexes.now index.now) x.labels x.targets) }
 {
     let heres = heres_beside(alloc, &old.units, &new.units, &common.units)?;
     labels_with(alloc, old, new, common, indexes, index, &heres)
@@ -135,7 +138,8 @@ fn labels_beside_none<'s, 'a>(
 ) -> Result<CrossLabels, NoMemory>
     requires said { AreFilesSaid old.now new.now (Some common.now) indexes.now }
     requires none { indexes.now.common ≡ None }
-    ensures { IfOk result (λ x. AreLabelsFor old.now new.now (Some common.now) indexes.now x.labels x.targets) }
+    ensures many { IfOk result (λ x. length x.targets ≡ length x.labels) }
+    ensures labels { IfOk result (λ x. AreLabelsFor old.now new.now (Some common.now) indexes.now x.labels x.targets) }
 {
     let index = CrossIndex::read(alloc, &common.units, &CrossStarts { top: 0, lone: 0 })?;
     labels_beside(alloc, old, new, common, indexes, &index)
@@ -150,7 +154,8 @@ pub fn labels_of_files<'s, 'a>(
     indexes: &'s CrossIndexes,
 ) -> Result<CrossLabels, NoMemory>
     requires { AreFilesSaid old.now new.now (option_map (λ f. f.now) common) indexes.now }
-    ensures { IfOk result (λ x. AreLabelsFor old.now new.now (option_map (λ f. f.now) common.entry) indexes.now x.labels x.targets) }
+    ensures many { IfOk result (λ x. length x.targets ≡ length x.labels) }
+    ensures labels { IfOk result (λ x. AreLabelsFor old.now new.now (option_map (λ f. f.now) common.entry) indexes.now x.labels x.targets) }
 {
     match common {
         None => {
@@ -173,7 +178,8 @@ pub fn labels_of<'s, 'a>(
 ) -> Result<CrossLabels, NoMemory>
     requires two { length graph.now.back ≡ 2 }
     requires indexes { AreIndexesOf graph.now indexes.now }
-    ensures { IfOk result (λ x. AreLabelsOf graph.now x.labels x.targets) }
+    ensures many { IfOk result (λ x. length x.targets ≡ length x.labels) }
+    ensures labels { IfOk result (λ x. AreLabelsOf graph.now x.labels x.targets) }
 {
     placed_laws();
     let files = graph.back();

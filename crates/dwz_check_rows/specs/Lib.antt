@@ -1,4 +1,3 @@
 pub mod UnitRows
 pub mod Keys
 pub mod Rows
-pub mod Texts

@@ -1,7 +1,7 @@
 //! What is printed of the answer.
 
 ghost use Rattle.std.specs.Prelude.{◌≡◌, IfOk};
-ghost use Rattle.dwz_check_rows.specs.Texts;
+ghost use Rattle.dwz_def_check.specs.Texts;
 
 use dwz_def_check::Same;
 use dwz_model::{Blob, NoMemory};

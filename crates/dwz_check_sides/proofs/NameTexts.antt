@@ -81,7 +81,7 @@ under_long space names top (Entry e children next) = by (space_text e) (λ n t. 
         rest names (top + tops_under children),
       )
 
-unit_long : (n top : ℕ) (k : Kind ℕ) (u : DwUnit ℕ) → length (cross_unit_names n top k u) ≡ size u.below + 1
+pub unit_long : (n top : ℕ) (k : Kind ℕ) (u : DwUnit ℕ) → length (cross_unit_names n top k u) ≡ size u.below + 1
 unit_long n top Compile u = omega (arith, under_long (WholeSpace n) [] top u.below)
 unit_long n top (OfType signature main) u = omega (arith, below_long top [] 0 u.below)
 unit_long n top Partial u = omega (arith, under_long PartSpace [] top u.below)

@@ -76,7 +76,7 @@ last_of top lone (u ∷ units) (suc n) x e le =
     let l = more.1 in
     (omega (arith, t, length-append (unit_tops u.kind u) (cross_tops units)), omega (arith, l, length-append (lone_of u.kind u) (lone_entries units)))
 
-low_of : (top lone : ℕ) (units : List (DwUnit ℕ)) (n : ℕ) (x : NumberedUnit ℕ) → slice_get (numbered_units top lone units) n ≡ Some x → (tops_end x ≤ top + length (cross_tops units))
+pub low_of : (top lone : ℕ) (units : List (DwUnit ℕ)) (n : ℕ) (x : NumberedUnit ℕ) → slice_get (numbered_units top lone units) n ≡ Some x → (tops_end x ≤ top + length (cross_tops units))
     × (lone_end x ≤ lone + length (lone_entries units))
 unfolding numbered_units cross_tops lone_entries
 low_of top lone [] n x e = absurd cc
@@ -91,12 +91,12 @@ low_of top lone (u ∷ units) (suc n) x e =
     let l = more.1 in
     (omega (arith, t, length-append (unit_tops u.kind u) (cross_tops units)), omega (arith, l, length-append (lone_of u.kind u) (lone_entries units)))
 
-numbered_long : (top lone : ℕ) (units : List (DwUnit ℕ)) → length (numbered_units top lone units) ≡ length units
+pub numbered_long : (top lone : ℕ) (units : List (DwUnit ℕ)) → length (numbered_units top lone units) ≡ length units
 unfolding numbered_units
 numbered_long top lone [] = refl
 numbered_long top lone (u ∷ units) = ap (λ (n : ℕ). suc n) (numbered_long (top + length (unit_tops u.kind u)) (lone + length (lone_of u.kind u)) units)
 
-unit_at : (top lone : ℕ) (units : List (DwUnit ℕ)) (n : ℕ) (x : NumberedUnit ℕ) → slice_get (numbered_units top lone units) n ≡ Some x → slice_get units n ≡ Some x.unit
+pub unit_at : (top lone : ℕ) (units : List (DwUnit ℕ)) (n : ℕ) (x : NumberedUnit ℕ) → slice_get (numbered_units top lone units) n ≡ Some x → slice_get units n ≡ Some x.unit
 unfolding numbered_units
 unit_at top lone [] n x e = absurd cc
 unit_at top lone (u ∷ units) zero x e = let a : record { unit = u; top = top; lone = lone } ≡ x = cc in ap (λ (w : NumberedUnit ℕ). Some w.unit) a

@@ -32,6 +32,15 @@ beside_common said doc = record { own = doc.units; common = units_of_common said
 abbrev pub IsSameAnswer : {P Q : Type 0} → WithCommon P → WithCommon Q → Same → Type 0
 IsSameAnswer v w same = SameBy (UnitsAlike v w) (whole_units v.own) (whole_units w.own) same
 
+-- R holds of two, and there are no more
+abbrev pub OfTwo : {X : Type 0} → (X → X → Type 0) → List X → Type 0
+OfTwo R (x ∷ y ∷ []) = R x y
+OfTwo R _ = ⊥
+
+-- what is said of two files that were read, beside a common one or without one: the answer on their documents, the old one first
+abbrev pub IsSameOf : FinishedDocs → Same → Type 0
+IsSameOf said same = OfTwo (λ old new. IsSameAnswer (beside_common said old) (beside_common said new) same) said.docs
+
 -- there is one answer at most
 abbrev pub OneSameLaw : Type 0 → Type 0 → Type 0
 OneSameLaw P Q = (v : WithCommon P) (w : WithCommon Q) (a b : Same) → IsSameAnswer v w a → IsSameAnswer v w b → a ≡ b

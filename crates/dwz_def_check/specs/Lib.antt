@@ -5,3 +5,4 @@ pub mod CrossNodes
 pub mod CrossRows
 pub mod CrossLists
 pub mod CheckLaws
+pub mod Texts

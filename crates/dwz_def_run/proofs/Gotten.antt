@@ -8,7 +8,9 @@ use Rattle.dwz_def_reading.specs.Documents.{Doc}
 use Rattle.dwz_def_reading.specs.Files.{Limits, ReadAll, Reads, limits_after, longest_file, longest_files, no_files_before}
 use Rattle.dwz_def_tops.specs.Lists.{Nth}
 use Rattle.dwz_outside.specs.Store.{Store, got, most_got}
-use Rattle.dwz_words.specs.Asked.{names_got, names_of_places}
+use Rattle.dwz_words.specs.Asked.{behind, names_got, names_of_places}
+use Rattle.dwz_words.specs.Conditions.{FitTogether}
+use Rattle.dwz_words.proofs.Fits.{no_sup}
 use Rattle.dwz_words.specs.declared.options.Options.{Options}
 use Rattle.dwz_run_course.specs.Gets.{content_is_too_long, gets}
 
@@ -123,5 +125,6 @@ are_held store names contents docs is read n name nth =
     subst (λ (k : ℕ). store name ≡ Some (get_or contents k [])) index o.held
 
 -- files that are slimmed are got by their names
-pub got_files : (o : Options) → o.explain ≡ false → names_got o ≡ o.files
-got_files o slims = ap (λ (b : Bool). if b then names_of_places o.files else o.files) slims
+pub got_files : (o : Options) → FitTogether o → o.explain ≡ false → o.check ≡ false → names_got o ≡ o.files
+got_files o fit slims alone = ap (λ (b : Bool). behind o.sup (if b then names_of_places o.files else o.files)) slims
+    ∙ ap (λ (sup : Option (List ℕ)). behind sup o.files) (no_sup o fit alone)

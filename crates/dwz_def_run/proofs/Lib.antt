@@ -1,3 +1,4 @@
+pub mod Compared
 pub mod OneOutcome
 pub mod SomeOutcome
 pub mod Lengths

@@ -13,6 +13,7 @@ use Rattle.dwz_def_explain.proofs.PlaceLemmas.{one_answer}
 use Rattle.dwz_report.specs.Texts.{Text}
 use Rattle.dwz_def_run.specs.Out.{IsRefused, Out, OutBy, Slims, output_of, run_for, sup_name}
 use Rattle.dwz_def_run.specs.Tells.{IsTold, IsUntold, TellsWhy, answer_of, first_asked, second_asked}
+use Rattle.dwz_def_run.proofs.Compared.{one_compared}
 use Rattle.dwz_def_output.specs.Refusals.{OutFault}
 use Rattle.dwz_def_output.proofs.OneRefusal.{one_refusal}
 
@@ -120,7 +121,8 @@ module _ (o : Options) (contents : List (List ℕ)) where
 -- ---- either way
 
 pub one_outcome : (o : Options) (contents : List (List ℕ)) (a b : Outcome) → Out o contents a → Out o contents b → a ≡ b
-one_outcome o contents a b x y = by o.explain x y where
-  by : (explain : Bool) → OutBy explain o contents a → OutBy explain o contents b → a ≡ b
-  by true s t = one_told o contents a b s t
-  by false s t = one_slimmed o contents a b s t
+one_outcome o contents a b x y = by o.explain o.check x y where
+  by : (explain check : Bool) → OutBy explain check o contents a → OutBy explain check o contents b → a ≡ b
+  by true check s t = one_told o contents a b s t
+  by false true s t = one_compared o contents a b s t
+  by false false s t = one_slimmed o contents a b s t

@@ -1,4 +1,4 @@
--- Of options and contents something comes: which files are prunable is told by a test.
+-- Of options and contents something comes: which files are prunable is told by a test. Of files that are compared no test is at hand.
 use Rattle.std.proofs.Common.{◌≡◌, ◌⊎◌, ℕ, Bool, true, false, List, [], ◌∷◌, Result, Ok, Err, refl, inl, inr}
 use Rattle.dwz_model.specs.declared.fault.Refusal.{Refusal}
 use Rattle.dwz_def_reading.specs.Documents.{Doc}
@@ -14,6 +14,7 @@ use Rattle.dwz_def_explain.proofs.PlaceLemmas.{some_answer}
 use Rattle.dwz_report.specs.Texts.{Text}
 use Rattle.dwz_def_run.specs.Out.{Out, OutBy, Slims, output_of, run_for, sup_name}
 use Rattle.dwz_def_run.specs.Tells.{TellsWhy, answer_of, first_asked, second_asked}
+use Rattle.dwz_def_run.proofs.Compared.{never_nothing}
 use Rattle.dwz_def_output.specs.Refusals.{OutFault}
 use Rattle.dwz_def_output.proofs.EitherOne.{either}
 
@@ -55,8 +56,16 @@ some_told o contents = by (files_meaning no_files_before 0 contents) refl where
       let some = some_answer docs (first_asked o) (second_asked o) in
       said docs (((files_agree no_files_before 0 contents).ok docs).0 e) some.0 some.1
 
-pub some_outcome : (o : Options) (contents : List (List ℕ)) → (outcome : Outcome) × Out o contents outcome
-some_outcome o contents = by o.explain where
-  by : (explain : Bool) → (outcome : Outcome) × OutBy explain o contents outcome
-  by true = some_told o contents
-  by false = some_slimmed o contents
+pub some_outcome : (o : Options) (contents : List (List ℕ)) → o.check ≡ false → (outcome : Outcome) × Out o contents outcome
+some_outcome o contents none = by o.explain o.check none where
+  by : (explain check : Bool) → check ≡ false → (outcome : Outcome) × OutBy explain check o contents outcome
+  by true check e = some_told o contents
+  by false true e = absurd cc
+  by false false e = some_slimmed o contents
+
+pub always_some : (o : Options) (contents : List (List ℕ)) → ((outcome : Outcome) → Out o contents outcome → ⊥) → ⊥
+always_some o contents nothing = by o.explain o.check nothing where
+  by : (explain check : Bool) → ((outcome : Outcome) → OutBy explain check o contents outcome → ⊥) → ⊥
+  by true check none = let some = some_told o contents in none some.0 some.1
+  by false true none = never_nothing o contents none
+  by false false none = let some = some_slimmed o contents in none some.0 some.1

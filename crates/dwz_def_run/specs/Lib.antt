@@ -1,4 +1,5 @@
 pub mod Tells
+pub mod Compares
 pub mod Out
 pub mod Stops
 pub mod Laws

@@ -17,6 +17,7 @@ use Rattle.dwz_run_course.specs.Outcome.{Outcome, refuses, writes}
 use Rattle.dwz_def_output.specs.FilesAfter.{bytes_after_by, common_bytes, has_common}
 use Rattle.dwz_def_output.specs.Refusals.{OutFault}
 use Rattle.dwz_def_output.specs.Written.{CanBeWritten, ReadAs, common_under, rule_under, run_under}
+use Rattle.dwz_def_run.specs.Compares.{Compares}
 use Rattle.dwz_def_run.specs.Tells.{TellsWhy}
 
 -- ---- the run
@@ -110,7 +111,7 @@ summary_of o r = record {
 
 -- its puts, its summary, and how many partial units all files have
 abbrev pub output_of : Options → Run → Output
-output_of o r = record { puts = all_puts o r; said = Slimmed (summary_of o r) (length r.move.parts) }
+output_of o r = record { puts = all_puts o r; said = Slimmed (summary_of o r) (length r.move.parts); differs = false }
 
 -- the contents read so, and nothing refuses what comes of them
 abbrev pub IsWritten : Options → List (List ℕ) → List (Doc ℕ) → List Bool → Type 0
@@ -132,10 +133,11 @@ Slims o contents (refuses q) =
 
 -- ---- what comes of options and contents
 
-abbrev pub OutBy : Bool → Options → List (List ℕ) → Outcome → Type 0
-OutBy true = TellsWhy
-OutBy false = Slims
+abbrev pub OutBy : (explain check : Bool) → Options → List (List ℕ) → Outcome → Type 0
+OutBy true check = TellsWhy
+OutBy false true = Compares
+OutBy false false = Slims
 
--- two entries are explained, or files are slimmed
+-- two entries are explained, or two files are compared, or files are slimmed
 abbrev pub Out : Options → List (List ℕ) → Outcome → Type 0
-Out o = OutBy o.explain o
+Out o = OutBy o.explain o.check o

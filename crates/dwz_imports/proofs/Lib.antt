@@ -1,6 +1,6 @@
 mod Numbers
 mod OnceLemmas
-mod Grouped
+pub mod Grouped
 mod RootPlaces
 mod NamedParts
 mod RowParts
@@ -8,5 +8,5 @@ mod Means
 mod PartLists
 mod Children
 mod Whole
-mod ImportRelations
+pub mod ImportRelations
 mod FilesSay

@@ -1,19 +1,22 @@
 -- What holds where all puts are done.
-use Rattle.std.proofs.Common.{◌≡◌, ◌⊎◌, ℕ, List, [], Option, Some, sym, ap, subst, ◌∙◌, inl, inr}
+use Rattle.std.proofs.Common.{◌≡◌, ◌⊎◌, ℕ, Bool, true, false, List, [], Option, Some, refl, sym, ap, subst, ◌∙◌, inl, inr}
 use Rattle.std.specs.Prelude.{IfSome}
 use Rattle.dwz_outside.specs.declared.puts.Put.{Put}
 use Rattle.dwz_outside.specs.Store.{Store, done}
 use Rattle.dwz_outside.specs.Told.{ConsoleSeen, StoredWith, FilesSeen}
 use Rattle.dwz_run_course.specs.declared.output.Output.{Output}
-use Rattle.dwz_run_course.specs.declared.status.Status.TheVariants.{ConsoleFault, Done}
+use Rattle.dwz_run_course.specs.declared.status.Status.TheVariants.{ConsoleFault, Differs, Done}
 use Rattle.dwz_run_course.specs.Ends.{Came, SaysAll, SaysNothing, done_text, puts_unless_demo}
 use Rattle.dwz_run_course.specs.Outcome.{writes}
 use Rattle.dwz_run_course.specs.Puts.{HeldWith, PutsDone}
 use Rattle.dwz_gen.specs.Demo.{demo_files}
+use Rattle.dwz_def_check.specs.declared.same.Same.{Same}
+use Rattle.dwz_def_run.specs.Compares.{tells_apart}
 use Rattle.dwz_def_run.specs.Out.{Out}
 use Rattle.dwz_def_run.specs.Tells.{IsTold}
-use Rattle.dwz_run.specs.Laws.{Did, IsDemoText, RunEnds, puts_in}
-use Rattle.dwz_run.proofs.Outputs.{OfAnswer, OfDemo, OfFiles, output_held, outputs}
+use Rattle.dwz_def_run.proofs.Compared.{same_told}
+use Rattle.dwz_run.specs.Laws.{Did, DidAll, DidCompare, DidDemo, DidTell, FoundApart, IsDemoText, RunEnds, puts_in}
+use Rattle.dwz_run.proofs.Outputs.{Came_to, output_held, outputs}
 
 pub with_puts : (old new : FilesSeen) (store : Store) (a b : List Put) → old.held ≡ Some store → a ≡ b → HeldWith old new a
     → new.held ≡ Some (done b store)
@@ -21,36 +24,85 @@ with_puts old new store a b told same held =
     subst (λ (h : Option Store). IfSome h (λ s. new.held ≡ Some (done a s))) told held ∙ ap (λ (ps : List Put). Some (done ps store)) same
 
 module _ (words : List (List ℕ)) (old new : FilesSeen) (shown shown_new : ConsoleSeen) (store : Store) (told : old.held ≡ Some store) where
-  did : (out : Output) (came : Came demo_files Out words old (writes out)) (text : List ℕ) → PutsDone old new (puts_unless_demo came.options.demo out)
-      → text ≡ done_text came.options out → Did words store old new text
-  did out came text puts is = by (outputs words old store told out came) where
-    by : OfFiles words store came.options out ⊎ (OfDemo words came.options out ⊎ OfAnswer words store came.options out) → Did words store old new text
-    by (inl f) = inl (record {
-      asks = f.asks;
-      out = f.has;
-      held = with_puts old new store (puts_unless_demo came.options.demo out) (puts_in f.has) told f.puts_are puts.held;
-      stored = subst (λ (ps : List Put). StoredWith old new ps) f.puts_are puts.stored;
-      after = output_held f.asks f.has;
-      text_is = is ∙ f.text_is;
-    })
-    by (inr (inl d)) = inr (inl (record {
-      asks = d.asks;
-      is_text = subst (IsDemoText d.asks) (sym is) d.is_text;
-      held = with_puts old new store (puts_unless_demo came.options.demo out) [] told d.puts_are puts.held;
-      stored = subst (λ (ps : List Put). StoredWith old new ps) d.puts_are puts.stored;
-    }))
-    by (inr (inr a)) = inr (inr (record {
-      asks = a.asks;
-      docs = a.docs;
-      reads = a.reads;
-      is_text = subst (IsTold a.asks.options a.docs) (sym is) a.is_text;
-      held = with_puts old new store (puts_unless_demo came.options.demo out) [] told a.puts_are puts.held;
-      stored = subst (λ (ps : List Put). StoredWith old new ps) a.puts_are puts.stored;
-    }))
+  -- what was done is no answer that files differ, or it is the answer on two files
+  abbrev Found : Output → List ℕ → Type 0
+  Found out text =
+      ((out.differs ≡ false) × (DidAll words store old new text ⊎ (DidDemo words store old new text ⊎ DidTell words store old new text)))
+      ⊎ ((same : Same) × (out.differs ≡ tells_apart same) × DidCompare words store old new text same)
+
+  found : (out : Output) (came : Came demo_files Out words old (writes out)) (text : List ℕ) → PutsDone old new (puts_unless_demo came.options.demo out)
+      → text ≡ done_text came.options out → Found out text
+  found out came text puts is = by (outputs words old store told out came) where
+    by : Came_to words store came.options out → Found out text
+    by (inl f) = inl (
+      f.same,
+      inl (record {
+        asks = f.asks;
+        out = f.has;
+        held = with_puts old new store (puts_unless_demo came.options.demo out) (puts_in f.has) told f.puts_are puts.held;
+        stored = subst (λ (ps : List Put). StoredWith old new ps) f.puts_are puts.stored;
+        after = output_held f.asks f.has;
+        text_is = is ∙ f.text_is;
+      }),
+    )
+    by (inr (inl d)) = inl (
+      d.same,
+      inr (inl (record {
+        asks = d.asks;
+        is_text = subst (IsDemoText d.asks) (sym is) d.is_text;
+        held = with_puts old new store (puts_unless_demo came.options.demo out) [] told d.puts_are puts.held;
+        stored = subst (λ (ps : List Put). StoredWith old new ps) d.puts_are puts.stored;
+      })),
+    )
+    by (inr (inr (inl a))) = inl (
+      a.same,
+      inr (inr (record {
+        asks = a.asks;
+        docs = a.docs;
+        reads = a.reads;
+        is_text = subst (IsTold a.asks.options a.docs) (sym is) a.is_text;
+        held = with_puts old new store (puts_unless_demo came.options.demo out) [] told a.puts_are puts.held;
+        stored = subst (λ (ps : List Put). StoredWith old new ps) a.puts_are puts.stored;
+      })),
+    )
+    by (inr (inr (inr c))) = inr (
+      c.answer,
+      c.differs,
+      record {
+        asks = c.asks;
+        said = c.said;
+        reads = c.reads;
+        is_same = c.is_same;
+        text_is = is ∙ c.text_is;
+        held = with_puts old new store (puts_unless_demo came.options.demo out) [] told c.puts_are puts.held;
+        stored = subst (λ (ps : List Put). StoredWith old new ps) c.puts_are puts.stored;
+      },
+    )
+
+  did : (out : Output) (text : List ℕ) → out.differs ≡ false → Found out text → Did words store old new text
+  did out text same (inl (none, inl all)) = inl all
+  did out text same (inl (none, inr (inl demo))) = inr (inl demo)
+  did out text same (inl (none, inr (inr tells))) = inr (inr (inl tells))
+  did out text same (inr (answer, differs, compared)) =
+      inr (inr (inr (subst (DidCompare words store old new text) (same_told answer (sym differs ∙ same)) compared)))
+
+  apart : (out : Output) (text : List ℕ) → out.differs ≡ true → Found out text → FoundApart words store old new text
+  apart out text differ (inl (none, rest)) = absurd (let z : true ≡ false = sym differ ∙ none in cc)
+  apart out text differ (inr (answer, differs, compared)) = (answer, sym differs ∙ differ, compared)
+
+  either : (out : Output) (text : List ℕ) → Found out text → Did words store old new text ⊎ FoundApart words store old new text
+  either out text f = by out.differs refl where
+    by : (b : Bool) → out.differs ≡ b → Did words store old new text ⊎ FoundApart words store old new text
+    by false same = inl (did out text same f)
+    by true differ = inr (apart out text differ f)
 
   pub all_done : RunEnds words old new shown shown_new Done → (text : List ℕ) × Did words store old new text × SaysAll shown shown_new text
-  all_done e = (e.text, did e.files.0 e.files.1 e.text e.files.2 e.files.3, e.console)
+  all_done e = (e.text, did e.files.0 e.text e.files.4 (found e.files.0 e.files.1 e.text e.files.2 e.files.3), e.console)
+
+  pub all_apart : RunEnds words old new shown shown_new Differs
+      → (text : List ℕ) × FoundApart words store old new text × SaysAll shown shown_new text
+  all_apart e = (e.text, apart e.files.0 e.text e.files.4 (found e.files.0 e.files.1 e.text e.files.2 e.files.3), e.console)
 
   pub all_silent : RunEnds words old new shown shown_new ConsoleFault
-      → (text : List ℕ) × Did words store old new text × SaysNothing shown shown_new text
-  all_silent e = (e.text, did e.files.0 e.files.1 e.text e.files.2 e.files.3, e.console)
+      → (text : List ℕ) × (Did words store old new text ⊎ FoundApart words store old new text) × SaysNothing shown shown_new text
+  all_silent e = (e.text, either e.files.0 e.text (found e.files.0 e.files.1 e.text e.files.2 e.files.3), e.console)

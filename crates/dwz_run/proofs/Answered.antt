@@ -1,36 +1,62 @@
 -- Which status is answered where nothing outside fails: each fault is excluded, and of what is asked for just one thing comes.
-use Rattle.std.proofs.Common.{◌≡◌, ◌⊎◌, ℕ, List, Option, Some, None, refl, sym, subst, inl, inr}
+use Rattle.std.proofs.Common.{◌≡◌, ◌⊎◌, ℕ, Bool, true, false, List, [], ◌∷◌, Option, Some, None, refl, sym, ap, subst, ◌∙◌, inl, inr}
 use Rattle.dwz_model.specs.declared.fault.Refusal.{Refusal}
+use Rattle.dwz_def_reading.specs.Documents.{Doc}
+use Rattle.dwz_def_reading.specs.Finished.{FinishedDocs, ReadFinished}
+use Rattle.dwz_def_reading.specs.Places.{Place}
+use Rattle.dwz_def_cross.specs.CrossSame.{CrossSame, UnitsAlike}
+use Rattle.dwz_def_cross.specs.Tops.{whole_units}
+use Rattle.dwz_def_check.specs.Answer.{IsSameAnswer, OfTwo, beside_common}
+use Rattle.dwz_def_check.specs.declared.same.Same.{Same}
+use Rattle.dwz_def_check.specs.declared.same.Same.TheVariants.{Unit as OneUnit, Units, Yes}
 use Rattle.dwz_outside.specs.Counts.{Rose}
 use Rattle.dwz_outside.specs.Store.{Store}
 use Rattle.dwz_outside.specs.Told.{ConsoleSeen, FilesSeen}
 use Rattle.dwz_words.specs.declared.options.Options.{Options}
 use Rattle.dwz_words.specs.Asked.{names_got}
 use Rattle.dwz_words.specs.Lawful.{Lawful}
-use Rattle.dwz_words.proofs.Fits.{with_explain}
+use Rattle.dwz_words.proofs.Fits.{with_check, with_explain}
 use Rattle.dwz_run_course.specs.declared.status.Status.{Status}
-use Rattle.dwz_run_course.specs.declared.status.Status.TheVariants.{Done, Refused, Usage, ReadFault, WriteFault, NoMemory, ConsoleFault}
-use Rattle.dwz_run_course.specs.Demo.{asked_by}
-use Rattle.dwz_run_course.specs.Ends.{AreHeld, AsksFor, Complete, Refuses}
+use Rattle.dwz_run_course.specs.declared.status.Status.TheVariants.{Done, Refused, Usage, ReadFault, WriteFault, NoMemory, ConsoleFault, Differs}
+use Rattle.dwz_run_course.specs.declared.output.Output.{Output}
+use Rattle.dwz_run_course.specs.Demo.{asked_by, demo_options}
+use Rattle.dwz_run_course.specs.Ends.{AreHeld, AsksFor, Complete, Refuses, finished}
 use Rattle.dwz_run_course.specs.Gets.{gets}
 use Rattle.dwz_run_course.specs.Outcome.{Outcome, refuses, writes}
 use Rattle.dwz_run_course.proofs.Completeness.{unwritten}
 use Rattle.dwz_gen.specs.Demo.{demo_files}
-use Rattle.dwz_def_run.specs.Out.{Out}
+use Rattle.dwz_def_run.specs.Compares.{Compares, answer_on, common_in, tells_apart, two_in}
+use Rattle.dwz_def_run.specs.Out.{Out, OutBy}
+use Rattle.dwz_def_run.proofs.Compared.{never_silent}
 use Rattle.dwz_def_run.proofs.Gotten.{got_files}
-use Rattle.dwz_def_run.proofs.SomeOutcome.{some_outcome}
-use Rattle.dwz_run.specs.Laws.{Asks, IsFirstRefusal, NoneFailed, RunEnds, for_answer, for_demo, for_files, work_contents, work_options}
+use Rattle.dwz_def_run.proofs.SomeOutcome.{always_some, some_outcome}
+use Rattle.dwz_run.specs.Laws.{Asks, AsksToCompare, IsFirstRefusal, NoneFailed, RunEnds, for_answer, for_demo, for_files, to_compare, work_contents, work_options}
 use Rattle.dwz_run.proofs.Causes.{first_comes, first_of}
+
+-- an output by which files differ is one of files that are compared
+compares_by : (b c : Bool) (o : Options) (contents : List (List ℕ)) (out : Output) → out.differs ≡ true → OutBy b c o contents (writes out) → c ≡ true
+compares_by b true o contents out differ given = refl
+compares_by true false o contents out differ given = absurd (let z : true ≡ false = sym differ ∙ ap (λ (x : Output). x.differs) given.2.2 in cc)
+compares_by false false o contents out differ given = absurd (let z : true ≡ false = sym differ ∙ ap (λ (x : Output). x.differs) given.3 in cc)
+
+work_compares : (o : Options) (contents : List (List ℕ)) (out : Output) → out.differs ≡ true → (demo : Option ℕ) → Out (asked_by demo o) contents (writes out) → o.check ≡ true
+work_compares o contents out differ None given = compares_by o.explain o.check o contents out differ given
+work_compares o contents out differ (Some n) given = absurd (let z : false ≡ true = compares_by false false (demo_options o) contents out differ given in cc)
 
 pub answered : (words : List (List ℕ)) (old new : FilesSeen) (shown shown_new : ConsoleSeen) (status : Status)
     → RunEnds words old new shown shown_new status
-    → NoneFailed old new shown shown_new → (o : Options) → Lawful words o → (status ≡ Done) ⊎ (status ≡ Refused) ⊎ (status ≡ NoMemory)
+    → NoneFailed old new shown shown_new → (o : Options) → Lawful words o
+    → (status ≡ Done) ⊎ (status ≡ Refused) ⊎ (status ≡ NoMemory) ⊎ ((status ≡ Differs) × (o.check ≡ true))
 answered words old new shown shown_new Done e none o lawful = inl refl
 answered words old new shown shown_new Refused e none o lawful = inr (inl refl)
 answered words old new shown shown_new Usage e none o lawful = absurd (e.files.0 o lawful)
 answered words old new shown shown_new ReadFault e none o lawful = absurd (none.reads e.files.4.rose)
 answered words old new shown shown_new WriteFault e none o lawful = absurd (none.writes e.files.3.fault.rose)
-answered words old new shown shown_new NoMemory e none o lawful = inr (inr refl)
+answered words old new shown shown_new NoMemory e none o lawful = inr (inr (inl refl))
+answered words old new shown shown_new Differs e none o lawful =
+    let came = e.files.1 in
+    let same : came.options ≡ o = came.lawful.values ∙ sym lawful.values in
+    inr (inr (inr (refl, ap (λ (x : Options). x.check) (sym same) ∙ work_compares came.options came.contents e.files.0 e.files.4 came.options.demo came.given)))
 answered words old new shown shown_new ConsoleFault e none o lawful = absurd (none.texts (unwritten shown shown_new e.text e.console))
 
 module _ (words : List (List ℕ)) (old : FilesSeen) (store : Store) (told : old.held ≡ Some store) where
@@ -47,7 +73,7 @@ module _ (words : List (List ℕ)) (old : FilesSeen) (store : Store) (told : old
     lawful = a.lawful;
     contents = a.contents;
     held = held_by a.options a.contents a.no_demo
-        (subst (λ (names : List (List ℕ)). gets store 0 names ≡ Some a.contents) (sym (got_files a.options a.slims)) a.got);
+        (subst (λ (names : List (List ℕ)). gets store 0 names ≡ Some a.contents) (sym (got_files a.options a.lawful.fit a.slims a.no_check)) a.got);
     given = subst (λ (d : Option ℕ). Out (asked_by d a.options) a.contents outcome) (sym a.no_demo) given;
   }
   asked_for (for_demo a) outcome given = record {
@@ -66,21 +92,106 @@ module _ (words : List (List ℕ)) (old : FilesSeen) (store : Store) (told : old
         held = held_by a.options a.contents no_demo a.got;
         given = subst (λ (d : Option ℕ). Out (asked_by d a.options) a.contents outcome) (sym no_demo) given;
       }
+  asked_for (to_compare a) outcome given =
+      let no_demo = (with_check a.options a.lawful.fit a.compares).1 in
+      record {
+        options = a.options;
+        lawful = a.lawful;
+        contents = a.contents;
+        held = held_by a.options a.contents no_demo a.got;
+        given = subst (λ (d : Option ℕ). Out (asked_by d a.options) a.contents outcome) (sym no_demo) given;
+      }
+
+  -- the end of what is done, by whether files are compared
+  abbrev IsEnd : Bool → Status → Type 0
+  IsEnd check status = (status ≡ Done) ⊎ (status ≡ NoMemory) ⊎ ((status ≡ Differs) × (check ≡ true))
+
+  -- that is known of a status where it can't be otherwise
+  end_known : (status : Status) → ((IsEnd true status → ⊥) → ⊥) → IsEnd true status
+  end_known Done not_not = inl refl
+  end_known NoMemory not_not = inr (inl refl)
+  end_known Differs not_not = inr (inr (refl, refl))
+  end_known Refused not_not = absurd (not_not (λ e. elim e [ inl x ↦ cc | inr y ↦ elim y [ inl x ↦ cc | inr x ↦ (let z = x.0 in cc) ] ]))
+  end_known Usage not_not = absurd (not_not (λ e. elim e [ inl x ↦ cc | inr y ↦ elim y [ inl x ↦ cc | inr x ↦ (let z = x.0 in cc) ] ]))
+  end_known ReadFault not_not = absurd (not_not (λ e. elim e [ inl x ↦ cc | inr y ↦ elim y [ inl x ↦ cc | inr x ↦ (let z = x.0 in cc) ] ]))
+  end_known WriteFault not_not = absurd (not_not (λ e. elim e [ inl x ↦ cc | inr y ↦ elim y [ inl x ↦ cc | inr x ↦ (let z = x.0 in cc) ] ]))
+  end_known ConsoleFault not_not = absurd (not_not (λ e. elim e [ inl x ↦ cc | inr y ↦ elim y [ inl x ↦ cc | inr x ↦ (let z = x.0 in cc) ] ]))
 
   pub completes : (new : FilesSeen) (shown shown_new : ConsoleSeen) (status : Status)
       → Complete demo_files Out words old new shown shown_new status
       → NoneFailed old new shown shown_new → (a : Asks words store)
-      → ((r : Refusal) → ¬ IsFirstRefusal (work_options a) (work_contents a) r) → (status ≡ Done) ⊎ (status ≡ NoMemory)
-  completes new shown shown_new status complete none a free = by some.0 some.1 where
-    some : (outcome : Outcome) × Out (work_options a) (work_contents a) outcome
-    some = some_outcome (work_options a) (work_contents a)
+      → ((r : Refusal) → ¬ IsFirstRefusal (work_options a) (work_contents a) r) → IsEnd (work_options a).check status
+  completes new shown shown_new status complete none a free = by (work_options a).check refl where
+    o : Options
+    o = work_options a
 
-    by : (outcome : Outcome) → Out (work_options a) (work_contents a) outcome → (status ≡ Done) ⊎ (status ≡ NoMemory)
-    by (writes out) given = complete out (asked_for a (writes out) given) none.reads none.writes none.texts
-    by (refuses q) given = absurd (free q (first_of (work_options a).explain (work_options a) (work_contents a) q given))
+    contents : List (List ℕ)
+    contents = work_contents a
+
+    ended : (out : Output) → Out o contents (writes out) → (b : Bool) → out.differs ≡ b → (status ≡ finished b) ⊎ (status ≡ NoMemory) → IsEnd o.check status
+    ended out given false e (inl done) = inl done
+    ended out given true e (inl differ) = inr (inr (differ, compares_by o.explain o.check o contents out e given))
+    ended out given b e (inr memory) = inr (inl memory)
+
+    one : (outcome : Outcome) → Out o contents outcome → IsEnd o.check status
+    one (writes out) given = ended out given out.differs refl (complete out (asked_for a (writes out) given) none.reads none.writes none.texts)
+    one (refuses q) given = absurd (free q (first_of o.explain o.check o contents q given))
+
+    by : (check : Bool) → o.check ≡ check → IsEnd o.check status
+    by false e = let some = some_outcome o contents e in one some.0 some.1
+    by true e =
+        subst (λ (b : Bool). IsEnd b status) (sym e)
+        (end_known status (λ not_so. always_some o contents (λ outcome given. not_so (subst (λ (b : Bool). IsEnd b status) e (one outcome given)))))
+
+  -- where two files that are compared read, it is told whether they mean the same
+  module _ (new : FilesSeen) (shown shown_new : ConsoleSeen) (status : Status) (complete : Complete demo_files Out words old new shown shown_new status)
+      (none : NoneFailed old new shown shown_new) (a : AsksToCompare words store) (said : FinishedDocs) (first second : Doc Place)
+      (read : ReadFinished (common_in a.options.sup a.contents) (two_in a.options.sup a.contents) said) (docs : said.docs ≡ first ∷ second ∷ []) where
+    answer_of : (same : Same) → IsSameAnswer (beside_common said first) (beside_common said second) same → Out a.options a.contents (writes (answer_on same))
+    answer_of same is =
+        let given : Compares a.options a.contents (writes (answer_on same)) = (
+          said,
+          read,
+          same,
+          subst (λ (ds : List (Doc Place)). OfTwo (λ x y. IsSameAnswer (beside_common said x) (beside_common said y) same) ds) (sym docs) is,
+          refl,
+        ) in
+        subst (λ (b : Bool). OutBy b a.options.check a.options a.contents (writes (answer_on same))) (sym (with_check a.options a.lawful.fit a.compares).2)
+        (subst (λ (c : Bool). OutBy false c a.options a.contents (writes (answer_on same))) (sym a.compares) given)
+
+    ends_with : (same : Same) → IsSameAnswer (beside_common said first) (beside_common said second) same → (status ≡ finished (tells_apart same)) ⊎ (status ≡ NoMemory)
+    ends_with same is = complete (answer_on same) (asked_for (to_compare a) (writes (answer_on same)) (answer_of same is)) none.reads none.writes none.texts
+
+    abbrev IsApart : Status → Type 0
+    IsApart s = (s ≡ Differs) ⊎ (s ≡ NoMemory)
+
+    apart_known : (s : Status) → ((IsApart s → ⊥) → ⊥) → IsApart s
+    apart_known Differs not_not = inl refl
+    apart_known NoMemory not_not = inr refl
+    apart_known Done not_not = absurd (not_not (λ e. elim e [ inl x ↦ cc | inr x ↦ cc ]))
+    apart_known Refused not_not = absurd (not_not (λ e. elim e [ inl x ↦ cc | inr x ↦ cc ]))
+    apart_known Usage not_not = absurd (not_not (λ e. elim e [ inl x ↦ cc | inr x ↦ cc ]))
+    apart_known ReadFault not_not = absurd (not_not (λ e. elim e [ inl x ↦ cc | inr x ↦ cc ]))
+    apart_known WriteFault not_not = absurd (not_not (λ e. elim e [ inl x ↦ cc | inr x ↦ cc ]))
+    apart_known ConsoleFault not_not = absurd (not_not (λ e. elim e [ inl x ↦ cc | inr x ↦ cc ]))
+
+    ends_apart : ¬ CrossSame (beside_common said first) (beside_common said second) → (same : Same)
+        → IsSameAnswer (beside_common said first) (beside_common said second) same → IsApart status
+    ends_apart other Yes is = absurd (other is)
+    ends_apart other (Units m n) is = ends_with (Units m n) is
+    ends_apart other (OneUnit n) is = ends_with (OneUnit n) is
+
+    pub compared : (CrossSame (beside_common said first) (beside_common said second) → (status ≡ Done) ⊎ (status ≡ NoMemory))
+        × (¬ CrossSame (beside_common said first) (beside_common said second) → (status ≡ Differs) ⊎ (status ≡ NoMemory))
+    compared =
+        let v = beside_common said first in
+        let w = beside_common said second in (
+          λ same. ends_with Yes same,
+          λ other. apart_known status (λ not_so. never_silent (UnitsAlike v w) (whole_units v.own) (whole_units w.own) (λ same is. not_so (ends_apart other same is))),
+        )
 
   pub is_refused : (new : FilesSeen) (status : Status) → Refuses demo_files Out words old new status
       → ¬ (Rose old.read_faults new.read_faults)
       → (a : Asks words store) (r : Refusal) → IsFirstRefusal (work_options a) (work_contents a) r → (status ≡ Refused) ⊎ (status ≡ NoMemory)
   is_refused new status all none a r first =
-      all r (asked_for a (refuses r) (first_comes (work_options a).explain (work_options a) (work_contents a) r first)) none
+      all r (asked_for a (refuses r) (first_comes (work_options a).explain (work_options a).check (work_options a) (work_contents a) r first)) none

@@ -1,14 +1,13 @@
 -- Why a run ends as it does: what each status says, by its words and by what failed.
 use Rattle.std.proofs.Common.{◌≡◌, ◌⊎◌, ℕ, Bool, true, false, List, Option, Some, None, refl, ap, subst, inl, inr}
 use Rattle.dwz_model.specs.declared.fault.Refusal.{Refusal}
-use Rattle.dwz_def_reading.specs.Files.{First, no_files_before}
 use Rattle.dwz_outside.specs.Store.{Store}
 use Rattle.dwz_outside.specs.Told.{ConsoleSeen, FilesSeen, LeavesPuts}
 use Rattle.dwz_words.specs.declared.options.Options.{Options}
 use Rattle.dwz_words.specs.Asked.{names_got}
 use Rattle.dwz_words.specs.Lawful.{Lawful}
 use Rattle.dwz_run_course.specs.declared.status.Status.{Status}
-use Rattle.dwz_run_course.specs.declared.status.Status.TheVariants.{Done, Refused, Usage, ReadFault, WriteFault, NoMemory, ConsoleFault}
+use Rattle.dwz_run_course.specs.declared.status.Status.TheVariants.{Done, Refused, Usage, ReadFault, WriteFault, NoMemory, ConsoleFault, Differs}
 use Rattle.dwz_report.specs.Texts.{refusal_text}
 use Rattle.dwz_run_course.specs.Demo.{asked, asked_by, demo_options}
 use Rattle.dwz_run_course.specs.Ends.{AreContents, Came, Says}
@@ -17,19 +16,19 @@ use Rattle.dwz_run_course.specs.Outcome.{name_of_file, refuses}
 use Rattle.dwz_gen.specs.Demo.{demo_files}
 use Rattle.dwz_def_run.specs.Out.{Out, OutBy, Slims}
 use Rattle.dwz_def_run.proofs.Gotten.{got_files}
-use Rattle.dwz_run.specs.Laws.{IsFirstRefusal, IsRefusedBy, PutsNothing, RunEnds, WasRefused, for_answer, for_demo, for_files}
+use Rattle.dwz_run.specs.Laws.{IsFirstOf, IsFirstRefusal, PutsNothing, RunEnds, WasRefused, for_answer, for_demo, for_files, to_compare}
 use Rattle.dwz_run.proofs.Outputs.{got_of}
 
 -- what comes of contents that are refused is their first fault, and the other way round
-pub first_of : (b : Bool) (o : Options) (contents : List (List ℕ)) (r : Refusal) → OutBy b o contents (refuses r)
-    → First no_files_before 0 contents r ⊎ IsRefusedBy b o contents r
-first_of true o contents r given = given
-first_of false o contents r given = given
+pub first_of : (b c : Bool) (o : Options) (contents : List (List ℕ)) (r : Refusal) → OutBy b c o contents (refuses r) → IsFirstOf b c o contents r
+first_of true c o contents r given = given
+first_of false true o contents r given = given
+first_of false false o contents r given = given
 
-pub first_comes : (b : Bool) (o : Options) (contents : List (List ℕ)) (r : Refusal) → First no_files_before 0 contents r ⊎ IsRefusedBy b o contents r
-    → OutBy b o contents (refuses r)
-first_comes true o contents r first = first
-first_comes false o contents r first = first
+pub first_comes : (b c : Bool) (o : Options) (contents : List (List ℕ)) (r : Refusal) → IsFirstOf b c o contents r → OutBy b c o contents (refuses r)
+first_comes true c o contents r first = first
+first_comes false true o contents r first = first
+first_comes false false o contents r first = first
 
 -- the files of a demonstration were refused with their first fault
 pub demo_refused : (r : Refusal) (o : Options) (n : ℕ) (contents : List (List ℕ)) → contents ≡ demo_files n → Slims (demo_options o) contents (refuses r)
@@ -55,6 +54,7 @@ module _ (words : List (List ℕ)) (old new : FilesSeen) (shown shown_new : Cons
   puts_nothing WriteFault e nothing = absurd nothing
   puts_nothing NoMemory e nothing = e.files.0
   puts_nothing ConsoleFault e nothing = absurd nothing
+  puts_nothing Differs e nothing = absurd nothing
 
   -- ---- the words
 
@@ -67,6 +67,7 @@ module _ (words : List (List ℕ)) (old new : FilesSeen) (shown shown_new : Cons
   is_usage WriteFault e none = absurd (none e.files.1.options e.files.1.lawful)
   is_usage NoMemory e none = inr refl
   is_usage ConsoleFault e none = absurd (none e.files.1.options e.files.1.lawful)
+  is_usage Differs e none = absurd (none e.files.1.options e.files.1.lawful)
 
   not_lawful : RunEnds words old new shown shown_new Usage → (o : Options) → ¬ (Lawful words o)
   not_lawful e = e.files.0
@@ -86,31 +87,38 @@ module _ (words : List (List ℕ)) (old new : FilesSeen) (shown shown_new : Cons
       contents : List (List ℕ)
       contents = came.contents
 
-      undemonstrated : (b : Bool) → o.explain ≡ b → o.demo ≡ None → gets store 0 (names_got o) ≡ Some contents → OutBy o.explain o contents (refuses r)
-          → text ≡ refusal_text (name_of_file o r.file) r → WasRefused words store text
-      undemonstrated false slims e got given is = record {
+      undemonstrated : (b c : Bool) → o.explain ≡ b → o.check ≡ c → o.demo ≡ None → gets store 0 (names_got o) ≡ Some contents
+          → OutBy o.explain o.check o contents (refuses r) → text ≡ refusal_text (name_of_file o r.file) r → WasRefused words store text
+      undemonstrated false false slims none e got given is = record {
         asks = for_files (record {
           options = o;
           lawful = came.lawful;
           no_demo = e;
           slims = slims;
+          no_check = none;
           contents = contents;
-          got = subst (λ (names : List (List ℕ)). gets store 0 names ≡ Some contents) (got_files o slims) got;
+          got = subst (λ (names : List (List ℕ)). gets store 0 names ≡ Some contents) (got_files o came.lawful.fit slims none) got;
         });
         refusal = r;
-        is_first = first_of o.explain o contents r given;
+        is_first = first_of o.explain o.check o contents r given;
         text_is = is;
       }
-      undemonstrated true tells e got given is = record {
+      undemonstrated false true none compares e got given is = record {
+        asks = to_compare (record { options = o; lawful = came.lawful; compares = compares; contents = contents; got = got });
+        refusal = r;
+        is_first = first_of o.explain o.check o contents r given;
+        text_is = is;
+      }
+      undemonstrated true c tells has e got given is = record {
         asks = for_answer (record { options = o; lawful = came.lawful; tells = tells; contents = contents; got = got });
         refusal = r;
-        is_first = first_of o.explain o contents r given;
+        is_first = first_of o.explain o.check o contents r given;
         text_is = is;
       }
 
       by : (d : Option ℕ) → o.demo ≡ d → AreContents demo_files d old (names_got o) contents → Out (asked_by d o) contents (refuses r)
           → text ≡ refusal_text (name_of_file (asked_by d o) r.file) r → WasRefused words store text
-      by None e are given is = undemonstrated o.explain refl e (got_of words old store told (names_got o) contents are) given is
+      by None e are given is = undemonstrated o.explain o.check refl refl e (got_of words old store told (names_got o) contents are) given is
       by (Some n) e are given is = record {
         asks = for_demo (record { options = o; lawful = came.lawful; units = n; is_demo = e });
         refusal = r;

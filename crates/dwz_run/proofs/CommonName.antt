@@ -30,10 +30,11 @@ of_either (Some word) common n c = of_name (Some word) n
 
 pub named_well : (o : Options) → FitTogether o → NoZero (sup_name o)
 named_well o fit =
+    let others = option_map_or is_file_name o.out true && option_map_or is_file_name o.sup true in
     let rest = (and_parts (list_all is_file_name o.files)
-    (option_map_or is_file_name o.common true && (option_map_or is_file_name o.name true && option_map_or is_file_name o.out true)) fit.file_names).1 in
-    let common = and_parts (option_map_or is_file_name o.common true) (option_map_or is_file_name o.name true && option_map_or is_file_name o.out true) rest in
-    of_either o.name o.common (and_parts (option_map_or is_file_name o.name true) (option_map_or is_file_name o.out true) common.1).0 common.0
+    (option_map_or is_file_name o.common true && (option_map_or is_file_name o.name true && others)) fit.file_names).1 in
+    let common = and_parts (option_map_or is_file_name o.common true) (option_map_or is_file_name o.name true && others) rest in
+    of_either o.name o.common (and_parts (option_map_or is_file_name o.name true) others common.1).0 common.0
 
 -- so has that of a demonstration
 pub demo_named : (o : Options) → NoZero (sup_name (demo_options o))

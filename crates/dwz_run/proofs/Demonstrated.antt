@@ -1,5 +1,5 @@
 -- How a run ends whose words ask for a demonstration: they ask for nothing else, so what came is of its two files, and nothing was put.
-use Rattle.std.proofs.Common.{◌≡◌, ℕ, List, [], length, Option, Some, sym, ap, subst, ◌∙◌, arith}
+use Rattle.std.proofs.Common.{◌≡◌, ℕ, true, false, List, [], length, Option, Some, sym, ap, subst, ◌∙◌, arith}
 use Rattle.std.specs.Prelude.{Contains}
 use Rattle.dwz_model.specs.declared.fault.Refusal.{Refusal}
 use Rattle.dwz_outside.specs.Store.{Store}
@@ -11,7 +11,7 @@ use Rattle.dwz_words.specs.Lawful.{Lawful}
 use Rattle.dwz_words.proofs.Fits.{with_demo}
 use Rattle.dwz_run_course.specs.declared.output.Output.{Output}
 use Rattle.dwz_run_course.specs.declared.status.Status.{Status}
-use Rattle.dwz_run_course.specs.declared.status.Status.TheVariants.{Done, Refused, Usage, ReadFault, WriteFault, NoMemory, ConsoleFault}
+use Rattle.dwz_run_course.specs.declared.status.Status.TheVariants.{Done, Refused, Usage, ReadFault, WriteFault, NoMemory, ConsoleFault, Differs}
 use Rattle.dwz_run_course.specs.Demo.{asked, asked_by, demo_options}
 use Rattle.dwz_run_course.specs.Ends.{AreContents, Came, Says, done_text, puts_unless_demo}
 use Rattle.dwz_run_course.specs.Outcome.{Outcome, name_of_file, refuses, writes}
@@ -43,7 +43,8 @@ module _ (words : List (List ℕ)) (old new : FilesSeen) (shown shown_new : Cons
   -- so none are got
   none_got : (name : List ℕ) → Contains (names_got o) name → ⊥
   none_got name there =
-      let names = got_files o (with_demo o a.lawful.fit a.units a.is_demo).2 in
+      let fit = with_demo o a.lawful.fit a.units a.is_demo in
+      let names = got_files o a.lawful.fit fit.2 fit.3 in
       none_named o.files name no_files (subst (λ (ns : List (List ℕ)). Contains ns name) names there)
 
   -- what came is of the demonstration
@@ -80,6 +81,7 @@ module _ (words : List (List ℕ)) (old new : FilesSeen) (shown shown_new : Cons
   ends : (status : Status) → RunEnds words old new shown shown_new status → DemoEnds a shown shown_new status
   ends Done e = (e.text, made e.files.0 e.files.1 e.text e.files.3, e.console)
   ends ConsoleFault e = (e.text, made e.files.0 e.files.1 e.text e.files.3, e.console)
+  ends Differs e = absurd (let z : true ≡ false = sym e.files.4 ∙ ap (λ (x : Output). x.differs) (of_made (writes e.files.0) e.files.1).3 in cc)
   ends Refused e =
       let r = e.files.0 in
       let came = e.files.1 in (
@@ -106,6 +108,7 @@ module _ (words : List (List ℕ)) (old new : FilesSeen) (shown shown_new : Cons
     held_still : (status : Status) → RunEnds words old new shown shown_new status → DemoEnds a shown shown_new status → new.held ≡ Some store
     held_still Done e is = nothing_put e.files.0 e.files.1.options e.files.1.lawful e.files.2
     held_still ConsoleFault e is = nothing_put e.files.0 e.files.1.options e.files.1.lawful e.files.2
+    held_still Differs e is = absurd is
     held_still Refused e is = left e.files.2
     held_still Usage e is = absurd is
     held_still ReadFault e is = absurd is

@@ -1,5 +1,6 @@
 -- Of files comes what is new in them and in the common file, or the first fault of reading them.
 use Rattle.std.proofs.Common.{◌≡◌, ℕ, Bool, true, false, List, length, Option, Result, Ok, Err, Vec, Global, map, sym, ap, subst, ◌∙◌, inl}
+use Rattle.std.specs.Prelude.{◌&&◌, not}
 use Rattle.std.proofs.lemmas.List.{length-map}
 use Rattle.std.proofs.lemmas.List.FromFn.{length-range_with_len}
 use Rattle.dwz_model.specs.declared.fault.GraphErr.{GraphErr}
@@ -27,6 +28,7 @@ use Rattle.dwz_run_course.specs.Outcome.{refuses}
 use Rattle.dwz_model.specs.declared.fault.Refusal.{Refusal}
 use Rattle.dwz_def_output.specs.Written.{stored_of}
 use Rattle.dwz_def_run.specs.Out.{Out, OutBy, Slims, rule_of, run_for, top_scope_of}
+use Rattle.dwz_def_run.specs.Compares.{Compares}
 use Rattle.dwz_def_run.specs.Tells.{TellsWhy}
 use Rattle.dwz_def_output.specs.declared.new_file.NewFile.{NewFile}
 use Rattle.dwz_def_output.specs.NewFiles.{AreNew, IsNewCommon}
@@ -34,23 +36,42 @@ use Rattle.dwz_run_output.proofs.RunReady.{as_many}
 
 -- ---- what comes of options, by what they ask for
 
-first_refuses : (b : Bool) (o : Options) (contents : List (List ℕ)) (r : Refusal) → First no_files_before 0 contents r → OutBy b o contents (refuses r)
-first_refuses true o contents r first = inl first
-first_refuses false o contents r first = inl first
+-- two files are compared
+abbrev pub is_to_compare : (check explain : Bool) → Bool
+is_to_compare check explain = check && not explain
 
--- files that don't read are refused with their first fault
-pub read_refused : (o : Options) (contents : List (List ℕ)) (e : GraphErr) → FilesFail e (files_meaning no_files_before 0 contents)
+first_refuses : (b c : Bool) (o : Options) (contents : List (List ℕ)) (r : Refusal) → is_to_compare c b ≡ false → First no_files_before 0 contents r
+    → OutBy b c o contents (refuses r)
+first_refuses true c o contents r none first = inl first
+first_refuses false true o contents r none first = absurd cc
+first_refuses false false o contents r none first = inl first
+
+-- files that are not compared, and don't read, are refused with their first fault
+pub read_refused : (o : Options) (contents : List (List ℕ)) (e : GraphErr) → is_to_compare o.check o.explain ≡ false → FilesFail e (files_meaning no_files_before 0 contents)
     → IsAnswer (Out o contents) (Err e)
-read_refused o contents NoMemory fail = tt
-read_refused o contents (Refused r) fail = let first = refused contents r fail in (first_refuses o.explain o contents r first.0, first.1)
+read_refused o contents NoMemory none fail = tt
+read_refused o contents (Refused r) none fail = let first = refused contents r fail in (first_refuses o.explain o.check o contents r none first.0, first.1)
 
 pub told_as_asked : (o : Options) (contents : List (List ℕ)) (result : Result Output GraphErr) → o.explain ≡ true → IsAnswer (TellsWhy o contents) result
     → IsAnswer (Out o contents) result
-told_as_asked o contents result tells is = subst (λ (b : Bool). IsAnswer (OutBy b o contents) result) (sym tells) is
+told_as_asked o contents result tells is = subst (λ (b : Bool). IsAnswer (OutBy b o.check o contents) result) (sym tells) is
 
-pub slimmed_as_asked : (o : Options) (contents : List (List ℕ)) (result : Result Output GraphErr) → o.explain ≡ false → IsAnswer (Slims o contents) result
-    → IsAnswer (Out o contents) result
-slimmed_as_asked o contents result slims is = subst (λ (b : Bool). IsAnswer (OutBy b o contents) result) (sym slims) is
+pub slimmed_as_asked : (o : Options) (contents : List (List ℕ)) (result : Result Output GraphErr) → o.explain ≡ false → is_to_compare o.check o.explain ≡ false
+    → IsAnswer (Slims o contents) result → IsAnswer (Out o contents) result
+slimmed_as_asked o contents result slims none is = by o.explain o.check slims none where
+  by : (b c : Bool) → b ≡ false → is_to_compare c b ≡ false → IsAnswer (OutBy b c o contents) result
+  by true c e n = absurd cc
+  by false true e n = absurd cc
+  by false false e n = is
+
+pub compared_as_asked : (o : Options) (contents : List (List ℕ)) (result : Result Output GraphErr) → is_to_compare o.check o.explain ≡ true
+    → IsAnswer (Compares o contents) result → IsAnswer (Out o contents) result
+compared_as_asked o contents result compares is = by o.explain o.check compares where
+  by : (b c : Bool) → is_to_compare c b ≡ true → IsAnswer (OutBy b c o contents) result
+  by true true n = absurd cc
+  by true false n = absurd cc
+  by false true n = is
+  by false false n = absurd cc
 
 -- ---- the files of a graph, which stands for their contents
 

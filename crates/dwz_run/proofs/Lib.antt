@@ -1,5 +1,7 @@
 pub mod FilesWritten
 pub mod PlacesTold
+pub mod FinishedPlaced
+pub mod TwoCompared
 pub mod OfBytes
 pub mod CommonName
 pub mod HeldAfter

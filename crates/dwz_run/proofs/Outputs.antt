@@ -1,27 +1,32 @@
 -- What came of a run that did all is what is put of its FILEs, or of the two files of a demonstration, of which nothing is put, or the text on two
--- entries.
+-- entries, or the line on two files that were compared.
 use Rattle.std.proofs.Common.{◌≡◌, ◌⊎◌, ℕ, Bool, true, false, List, [], ◌++◌, length, Option, Some, None, refl, sym, ap, subst, ◌∙◌, inl, inr, append-nil}
 use Rattle.std.specs.Prelude.{◌&&◌, IfSome, if◌then◌else◌}
 use Rattle.dwz_def_reading.specs.Documents.{Doc}
 use Rattle.dwz_def_reading.specs.Files.{ReadAll, no_files_before}
+use Rattle.dwz_def_reading.specs.Finished.{FinishedDocs, ReadFinished}
 use Rattle.dwz_def_reading.specs.Texts.{NoZero}
+use Rattle.dwz_def_check.specs.Answer.{IsSameOf}
+use Rattle.dwz_def_check.specs.declared.same.Same.{Same}
+use Rattle.dwz_def_check.specs.Texts.{check_text}
 use Rattle.dwz_outside.specs.Store.{Store, done}
 use Rattle.dwz_outside.specs.Told.{FilesSeen}
 use Rattle.dwz_words.specs.declared.options.Options.{Options}
 use Rattle.dwz_words.specs.Asked.{names_got}
 use Rattle.dwz_words.specs.Lawful.{Lawful}
-use Rattle.dwz_words.proofs.Fits.{with_explain}
+use Rattle.dwz_words.proofs.Fits.{with_check, with_explain}
 use Rattle.dwz_run_course.specs.declared.output.Output.{Output}
 use Rattle.dwz_run_course.specs.Demo.{asked_by, demo_options}
 use Rattle.dwz_run_course.specs.Ends.{AreContents, Came, done_text, puts_unless_demo, slimmed_text}
 use Rattle.dwz_run_course.specs.Gets.{AreOfBytes, gets}
 use Rattle.dwz_run_course.specs.Outcome.{writes}
 use Rattle.dwz_gen.specs.Demo.{demo_files}
+use Rattle.dwz_def_run.specs.Compares.{Compares, answer_on, common_in, tells_apart, two_in}
 use Rattle.dwz_def_run.specs.Out.{Out, OutBy, Slims, output_of, summary_of, sup_name, top_scope_of}
 use Rattle.dwz_def_run.specs.Tells.{IsTold, TellsWhy, answer_of}
 use Rattle.dwz_def_output.proofs.AllMade.{common_tied, file_tied, read_back}
 use Rattle.dwz_def_run.proofs.Gotten.{are_held, got_files}
-use Rattle.dwz_run.specs.Laws.{AsksForAnswer, AsksForDemo, AsksForFiles, HasOutput, HoldAfter, IsDemoText, puts_in, run_in, said}
+use Rattle.dwz_run.specs.Laws.{AsksForAnswer, AsksForDemo, AsksForFiles, AsksToCompare, HasOutput, HoldAfter, IsDemoText, puts_in, run_in, said}
 use Rattle.dwz_run.proofs.HeldAfter.{hold_after}
 use Rattle.dwz_run.proofs.CommonName.{demo_named, named_well}
 use Rattle.dwz_run.proofs.OfBytes.{each_bytes}
@@ -58,12 +63,14 @@ pub record OfFiles (words : List (List ℕ)) (store : Store) (o : Options) (out 
   pub has : HasOutput asks.options asks.contents
   pub puts_are : puts_unless_demo o.demo out ≡ puts_in has
   pub text_is : done_text o out ≡ said asks.options (run_in has)
+  pub same : out.differs ≡ false
 
 -- a demonstration was, and of what came of its two files nothing is put, and one line is said
 pub record OfDemo (words : List (List ℕ)) (o : Options) (out : Output) : Type 0 where
   pub asks : AsksForDemo words
   pub puts_are : puts_unless_demo o.demo out ≡ []
   pub is_text : IsDemoText asks (done_text o out)
+  pub same : out.differs ≡ false
 
 -- two entries were asked for, and of what came nothing is put, and the text on them is said
 pub record OfAnswer (words : List (List ℕ)) (store : Store) (o : Options) (out : Output) : Type 0 where
@@ -72,6 +79,21 @@ pub record OfAnswer (words : List (List ℕ)) (store : Store) (o : Options) (out
   pub reads : ReadAll no_files_before asks.contents docs
   pub puts_are : puts_unless_demo o.demo out ≡ []
   pub is_text : IsTold asks.options docs (done_text o out)
+  pub same : out.differs ≡ false
+
+-- two files were to be compared, and of what came nothing is put, and the line on them is said
+pub record OfCompared (words : List (List ℕ)) (store : Store) (o : Options) (out : Output) : Type 0 where
+  pub asks : AsksToCompare words store
+  pub said : FinishedDocs
+  pub reads : ReadFinished (common_in asks.options.sup asks.contents) (two_in asks.options.sup asks.contents) said
+  pub answer : Same
+  pub is_same : IsSameOf said answer
+  pub puts_are : puts_unless_demo o.demo out ≡ []
+  pub text_is : done_text o out ≡ check_text answer
+  pub differs : out.differs ≡ tells_apart answer
+
+abbrev pub Came_to : List (List ℕ) → Store → Options → Output → Type 0
+Came_to words store o out = OfFiles words store o out ⊎ (OfDemo words o out ⊎ (OfAnswer words store o out ⊎ OfCompared words store o out))
 
 -- what is said of files that were slimmed, by the number of units of a demonstration
 abbrev slimmed_said : Options → {p : Options} {contents : List (List ℕ)} → HasOutput p contents → Option ℕ → List ℕ
@@ -91,9 +113,9 @@ module _ (words : List (List ℕ)) (old : FilesSeen) (store : Store) (told : old
   pub got_of : (names contents : List (List ℕ)) → IfSome old.held (λ s. gets s 0 names ≡ Some contents) → gets store 0 names ≡ Some contents
   got_of names contents is = subst (λ (h : Option Store). IfSome h (λ s. gets s 0 names ≡ Some contents)) told is
 
-  of_files : (o : Options) (contents : List (List ℕ)) (out : Output) → Lawful words o → o.demo ≡ None → o.explain ≡ false
+  of_files : (o : Options) (contents : List (List ℕ)) (out : Output) → Lawful words o → o.demo ≡ None → o.explain ≡ false → o.check ≡ false
       → gets store 0 (names_got o) ≡ Some contents → AreOfBytes contents → Slims o contents (writes out) → OfFiles words store o out
-  of_files o contents out lawful no_demo slims got bytes given =
+  of_files o contents out lawful no_demo slims no_check got bytes given =
       let g = given_of o contents out (named_well o lawful.fit) bytes given in
       record {
         asks = record {
@@ -101,12 +123,14 @@ module _ (words : List (List ℕ)) (old : FilesSeen) (store : Store) (told : old
           lawful = lawful;
           no_demo = no_demo;
           slims = slims;
+          no_check = no_check;
           contents = contents;
-          got = subst (λ (names : List (List ℕ)). gets store 0 names ≡ Some contents) (got_files o slims) got;
+          got = subst (λ (names : List (List ℕ)). gets store 0 names ≡ Some contents) (got_files o lawful.fit slims no_check) got;
         };
         has = g.has;
         puts_are = ap (λ (d : Option ℕ). puts_unless_demo d out) no_demo ∙ ap (λ (x : Output). x.puts) g.is;
         text_is = ap (done_text o) g.is ∙ ap (slimmed_said o g.has) no_demo;
+        same = ap (λ (x : Output). x.differs) g.is;
       }
 
   -- the one part of an answer is no summary, so it is said though the words ask for quiet
@@ -126,10 +150,26 @@ module _ (words : List (List ℕ)) (old : FilesSeen) (store : Store) (told : old
         reads = given.1;
         puts_are = ap (λ (d : Option ℕ). puts_unless_demo d out) (with_explain o lawful.fit tells).1 ∙ ap (λ (x : Output). x.puts) is;
         is_text = subst (IsTold o given.0) (sym is_said) given.2.1;
+        same = ap (λ (x : Output). x.differs) is;
+      }
+
+  of_compared : (o : Options) (contents : List (List ℕ)) (out : Output) → Lawful words o → o.check ≡ true
+      → gets store 0 (names_got o) ≡ Some contents → Compares o contents (writes out) → OfCompared words store o out
+  of_compared o contents out lawful compares got given =
+      let is : out ≡ answer_on given.2 = given.4 in
+      record {
+        asks = record { options = o; lawful = lawful; compares = compares; contents = contents; got = got };
+        said = given.0;
+        reads = given.1;
+        answer = given.2;
+        is_same = given.3;
+        puts_are = ap (λ (d : Option ℕ). puts_unless_demo d out) (with_check o lawful.fit compares).1 ∙ ap (λ (x : Output). x.puts) is;
+        text_is = ap (done_text o) is ∙ all_said o.quiet (check_text given.2);
+        differs = ap (λ (x : Output). x.differs) is;
       }
 
   pub outputs : (out : Output) (came : Came demo_files Out words old (writes out))
-      → OfFiles words store came.options out ⊎ (OfDemo words came.options out ⊎ OfAnswer words store came.options out)
+      → Came_to words store came.options out
   outputs out came = by came.options.demo refl came.are came.given where
     o : Options
     o = came.options
@@ -137,21 +177,23 @@ module _ (words : List (List ℕ)) (old : FilesSeen) (store : Store) (told : old
     contents : List (List ℕ)
     contents = came.contents
 
-    undemonstrated : (b : Bool) → o.explain ≡ b → o.demo ≡ None → gets store 0 (names_got o) ≡ Some contents → OutBy b o contents (writes out)
-        → OfFiles words store o out ⊎ (OfDemo words o out ⊎ OfAnswer words store o out)
-    undemonstrated false slims no_demo got given = inl (of_files o contents out came.lawful no_demo slims got came.bytes given)
-    undemonstrated true tells no_demo got given = inr (inr (of_answer o contents out came.lawful tells got given))
+    undemonstrated : (b c : Bool) → o.explain ≡ b → o.check ≡ c → o.demo ≡ None → gets store 0 (names_got o) ≡ Some contents → OutBy b c o contents (writes out)
+        → Came_to words store o out
+    undemonstrated false false slims none no_demo got given = inl (of_files o contents out came.lawful no_demo slims none got came.bytes given)
+    undemonstrated false true none compares no_demo got given = inr (inr (inr (of_compared o contents out came.lawful compares got given)))
+    undemonstrated true c tells is no_demo got given = inr (inr (inl (of_answer o contents out came.lawful tells got given)))
 
     by : (d : Option ℕ) → o.demo ≡ d → AreContents demo_files d old (names_got o) contents → Out (asked_by d o) contents (writes out)
-        → OfFiles words store o out ⊎ (OfDemo words o out ⊎ OfAnswer words store o out)
+        → Came_to words store o out
     by (Some n) e are given =
         let a : AsksForDemo words = record { options = o; lawful = came.lawful; units = n; is_demo = e } in
         inr (inl (record {
           asks = a;
           puts_are = ap (λ (d : Option ℕ). puts_unless_demo d out) e;
           is_text = demo_said_of words a contents out are came.bytes given;
+          same = ap (λ (x : Output). x.differs) given.3;
         }))
-    by None e are given = undemonstrated o.explain refl e (got_of (names_got o) contents are) given
+    by None e are given = undemonstrated o.explain o.check refl refl e (got_of (names_got o) contents are) given
 
 -- all puts done, the FILEs hold what they have after
 pub output_held : {words : List (List ℕ)} {store : Store} (a : AsksForFiles words store) (out : HasOutput a.options a.contents)

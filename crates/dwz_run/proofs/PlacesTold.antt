@@ -1,5 +1,5 @@
 -- Of two places comes the text on them, of which nothing is put, or the refusal of one of them.
-use Rattle.std.proofs.Common.{◌≡◌, ◌≤◌, ℕ, List, [], ◌∷◌, ◌++◌, Result, Ok, Err, false, sym, ap, subst, ◌∙◌, inl, inr, lit≤}
+use Rattle.std.proofs.Common.{◌≡◌, ◌≤◌, ℕ, Bool, List, [], ◌∷◌, ◌++◌, Result, Ok, Err, false, sym, ap, subst, ◌∙◌, inl, inr, lit≤}
 use Rattle.dwz_model.specs.declared.fault.GraphErr.{GraphErr}
 use Rattle.dwz_model.specs.declared.fault.GraphErr.TheVariants.{NoMemory, Refused}
 use Rattle.dwz_model.specs.declared.fault.Refusal.{Refusal}
@@ -47,9 +47,10 @@ module _ (o : Options) (contents : List (List ℕ)) (docs : List (Doc ℕ)) (rea
   untold NoMemory is = tt
 
   pub told : (text : Text) → Said_of (numbers_of places) (Ok text) → (out : Output) (parts : List TextPart) → out.puts ≡ [] → out.said ≡ Parts parts
-      → parts ≡ record { text = text; is_summary = false } ∷ [] → IsAnswer (TellsWhy o contents) (Ok out)
-  told text is out parts puts said one =
-      let by : List Put → Said → Output = λ p s. record { puts = p; said = s } in
+      → out.differs ≡ false → parts ≡ record { text = text; is_summary = false } ∷ [] → IsAnswer (TellsWhy o contents) (Ok out)
+  told text is out parts puts said same one =
+      let by : List Put → Said → Bool → Output = λ p s d. record { puts = p; said = s; differs = d } in
       let all = said ∙ ap (λ (ps : List TextPart). Parts ps) one in
-      let is_answer : out ≡ answer_of text = ap (λ (p : List Put). by p out.said) puts ∙ ap (by []) all in
+      let is_answer : out ≡ answer_of text = ap (λ (p : List Put). by p out.said out.differs) puts ∙ (ap (λ (s : Said). by [] s out.differs) all
+      ∙ ap (by [] (Parts (record { text = text; is_summary = false } ∷ []))) same) in
       ((docs, reads, (text, of_asked (Ok text) is, is_answer)), subst CanBeSaid (sym said) tt)

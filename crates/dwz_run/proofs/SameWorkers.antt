@@ -10,6 +10,7 @@ use Rattle.dwz_run_course.specs.Outcome.{Outcome, refuses, writes}
 use Rattle.dwz_def_run.specs.Out.{files_puts_by, summary_lines_by}
 use Rattle.dwz_def_output.specs.FilesAfter.{bytes_after}
 use Rattle.dwz_def_run.specs.Out.{Out, OutBy, Slims, common_length_after, common_puts, file_puts, files_puts, length_if_new, output_of, run_for, summary_lines, sup_name}
+use Rattle.dwz_def_run.specs.Compares.{Compares}
 use Rattle.dwz_def_run.specs.Tells.{TellsWhy}
 
 module _ (o : Options) (n : ℕ) where
@@ -33,6 +34,7 @@ module _ (o : Options) (n : ℕ) where
       let by : List Put → List (List ℕ × ℕ × Option ℕ) → Output = λ ps ls. record {
         puts = common_puts o.common r ++ ps;
         said = Slimmed (record { common = common_length_after o.common r; files = ls }) (length r.move.parts);
+        differs = false;
       } in
       ap (λ (ps : List Put). by ps (summary_lines o r 0 o.files)) (same_puts r 0 o.files) ∙ ap (by (files_puts other r 0 o.files)) (same_lines r 0 o.files)
 
@@ -46,8 +48,13 @@ module _ (o : Options) (n : ℕ) where
   same_told contents (writes out) is = is
   same_told contents (refuses q) is = is
 
+  same_compared : (contents : List (List ℕ)) (outcome : Outcome) → Compares o contents outcome → Compares other contents outcome
+  same_compared contents (writes out) is = is
+  same_compared contents (refuses q) is = is
+
   pub same_out : (contents : List (List ℕ)) (outcome : Outcome) → Out o contents outcome → Out other contents outcome
-  same_out contents outcome = by o.explain where
-    by : (b : Bool) → OutBy b o contents outcome → OutBy b other contents outcome
-    by true = same_told contents outcome
-    by false = same_slimmed contents outcome
+  same_out contents outcome = by o.explain o.check where
+    by : (b c : Bool) → OutBy b c o contents outcome → OutBy b c other contents outcome
+    by true c = same_told contents outcome
+    by false true = same_compared contents outcome
+    by false false = same_slimmed contents outcome

@@ -1,5 +1,5 @@
 -- What holds where one of the puts failed, and after the first puts, however many.
-use Rattle.std.proofs.Common.{◌≡◌, ◌⊎◌, ℕ, List, [], ◌∷◌, ◌++◌, length, take, Some, refl, sym, ap, subst, ◌∙◌, inl, inr}
+use Rattle.std.proofs.Common.{◌≡◌, ℕ, List, [], ◌∷◌, ◌++◌, length, take, Some, refl, sym, ap, subst, ◌∙◌, inl, inr}
 use Rattle.std.proofs.Math.Seq.{take-append_seam}
 use Rattle.std.specs.Prelude.{slice_get}
 use Rattle.dwz_outside.specs.declared.puts.Put.{Put}
@@ -17,7 +17,7 @@ use Rattle.dwz_def_run.proofs.Stopping.{stops}
 use Rattle.dwz_run.specs.Laws.{AsksForFiles, HasOutput, ReadOn, RunEnds, StoppedAt, puts_in}
 use Rattle.dwz_run.proofs.AllDone.{with_puts}
 use Rattle.dwz_run.proofs.ChangedFiles.{changed_there}
-use Rattle.dwz_run.proofs.Outputs.{OfAnswer, OfDemo, OfFiles, outputs}
+use Rattle.dwz_run.proofs.Outputs.{Came_to, outputs}
 
 -- after the first puts each FILE is as it was or as it is made, and either reads by what is known of all files together
 pub read_on : (words : List (List ℕ)) (store : Store) (a : AsksForFiles words store) (out : HasOutput a.options a.contents) (count : ℕ)
@@ -43,7 +43,7 @@ module _ (words : List (List ℕ)) (old new : FilesSeen) (shown shown_new : Cons
       → PutsStopped old new (puts_unless_demo came.options.demo out) name
       → text ≡ write_text name → StoppedAt words store old new text
   stopped_at out came name text s is = by (outputs words old store told out came) where
-    by : OfFiles words store came.options out ⊎ (OfDemo words came.options out ⊎ OfAnswer words store came.options out) → StoppedAt words store old new text
+    by : Came_to words store came.options out → StoppedAt words store old new text
     by (inl f) =
         let has = f.has in
         let puts_are : puts_in has ≡ s.before ++ s.failed ∷ s.after = sym f.puts_are ∙ s.puts_are in
@@ -61,7 +61,8 @@ module _ (words : List (List ℕ)) (old new : FilesSeen) (shown shown_new : Cons
           text_is = is ∙ ap write_text s.name_is;
         }
     by (inr (inl d)) = absurd (none_fails s.before s.failed s.after (sym d.puts_are ∙ s.puts_are))
-    by (inr (inr a)) = absurd (none_fails s.before s.failed s.after (sym a.puts_are ∙ s.puts_are))
+    by (inr (inr (inl a))) = absurd (none_fails s.before s.failed s.after (sym a.puts_are ∙ s.puts_are))
+    by (inr (inr (inr c))) = absurd (none_fails s.before s.failed s.after (sym c.puts_are ∙ s.puts_are))
 
   pub all_stopped : RunEnds words old new shown shown_new WriteFault
       → (text : List ℕ) × StoppedAt words store old new text × Says shown shown_new WriteFault text

@@ -1,12 +1,19 @@
 -- What follows of how a run ends. What a run asks for, gets, puts and says is that of its words and of what was held.
-use Rattle.std.specs.Prelude.{◌≡◌, ◌⊎◌, ℕ, Bool, true, false, List, [], Option, Some, None, take, slice_get, length, if◌then◌else◌}
+use Rattle.std.specs.Prelude.{◌≡◌, ◌⊎◌, ℕ, Bool, true, false, List, [], ◌∷◌, Option, Some, None, take, slice_get, length, if◌then◌else◌}
 use Rattle.dwz_model.specs.declared.fault.Refusal.{Refusal}
 use Rattle.dwz_def_reading.specs.Documents.{Doc}
 use Rattle.dwz_def_reading.specs.Files.{First, ReadAll, no_files_before}
+use Rattle.dwz_def_reading.specs.Finished.{FinishedDocs, FirstFinished, ReadFinished}
+use Rattle.dwz_def_reading.specs.Places.{Place}
 use Rattle.dwz_def_tops.specs.Lists.{Nth}
 use Rattle.dwz_def_readback.specs.AllFiles.{ReadBack, SaysStill, given_if}
 use Rattle.dwz_def_readback.specs.Back.{SaysPlaced}
 use Rattle.dwz_def_readback.specs.Files.{Run, fitted}
+use Rattle.dwz_def_cross.specs.CrossSame.{CrossSame}
+use Rattle.dwz_def_check.specs.Answer.{IsSameOf, beside_common}
+use Rattle.dwz_def_check.specs.declared.same.Same.{Same}
+use Rattle.dwz_def_check.specs.declared.same.Same.TheVariants.{Yes}
+use Rattle.dwz_def_check.specs.Texts.{check_text}
 use Rattle.dwz_outside.specs.declared.puts.Put.{Put}
 use Rattle.dwz_outside.specs.Counts.{Rose}
 use Rattle.dwz_outside.specs.Store.{Store, done}
@@ -16,7 +23,7 @@ use Rattle.dwz_words.specs.declared.options.Options.{Options}
 use Rattle.dwz_words.specs.Asked.{names_got}
 use Rattle.dwz_words.specs.Lawful.{Lawful}
 use Rattle.dwz_run_course.specs.declared.status.Status.{Status}
-use Rattle.dwz_run_course.specs.declared.status.Status.TheVariants.{Done, Refused, Usage, ReadFault, WriteFault, NoMemory, ConsoleFault}
+use Rattle.dwz_run_course.specs.declared.status.Status.TheVariants.{Done, Refused, Usage, ReadFault, WriteFault, NoMemory, ConsoleFault, Differs}
 use Rattle.dwz_run_course.specs.Demo.{demo_options, new_length, old_length}
 use Rattle.dwz_run_course.specs.Ends.{Complete, Ends, Refuses, Says, SaysAll, SaysNothing}
 use Rattle.dwz_run_course.specs.Gets.{gets}
@@ -26,6 +33,7 @@ use Rattle.dwz_def_output.specs.FilesAfter.{bytes_after, common_bytes, file_afte
 use Rattle.dwz_def_output.specs.Laws.{AreTied}
 use Rattle.dwz_def_output.specs.Written.{stored_of}
 use Rattle.dwz_def_run.specs.Out.{IsRefused, IsWritten, Out, all_puts, common_of, rule_of, run_for, summary_of, sup_name, top_scope_of}
+use Rattle.dwz_def_run.specs.Compares.{common_in, tells_apart, two_in}
 use Rattle.dwz_def_run.specs.Stops.{IsMade}
 use Rattle.dwz_def_run.specs.Tells.{IsTold, IsUntold}
 
@@ -41,6 +49,7 @@ pub record AsksForFiles (words : List (List ℕ)) (store : Store) : Type 0 where
   pub lawful : Lawful words options
   pub no_demo : options.demo ≡ None
   pub slims : options.explain ≡ false
+  pub no_check : options.check ≡ false
   pub contents : List (List ℕ)
   pub got : gets store 0 options.files ≡ Some contents
 
@@ -59,23 +68,34 @@ pub record AsksForAnswer (words : List (List ℕ)) (store : Store) : Type 0 wher
   pub contents : List (List ℕ)
   pub got : gets store 0 (names_got options) ≡ Some contents
 
+-- the words are lawful and ask whether two files mean the same; the contents of these are held, and that of their common file, where it is given
+pub record AsksToCompare (words : List (List ℕ)) (store : Store) : Type 0 where
+  pub options : Options
+  pub lawful : Lawful words options
+  pub compares : options.check ≡ true
+  pub contents : List (List ℕ)
+  pub got : gets store 0 (names_got options) ≡ Some contents
+
 -- one of these
 pub data Asks (words : List (List ℕ)) (store : Store) : Type 0 where
   for_files : AsksForFiles words store → Asks words store
   for_demo : AsksForDemo words → Asks words store
   for_answer : AsksForAnswer words store → Asks words store
+  to_compare : AsksToCompare words store → Asks words store
 
 -- the options of the work: for a demonstration, those by which its two files are given a common one
 abbrev pub work_options : {words : List (List ℕ)} {store : Store} → Asks words store → Options
 work_options (for_files a) = a.options
 work_options (for_demo a) = demo_options a.options
 work_options (for_answer a) = a.options
+work_options (to_compare a) = a.options
 
 -- the contents of the files that are worked on
 abbrev pub work_contents : {words : List (List ℕ)} {store : Store} → Asks words store → List (List ℕ)
 work_contents (for_files a) = a.contents
 work_contents (for_demo a) = demo_files a.units
 work_contents (for_answer a) = a.contents
+work_contents (to_compare a) = a.contents
 
 -- ---- what comes of it
 
@@ -152,23 +172,47 @@ pub record DidTell (words : List (List ℕ)) (store : Store) (old new : FilesSee
   pub held : new.held ≡ Some store
   pub stored : StoredWith old new []
 
+-- The two files were held, with their common file where it is given, and read, as files that may have been written; that is what is to be said of
+-- them, and the text is its line. Nothing is put: nothing is held otherwise than before.
+pub record DidCompare (words : List (List ℕ)) (store : Store) (old new : FilesSeen) (text : List ℕ) (same : Same) : Type 0 where
+  pub asks : AsksToCompare words store
+  pub said : FinishedDocs
+  pub reads : ReadFinished (common_in asks.options.sup asks.contents) (two_in asks.options.sup asks.contents) said
+  pub is_same : IsSameOf said same
+  pub text_is : text ≡ check_text same
+  pub held : new.held ≡ Some store
+  pub stored : StoredWith old new []
+
 abbrev pub Did : List (List ℕ) → Store → FilesSeen → FilesSeen → List ℕ → Type 0
-Did words store old new text = DidAll words store old new text ⊎ (DidDemo words store old new text ⊎ DidTell words store old new text)
+Did words store old new text =
+    DidAll words store old new text
+    ⊎ (DidDemo words store old new text ⊎ (DidTell words store old new text ⊎ DidCompare words store old new text Yes))
+
+-- two files were compared, and what is said of them is by what they differ
+abbrev pub FoundApart : List (List ℕ) → Store → FilesSeen → FilesSeen → List ℕ → Type 0
+FoundApart words store old new text = (same : Same) × (tells_apart same ≡ true) × DidCompare words store old new text same
 
 -- Where a run answers Done its FILEs were held and read; all is put, and reads back; and its text is written, once. Or it is a
--- demonstration, or it says why two entries aren't shared.
+-- demonstration, or it says why two entries aren't shared, or that two files mean the same.
 abbrev pub DoneLaw : Type 0
 DoneLaw =
     (words : List (List ℕ)) (old new : FilesSeen) (shown shown_new : ConsoleSeen) → RunEnds words old new shown shown_new Done
     → (store : Store) → old.held ≡ Some store
     → (text : List ℕ) × Did words store old new text × SaysAll shown shown_new text
 
--- Where it answers ConsoleFault all is put as well. There is a text, and since the console failed nothing of it is written.
+-- where it answers Differs it says by what two files differ
+abbrev pub ApartLaw : Type 0
+ApartLaw =
+    (words : List (List ℕ)) (old new : FilesSeen) (shown shown_new : ConsoleSeen) → RunEnds words old new shown shown_new Differs
+    → (store : Store) → old.held ≡ Some store
+    → (text : List ℕ) × FoundApart words store old new text × SaysAll shown shown_new text
+
+-- Where it answers ConsoleFault all is put as well, or compared. There is a text, and since the console failed nothing of it is written.
 abbrev pub SilentLaw : Type 0
 SilentLaw =
     (words : List (List ℕ)) (old new : FilesSeen) (shown shown_new : ConsoleSeen) → RunEnds words old new shown shown_new ConsoleFault
     → (store : Store) → old.held ≡ Some store
-    → (text : List ℕ) × Did words store old new text × SaysNothing shown shown_new text
+    → (text : List ℕ) × (Did words store old new text ⊎ FoundApart words store old new text) × SaysNothing shown shown_new text
 
 -- what comes of options and contents is the same for every number of workers
 abbrev pub WorkersLaw : Type 0
@@ -198,9 +242,15 @@ abbrev pub IsRefusedBy : Bool → Options → List (List ℕ) → Refusal → Ty
 IsRefusedBy false o contents r = (docs : List (Doc ℕ)) × (prunes : List Bool) × IsRefused o contents docs prunes r
 IsRefusedBy true o contents r = (docs : List (Doc ℕ)) × ReadAll no_files_before contents docs × IsUntold o docs r
 
--- the first fault of reading these contents, or of what comes of them
+-- the first fault of reading these contents, or of what comes of them; of two files that are compared the first of reading them, with their common
+-- file
+abbrev pub IsFirstOf : (explain check : Bool) → Options → List (List ℕ) → Refusal → Type 0
+IsFirstOf false true o contents r = FirstFinished (common_in o.sup contents) (two_in o.sup contents) r
+IsFirstOf false false o contents r = First no_files_before 0 contents r ⊎ IsRefusedBy false o contents r
+IsFirstOf true check o contents r = First no_files_before 0 contents r ⊎ IsRefusedBy true o contents r
+
 abbrev pub IsFirstRefusal : Options → List (List ℕ) → Refusal → Type 0
-IsFirstRefusal o contents r = First no_files_before 0 contents r ⊎ IsRefusedBy o.explain o contents r
+IsFirstRefusal o = IsFirstOf o.explain o.check o
 
 -- what is asked for is refused with its first fault, which is named, with its file
 pub record WasRefused (words : List (List ℕ)) (store : Store) (text : List ℕ) : Type 0 where
@@ -237,15 +287,26 @@ AnswerLaw =
     (words : List (List ℕ)) (old new : FilesSeen) (shown shown_new : ConsoleSeen) (status : Status)
     → RunEnds words old new shown shown_new status
     → NoneFailed old new shown shown_new → (o : Options) → Lawful words o
-    → (status ≡ Done) ⊎ (status ≡ Refused) ⊎ (status ≡ NoMemory)
+    → (status ≡ Done) ⊎ (status ≡ Refused) ⊎ (status ≡ NoMemory) ⊎ ((status ≡ Differs) × (o.check ≡ true))
 
--- Done, where there is no first refusal
+-- Done, where there is no first refusal; of two files that are compared Done or Differs
 abbrev pub CompleteLaw : Type 0
 CompleteLaw =
     (words : List (List ℕ)) (old new : FilesSeen) (shown shown_new : ConsoleSeen) (status : Status)
     → Complete demo_files Out words old new shown shown_new status → NoneFailed old new shown shown_new
     → (store : Store) → old.held ≡ Some store → (a : Asks words store)
-    → ((r : Refusal) → ¬ IsFirstRefusal (work_options a) (work_contents a) r) → (status ≡ Done) ⊎ (status ≡ NoMemory)
+    → ((r : Refusal) → ¬ IsFirstRefusal (work_options a) (work_contents a) r)
+    → (status ≡ Done) ⊎ (status ≡ NoMemory) ⊎ ((status ≡ Differs) × ((work_options a).check ≡ true))
+
+-- Where two files that are compared read, it is Done exactly if they mean the same, imports expanded, and else Differs.
+abbrev pub CompareLaw : Type 0
+CompareLaw =
+    (words : List (List ℕ)) (old new : FilesSeen) (shown shown_new : ConsoleSeen) (status : Status)
+    → Complete demo_files Out words old new shown shown_new status → NoneFailed old new shown shown_new
+    → (store : Store) → old.held ≡ Some store → (a : AsksToCompare words store) (said : FinishedDocs) (first second : Doc Place)
+    → ReadFinished (common_in a.options.sup a.contents) (two_in a.options.sup a.contents) said → said.docs ≡ first ∷ second ∷ []
+    → (CrossSame (beside_common said first) (beside_common said second) → (status ≡ Done) ⊎ (status ≡ NoMemory))
+    × (¬ CrossSame (beside_common said first) (beside_common said second) → (status ≡ Differs) ⊎ (status ≡ NoMemory))
 
 -- Refused, where there is a first refusal
 abbrev pub RefusesLaw : Type 0

@@ -3,7 +3,7 @@
 //! They are laws over how a run ended, and not more clauses of `run`: so they are proved without a look at code, and use nothing but
 //! `ends`, `complete` and `refuses`.
 
-ghost use Rattle.dwz_run.specs.Laws.{AnswerLaw, CompleteLaw, DemoLaw, DoneLaw, NothingLaw, PrefixesLaw, RefusedLaw, RefusesLaw, SilentLaw};
+ghost use Rattle.dwz_run.specs.Laws.{AnswerLaw, ApartLaw, CompareLaw, CompleteLaw, DemoLaw, DoneLaw, NothingLaw, PrefixesLaw, RefusedLaw, RefusesLaw, SilentLaw};
 ghost use Rattle.dwz_run.specs.Laws.{StoppedLaw, UsageLaw, WorkersLaw};
 
 /// Where a run answers Done, its words are lawful and name FILEs, which were held and read as documents; what is put of these is put, in
@@ -11,10 +11,13 @@ ghost use Rattle.dwz_run.specs.Laws.{StoppedLaw, UsageLaw, WorkersLaw};
 /// says the same as what was read, along images, with imports expanded (DWARF 5, 3.2.5), where entries share an image exactly where they
 /// move and nothing tells them apart. Its text is written, once. Or its words ask for a demonstration, and nothing is held otherwise than
 /// before. Or they ask with `--explain` why two entries aren't shared: the files of these were held and read as documents, the text says
-/// it, and nothing is held otherwise than before. Where it answers ConsoleFault so it is too, but for the text, which isn't written. What
-/// is put and said is the same for every number of workers.
+/// it, and nothing is held otherwise than before. Or they ask with `--check` whether two files mean the same: these were held and read, as
+/// files that may have been written, they do, and nothing is held otherwise than before. Where it answers Differs they don't, and the text
+/// says where they part. Where it answers ConsoleFault one of all these is so too, but for the text, which isn't written. What is put and
+/// said is the same for every number of workers.
 pub fn done_laws()
     ensures done { DoneLaw }
+    ensures apart { ApartLaw }
     ensures silent { SilentLaw }
     ensures workers { WorkersLaw }
 {}
@@ -28,11 +31,13 @@ pub fn cause_laws()
     ensures usage { UsageLaw }
 {}
 
-/// Where no get, no put and no writing of the text failed, lawful words get Done, Refused or NoMemory: of files that are held, Refused
-/// where there is a first refusal, and else Done, with `--explain` as well. Memory may always run out.
+/// Where no get, no put and no writing of the text failed, lawful words get Done, Refused or NoMemory, or with `--check` Differs: of files that
+/// are held, Refused where there is a first refusal, and else Done, with `--explain` as well; with `--check` Done where the two files mean the
+/// same, and Differs where they don't. Memory may always run out.
 pub fn answer_laws()
     ensures answer { AnswerLaw }
     ensures complete { CompleteLaw }
+    ensures compare { CompareLaw }
     ensures refuses { RefusesLaw }
 {}
 

@@ -3,7 +3,7 @@
 //! Options are taken as they come. The number of workers is brought into its range, though words that are lawful have it there, and 2^32
 //! files or more count as memory that there isn't: so the contract of the work speaks of all options.
 
-ghost use Rattle.std.specs.Prelude.{◌≡◌, ◌<◌, ◌≤◌, ◌^◌, length, map};
+ghost use Rattle.std.specs.Prelude.{◌≡◌, ◌<◌, ◌≤◌, ◌^◌, ◌&&◌, not, length, map};
 ghost use Rattle.dwz_run_course.specs.Answers.{IsAnswer};
 ghost use Rattle.dwz_def_reading.specs.Files.{ReadAll, no_files_before};
 ghost use Rattle.dwz_def_run.specs.Out.{Out, Slims, top_scope_of};
@@ -11,6 +11,7 @@ ghost use Rattle.dwz_def_run.specs.Tells.{TellsWhy};
 ghost use Rattle.dwz_graph.specs.Files.{docs_of};
 ghost use Rattle.dwz_run_files.specs.Rules.{alike_scope};
 
+use crate::compared::compared_files;
 use dwz_explain::explain_places;
 use dwz_gate::Gate;
 use dwz_graph::Graph;
@@ -34,6 +35,13 @@ fn workers_of(options: &Options) -> u32
     ensures { (0 < result) × (result ≤ 64) }
 {
     options.workers.clamp(1, MOST_WORKERS)
+}
+
+// Whether two files are compared.
+fn compares(options: &Options) -> bool
+    ensures { result ≡ (options.now.check && not options.now.explain) }
+{
+    options.check && !options.explain
 }
 
 // Which files share: all of them where a common file is asked for, and else each by itself.
@@ -99,6 +107,7 @@ fn told_places<R: Threads + Sync>(
     Ok(Output {
         puts: Puts::new(Vec::new(alloc)),
         said: Said::Parts(TextParts::new(parts)),
+        differs: false,
     })
 }
 
@@ -116,6 +125,9 @@ pub(crate) fn written_files<R: Threads + Sync, G: Gate>(
         return Err(GraphErr::NoMemory);
     }
     let workers = workers_of(options);
+    if compares(options) {
+        return compared_files(rt, alloc, options, contents, workers, gate);
+    }
     let graph = Graph::read_by(rt, alloc, contents, workers)?;
     if options.explain {
         told_places(rt, alloc, options, &graph, workers)

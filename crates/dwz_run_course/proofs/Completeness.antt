@@ -1,5 +1,5 @@
 -- What follows of how a run ended.
-use Rattle.std.proofs.Common.{◌≡◌, ℕ, List, [], ◌∷◌, Option, Some, None, refl, sym, subst, ◌∙◌, inl, inr}
+use Rattle.std.proofs.Common.{◌≡◌, ◌⊎◌, ℕ, Bool, List, [], ◌∷◌, Option, Some, None, refl, sym, ap, subst, ◌∙◌, inl, inr}
 use Rattle.std.specs.Prelude.{IfSome}
 use Rattle.dwz_model.specs.declared.fault.Refusal.{Refusal}
 use Rattle.dwz_outside.specs.Counts.{Rose}
@@ -9,9 +9,10 @@ use Rattle.dwz_words.specs.Asked.{names_got}
 use Rattle.dwz_words.specs.declared.options.Options.{Options}
 use Rattle.dwz_run_course.specs.declared.output.Output.{Output}
 use Rattle.dwz_run_course.specs.declared.status.Status.{Status}
-use Rattle.dwz_run_course.specs.declared.status.Status.TheVariants.{Done, Refused, Usage, ReadFault, WriteFault, NoMemory, ConsoleFault}
+use Rattle.dwz_run_course.specs.declared.status.Status.TheVariants.{Done, Refused, Usage, ReadFault, WriteFault, NoMemory, ConsoleFault, Differs}
 use Rattle.dwz_run_course.specs.Demo.{asked}
-use Rattle.dwz_run_course.specs.Ends.{AreContents, AreHeld, AsksFor, Came, Complete, Ends, EndsFor, Refuses, Says, SaysNothing, before_text}
+use Rattle.dwz_run_course.specs.Ended.{unsaid}
+use Rattle.dwz_run_course.specs.Ends.{AreContents, AreHeld, AsksFor, Came, Complete, Ends, EndsFor, Refuses, Says, SaysNothing, finished}
 use Rattle.dwz_run_course.specs.Gets.{gets}
 use Rattle.dwz_run_course.specs.Outcome.{Giving, Outcome, refuses, writes}
 
@@ -47,13 +48,22 @@ IsWriting (refuses r) = ⊥
 not_both : (out : Output) (r : Refusal) → writes out ≡ refuses r → ⊥
 not_both out r is = subst IsWriting is tt
 
+-- of an output whether files differ
+abbrev differ_in : Outcome → Bool → Bool
+differ_in (writes out) b = out.differs
+differ_in (refuses r) b = b
+
+one_way : (out other : Output) (b : Bool) → writes out ≡ writes other → out.differs ≡ b → finished b ≡ finished other.differs
+one_way out other b same is = ap finished (sym is ∙ ap (λ (x : Outcome). differ_in x b) same)
+
 pub unwritten : (shown shown_new : ConsoleSeen) (text : List ℕ) → SaysNothing shown shown_new text → Rose shown.faults shown_new.faults
 unwritten shown shown_new [] says = absurd says
 unwritten shown shown_new (byte ∷ text) says = says.rose
 
 module _ (makes : ℕ → List (List ℕ)) (gives : Giving) (words : List (List ℕ)) (old new : FilesSeen) (shown shown_new : ConsoleSeen) (one : One gives) where
   pub complete : (status : Status) → Ends makes gives words old new shown shown_new status → Complete makes gives words old new shown shown_new status
-  complete Done e out s read write console = inl refl
+  complete Done e out s read write console = inl (one_way e.files.0 out _ (same_outcome makes gives words old (writes e.files.0) (writes out) one e.files.1 s) e.files.4)
+  complete Differs e out s read write console = inl (one_way e.files.0 out _ (same_outcome makes gives words old (writes e.files.0) (writes out) one e.files.1 s) e.files.4)
   complete Refused e out s read write console = absurd (not_both out e.files.0 (sym (same_outcome makes gives words old (refuses e.files.0) (writes out) one e.files.1 s)))
   complete Usage e out s read write console = absurd (e.files.0 s.options s.lawful)
   complete ReadFault e out s read write console = absurd (read e.files.4.rose)
@@ -63,6 +73,7 @@ module _ (makes : ℕ → List (List ℕ)) (gives : Giving) (words : List (List 
 
   pub refuses_all : (status : Status) → Ends makes gives words old new shown shown_new status → Refuses makes gives words old new status
   refuses_all Done e r s read = absurd (not_both e.files.0 r (same_outcome makes gives words old (writes e.files.0) (refuses r) one e.files.1 s))
+  refuses_all Differs e r s read = absurd (not_both e.files.0 r (same_outcome makes gives words old (writes e.files.0) (refuses r) one e.files.1 s))
   refuses_all Refused e r s read = inl refl
   refuses_all Usage e r s read = absurd (e.files.0 s.options s.lawful)
   refuses_all ReadFault e r s read = absurd (read e.files.4.rose)
@@ -70,8 +81,26 @@ module _ (makes : ℕ → List (List ℕ)) (gives : Giving) (words : List (List 
   refuses_all NoMemory e r s read = inr refl
   refuses_all ConsoleFault e r s read = absurd (not_both e.files.0 r (same_outcome makes gives words old (writes e.files.0) (refuses r) one e.files.1 s))
 
+-- how a run ended, where its text isn't written
+unsaid_ends : (makes : ℕ → List (List ℕ)) (gives : Giving) (words : List (List ℕ)) (old new : FilesSeen) (first : Status) (text : List ℕ)
+    → EndsFor makes gives words old new first text → EndsFor makes gives words old new (unsaid first) text
+unsaid_ends makes gives words old new Done text e = (e.0, e.1, e.2, e.3)
+unsaid_ends makes gives words old new Differs text e = (e.0, e.1, e.2, e.3)
+unsaid_ends makes gives words old new Refused text e = e
+unsaid_ends makes gives words old new Usage text e = e
+unsaid_ends makes gives words old new ReadFault text e = e
+unsaid_ends makes gives words old new WriteFault text e = e
+unsaid_ends makes gives words old new NoMemory text e = e
+unsaid_ends makes gives words old new ConsoleFault text e = e
+
 -- how a run ended, and then said so
 pub ends_of : (makes : ℕ → List (List ℕ)) (gives : Giving) (words : List (List ℕ)) (old new : FilesSeen) (shown shown_new : ConsoleSeen) (first status : Status) (text : List ℕ)
-    → EndsFor makes gives words old new first text → before_text status ≡ first → Says shown shown_new status text → Ends makes gives words old new shown shown_new status
-ends_of makes gives words old new shown shown_new first status text files is says =
+    → EndsFor makes gives words old new first text → (status ≡ first) ⊎ (status ≡ unsaid first) → Says shown shown_new status text → Ends makes gives words old new shown shown_new status
+ends_of makes gives words old new shown shown_new first status text files (inl is) says =
     record { text = text; files = subst (λ (s : Status). EndsFor makes gives words old new s text) (sym is) files; console = says }
+ends_of makes gives words old new shown shown_new first status text files (inr is) says =
+    record {
+      text = text;
+      files = subst (λ (s : Status). EndsFor makes gives words old new s text) (sym is) (unsaid_ends makes gives words old new first text files);
+      console = says;
+    }

@@ -1,5 +1,5 @@
 -- How a run ends whose contents are there.
-use Rattle.std.proofs.Common.{◌≡◌, ℕ, List, [], ◌∷◌, ◌++◌, map, Option, Some, None, refl, sym, ap, subst, ◌∙◌}
+use Rattle.std.proofs.Common.{◌≡◌, ◌⊎◌, ℕ, Bool, true, false, List, [], ◌∷◌, ◌++◌, map, Option, Some, None, refl, sym, ap, subst, ◌∙◌, inl, inr}
 use Rattle.std.specs.Prelude.{IfSome}
 use Rattle.std.specs.Borrow.{Bor}
 use Rattle.std.proofs.lemmas.List.{append-nil}
@@ -17,13 +17,13 @@ use Rattle.dwz_words.specs.declared.options.Options.{Options}
 use Rattle.dwz_run_course.specs.declared.output.Output.{Output}
 use Rattle.dwz_run_course.specs.declared.putting.Ready.{Ready}
 use Rattle.dwz_run_course.specs.declared.saying.Ended.{Ended}
-use Rattle.dwz_run_course.specs.declared.saying.Ended.TheVariants.{AllPut, WasRefused, NotLawful, NotGot, NotPut, OutOfMemory}
+use Rattle.dwz_run_course.specs.declared.saying.Ended.TheVariants.{AllPut, Differed, WasRefused, NotLawful, NotGot, NotPut, OutOfMemory}
 use Rattle.dwz_run_course.specs.declared.status.Status.{Status}
-use Rattle.dwz_run_course.specs.declared.status.Status.TheVariants.{Done, Refused, Usage, ReadFault, WriteFault, NoMemory, ConsoleFault}
-use Rattle.dwz_run_course.specs.Ended.{IsSaid, status_of, text_of}
+use Rattle.dwz_run_course.specs.declared.status.Status.TheVariants.{Done, Refused, Usage, ReadFault, WriteFault, NoMemory, ConsoleFault, Differs}
+use Rattle.dwz_run_course.specs.Ended.{IsSaid, status_of, text_of, unsaid}
 use Rattle.dwz_run_course.specs.Demo.{asked, asked_by, demo_options}
-use Rattle.dwz_run_course.specs.Ends.{AreContents, Came, EndsFor, KeepsLastRead, before_text, puts_unless_demo}
-use Rattle.dwz_run_course.specs.Outcome.{Giving, Outcome, name_of_file, refuses}
+use Rattle.dwz_run_course.specs.Ends.{AreContents, Came, EndsFor, KeepsLastRead, done_text, finished, puts_unless_demo}
+use Rattle.dwz_run_course.specs.Outcome.{Giving, Outcome, name_of_file, refuses, writes}
 use Rattle.dwz_run_course.specs.Puts.{HeldWith, PutsDone, PutsStopped}
 use Rattle.dwz_run_course.specs.Ready.{PutsStoppedFor, puts_of, ready_of}
 
@@ -40,6 +40,7 @@ is_refused s is other = subst IsOther (sym is) other
 refused : (makes : ℕ → List (List ℕ)) (gives : Giving) (words : List (List ℕ)) (old new : FilesSeen) (e : Ended) (r : Refusal) (came : Came makes gives words old (refuses r)) → LeavesPuts old new
     → IsSaid e Refused (refusal_text (name_of_file (asked came.options) r.file) r) → EndsFor makes gives words old new (status_of e) (text_of e)
 refused makes gives words old new (AllPut text) r came nothing said = absurd (is_refused Done (sym said.0) tt)
+refused makes gives words old new (Differed text) r came nothing said = absurd (is_refused Differs (sym said.0) tt)
 refused makes gives words old new (WasRefused text) r came nothing said = (r, came, nothing, said.1)
 refused makes gives words old new NotLawful r came nothing said = absurd (is_refused Usage (sym said.0) tt)
 refused makes gives words old new (NotGot text) r came nothing said = absurd (is_refused ReadFault (sym said.0) tt)
@@ -66,6 +67,16 @@ all_put old mid new all puts leaves d is =
       stored = subst (StoredWith old new) e (stored_from_old old mid new (puts_of all) leaves d.stored);
       last = d.last ∙ leaves.last;
     }
+
+-- a run that did all ends as its output says
+pub all_said : (makes : ℕ → List (List ℕ)) (gives : Giving) (words : List (List ℕ)) (old new : FilesSeen) (e : Ended) (text : List ℕ) (out : Output) (came : Came makes gives words old (writes out))
+    → PutsDone old new (puts_unless_demo came.options.demo out) → text ≡ done_text came.options out → status_of e ≡ finished out.differs → text_of e ≡ text
+    → EndsFor makes gives words old new (status_of e) (text_of e)
+all_said makes gives words old new e text out came done is status same =
+    subst (λ (s : Status). EndsFor makes gives words old new s (text_of e)) (sym status) (by out.differs refl) where
+      by : (differs : Bool) → out.differs ≡ differs → EndsFor makes gives words old new (finished differs) (text_of e)
+      by false is_same = (out, came, done, same ∙ is, is_same)
+      by true differ = (out, came, done, same ∙ is, differ)
 
 -- ---- one put failed
 
@@ -185,13 +196,19 @@ kept_by ReadFault old new same = tt
 kept_by WriteFault old new same = same
 kept_by NoMemory old new same = tt
 kept_by ConsoleFault old new same = same
+kept_by Differs old new same = same
 
 -- the text changes nothing of that
-pub kept_after : (status first : Status) (old new : FilesSeen) → before_text status ≡ first → KeepsLastRead first old new → KeepsLastRead status old new
-kept_after Done first old new is kept = subst (λ (s : Status). KeepsLastRead s old new) (sym is) kept
-kept_after Refused first old new is kept = subst (λ (s : Status). KeepsLastRead s old new) (sym is) kept
-kept_after Usage first old new is kept = subst (λ (s : Status). KeepsLastRead s old new) (sym is) kept
-kept_after ReadFault first old new is kept = tt
-kept_after WriteFault first old new is kept = subst (λ (s : Status). KeepsLastRead s old new) (sym is) kept
-kept_after NoMemory first old new is kept = tt
-kept_after ConsoleFault first old new is kept = subst (λ (s : Status). KeepsLastRead s old new) (sym is) kept
+unsaid_kept : (first : Status) (old new : FilesSeen) → KeepsLastRead first old new → KeepsLastRead (unsaid first) old new
+unsaid_kept Done old new kept = kept
+unsaid_kept Refused old new kept = kept
+unsaid_kept Usage old new kept = kept
+unsaid_kept ReadFault old new kept = kept
+unsaid_kept WriteFault old new kept = kept
+unsaid_kept NoMemory old new kept = kept
+unsaid_kept ConsoleFault old new kept = kept
+unsaid_kept Differs old new kept = kept
+
+pub kept_after : (status first : Status) (old new : FilesSeen) → (status ≡ first) ⊎ (status ≡ unsaid first) → KeepsLastRead first old new → KeepsLastRead status old new
+kept_after status first old new (inl is) kept = subst (λ (s : Status). KeepsLastRead s old new) (sym is) kept
+kept_after status first old new (inr is) kept = subst (λ (s : Status). KeepsLastRead s old new) (sym is) (unsaid_kept first old new kept)

@@ -16,6 +16,8 @@ demo_options o = record {
   files = codes "one" ∷ codes "two" ∷ [];
   demo = None;
   explain = false;
+  check = false;
+  sup = None;
 }
 
 abbrev pub asked_by : Option ℕ → Options → Options

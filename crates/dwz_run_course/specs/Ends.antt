@@ -1,5 +1,5 @@
 -- How a run ends, and what it leaves.
-use Rattle.std.specs.Prelude.{◌≡◌, ◌⊎◌, ℕ, Bool, List, [], ◌∷◌, ◌++◌, Option, Some, None, IfSome, IsSome, Contains, ◌&&◌, if◌then◌else◌}
+use Rattle.std.specs.Prelude.{◌≡◌, ◌⊎◌, ℕ, Bool, true, false, List, [], ◌∷◌, ◌++◌, Option, Some, None, IfSome, IsSome, Contains, ◌&&◌, if◌then◌else◌}
 use Rattle.dwz_outside.specs.declared.puts.Put.{Put}
 use Rattle.dwz_outside.specs.Counts.{Rose}
 use Rattle.dwz_outside.specs.Store.{Store}
@@ -15,7 +15,7 @@ use Rattle.dwz_run_course.specs.declared.output.Said.{Said}
 use Rattle.dwz_run_course.specs.declared.output.Said.TheVariants.{Parts, Slimmed}
 use Rattle.dwz_run_course.specs.declared.output.TextPart.{TextPart}
 use Rattle.dwz_run_course.specs.declared.status.Status.{Status}
-use Rattle.dwz_run_course.specs.declared.status.Status.TheVariants.{Done, Refused, Usage, ReadFault, WriteFault, NoMemory, ConsoleFault}
+use Rattle.dwz_run_course.specs.declared.status.Status.TheVariants.{Done, Refused, Usage, ReadFault, WriteFault, NoMemory, ConsoleFault, Differs}
 use Rattle.dwz_run_course.specs.Demo.{asked, new_length, old_length}
 use Rattle.dwz_run_course.specs.Gets.{AreOfBytes, gets}
 use Rattle.dwz_run_course.specs.Outcome.{Giving, Outcome, name_of_file, refuses, writes}
@@ -63,11 +63,20 @@ said_text o (Parts parts) = parts_text o.quiet parts
 abbrev pub done_text : Options → Output → List ℕ
 done_text o out = said_text o out.said
 
--- what each status says of the words, of the files before and after, and of the text
+-- the status of a run that did all: whether two files that were compared differ
+abbrev pub finished : Bool → Status
+finished false = Done
+finished true = Differs
+
+-- what each status says of the words, of the files before and after, and of the text; that of a run whose text isn't written, of the text that
+-- isn't
 abbrev pub EndsFor : (ℕ → List (List ℕ)) → Giving → List (List ℕ) → FilesSeen → FilesSeen → Status → List ℕ → Type 0
 EndsFor makes gives words old new Done text =
     (out : Output) × (came : Came makes gives words old (writes out)) × PutsDone old new (puts_unless_demo came.options.demo out)
-    × (text ≡ done_text came.options out)
+    × (text ≡ done_text came.options out) × (out.differs ≡ false)
+EndsFor makes gives words old new Differs text =
+    (out : Output) × (came : Came makes gives words old (writes out)) × PutsDone old new (puts_unless_demo came.options.demo out)
+    × (text ≡ done_text came.options out) × (out.differs ≡ true)
 EndsFor makes gives words old new Refused text =
     (r : Refusal) × (came : Came makes gives words old (refuses r)) × LeavesPuts old new
     × (text ≡ refusal_text (name_of_file (asked came.options) r.file) r)
@@ -79,7 +88,9 @@ EndsFor makes gives words old new WriteFault text =
     (out : Output) × (came : Came makes gives words old (writes out)) × (name : List ℕ)
     × PutsStopped old new (puts_unless_demo came.options.demo out) name × (text ≡ write_text name)
 EndsFor makes gives words old new NoMemory text = LeavesPuts old new × (text ≡ memory_text)
-EndsFor makes gives words old new ConsoleFault text = ⊥
+EndsFor makes gives words old new ConsoleFault text =
+    (out : Output) × (came : Came makes gives words old (writes out)) × PutsDone old new (puts_unless_demo came.options.demo out)
+    × (text ≡ done_text came.options out)
 
 -- ---- the text
 
@@ -105,19 +116,15 @@ SaysNothing old new (byte ∷ text) = Unwritten old new
 -- What each status says of the console before and after. Only a run that did all ends otherwise where the console fails.
 abbrev pub Says : ConsoleSeen → ConsoleSeen → Status → List ℕ → Type 0
 Says old new Done text = SaysAll old new text
+Says old new Differs text = SaysAll old new text
 Says old new ConsoleFault text = SaysNothing old new text
 Says old new _ text = SaysAll old new text ⊎ SaysNothing old new text
-
--- the status before the text is written
-abbrev pub before_text : Status → Status
-before_text ConsoleFault = Done
-before_text status = status
 
 -- how a run ends
 pub record Ends (makes : ℕ → List (List ℕ)) (gives : Giving) (words : List (List ℕ)) (old new : FilesSeen)
     (shown shown_new : ConsoleSeen) (status : Status) : Type 0 where
   pub text : List ℕ
-  pub files : EndsFor makes gives words old new (before_text status) text
+  pub files : EndsFor makes gives words old new status text
   pub console : Says shown shown_new status text
 
 -- a demonstration neither gets nor puts
@@ -150,7 +157,7 @@ abbrev pub Complete : (ℕ → List (List ℕ)) → Giving → List (List ℕ) �
 Complete makes gives words old new shown shown_new status =
     (out : Output) → AsksFor makes gives words old (writes out)
     → ¬ (Rose old.read_faults new.read_faults) → ¬ (Rose old.write_faults new.write_faults) → ¬ (Rose shown.faults shown_new.faults)
-    → (status ≡ Done) ⊎ (status ≡ NoMemory)
+    → (status ≡ finished out.differs) ⊎ (status ≡ NoMemory)
 
 -- and it is refused where the work refuses it, unless memory ran out or a get failed
 abbrev pub Refuses : (ℕ → List (List ℕ)) → Giving → List (List ℕ) → FilesSeen → FilesSeen → Status → Type 0

@@ -32,6 +32,8 @@ pub(crate) fn demo_options(alloc: Global, options: &Options) -> Result<Options, 
         files: Names::new(files),
         demo: None,
         explain: false,
+        check: false,
+        sup: None,
     })
 }
 

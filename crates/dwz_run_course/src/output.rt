@@ -14,6 +14,8 @@ pub struct Output {
     pub puts: Puts,
     /// What is said where all is done.
     pub said: Said,
+    /// Whether it is an answer on two files by which they differ.
+    pub differs: bool,
 }
 
 /// What a run says of what it did.

@@ -3,13 +3,13 @@
 ghost use Rattle.std.specs.Prelude.{◌≡◌, ◌<◌, ◌≤◌, ℕ, List, Some, None, [], IfOk, get_or, length, map};
 ghost use Rattle.dwz_run_course.specs.Answers.{IsAnswer};
 ghost use Rattle.dwz_run_course.specs.Ended.{IsSaid, status_of, text_of};
-ghost use Rattle.dwz_run_course.specs.Ends.{Complete, Ends, EndsFor, KeepsLastRead, LeavesFiles, Refuses};
-ghost use Rattle.dwz_run_course.specs.Outcome.{name_of_file};
+ghost use Rattle.dwz_run_course.specs.Ends.{Complete, Ends, EndsFor, KeepsLastRead, LeavesFiles, Refuses, finished};
+ghost use Rattle.dwz_run_course.specs.Outcome.{common_name, name_of_file};
 ghost use Rattle.dwz_run_course.specs.Ready.{ready_of};
 ghost use Rattle.dwz_run_course.specs.declared.status.Status.TheVariants.{ReadFault, Refused};
 ghost use Rattle.dwz_report.specs.Texts.{read_text, refusal_text};
 ghost use Rattle.dwz_outside.specs.Told.{FilesSeen};
-ghost use Rattle.dwz_words.specs.Asked.{names_got};
+ghost use Rattle.dwz_words.specs.Asked.{names_numbered};
 ghost use Rattle.dwz_words.specs.Lawful.{Lawful, word_bytes};
 
 use crate::demo::demo_options;
@@ -21,10 +21,10 @@ use crate::putting::{made_ready, put_all};
 use crate::saying::{Ended, say};
 use crate::status::Status;
 use crate::telling::done_text;
-use dwz_model::{GraphErr, Refusal};
+use dwz_model::{Blob, GraphErr, Refusal};
 use dwz_outside::{Console, Files};
 use dwz_report::{read_text, refusal_text};
-use dwz_words::{Options, WordsErr, names_got, parse};
+use dwz_words::{Options, WordsErr, names_got, names_numbered, parse};
 use std::alloc::Global;
 
 /// Does what the words ask for: gets the files that they name (`names_got`), in order, up to the first that fails or is too long; works on
@@ -117,11 +117,12 @@ where
     let Ok(text) = done_text(alloc, options, &output) else {
         return Ended::OutOfMemory;
     };
+    let differs = output.differs;
     let Ok(all) = made_ready(alloc, output.puts.into_vec()) else {
         return Ended::OutOfMemory;
     };
     match put_all(files, all) {
-        Ok(()) => Ended::AllPut(text),
+        Ok(()) => all_put(differs, text),
         Err(text) => Ended::NotPut(text),
     }
 }
@@ -150,8 +151,20 @@ where
         Err(GraphErr::NoMemory) => return Ended::OutOfMemory,
     };
     match done_text(alloc, options, &output) {
-        Ok(text) => Ended::AllPut(text),
+        Ok(text) => all_put(output.differs, text),
         Err(_) => Ended::OutOfMemory,
+    }
+}
+
+// All is put, and this is said of it.
+fn all_put(differs: bool, text: Blob) -> Ended
+    ensures status { status_of result ≡ finished differs }
+    ensures text { text_of result ≡ text }
+{
+    if differs {
+        Ended::Differed(text)
+    } else {
+        Ended::AllPut(text)
     }
 }
 
@@ -170,7 +183,7 @@ fn was_refused(alloc: Global, options: &Options, refusal: &Refusal) -> Ended
     requires { refusal.now.section ≤ 9 }
     ensures { IsSaid result Refused (refusal_text (name_of_file options.now refusal.now.file) refusal.now) }
 {
-    let Ok(names) = names_got(alloc, options) else {
+    let Ok(names) = names_numbered(alloc, options) else {
         return Ended::OutOfMemory;
     };
     match refusal_text(alloc, name_of(&names, options, refusal.file), refusal) {
@@ -179,14 +192,24 @@ fn was_refused(alloc: Global, options: &Options, refusal: &Refusal) -> Ended
     }
 }
 
-// The name of the file with that number: of one of these that are got, or else of the common file.
+// The name of the file with that number: of one of these, or else of the common file.
 fn name_of<'a>(names: &[&'a [u8]], options: &'a Options, file: u32) -> &'a [u8]
-    requires { map (λ name. name.now) names.now ≡ names_got options.now }
+    requires { map (λ name. name.now) names.now ≡ names_numbered options.now }
     ensures { result.now ≡ name_of_file options.now file }
 {
     match names.get(file as usize) {
         Some(name) => name,
-        None => match &options.common {
+        None => common_name(options),
+    }
+}
+
+// The name of the common file: of one that is made, or of one that is read.
+fn common_name(options: &Options) -> &[u8]
+    ensures { result.now ≡ common_name options.now }
+{
+    match &options.common {
+        Some(name) => name.as_slice(),
+        None => match &options.sup {
             Some(name) => name.as_slice(),
             None => b"",
         },

@@ -1,8 +1,8 @@
 //! How a run ends, and what it says.
 
-ghost use Rattle.std.specs.Prelude.{◌≡◌};
+ghost use Rattle.std.specs.Prelude.{◌≡◌, ◌⊎◌};
 ghost use Rattle.dwz_run_course.specs.Ended.{status_of, text_of, unsaid};
-ghost use Rattle.dwz_run_course.specs.Ends.{Says, before_text};
+ghost use Rattle.dwz_run_course.specs.Ends.{Says};
 
 use crate::status::Status;
 use dwz_model::Blob;
@@ -13,6 +13,7 @@ use dwz_report::{memory_text, usage_text};
 #[derive(Debug, Drop)]
 pub(crate) enum Ended {
     AllPut(Blob),
+    Differed(Blob),
     WasRefused(Blob),
     NotLawful,
     NotGot(Blob),
@@ -25,8 +26,11 @@ fn text_of<'a>(ended: &'a Ended) -> &'a [u8]
     ensures { result.now ≡ text_of ended.now }
 {
     match ended {
-        Ended::AllPut(text) | Ended::WasRefused(text) | Ended::NotGot(text) | Ended::NotPut(text) =>
-            text.as_slice(),
+        Ended::AllPut(text)
+        | Ended::Differed(text)
+        | Ended::WasRefused(text)
+        | Ended::NotGot(text)
+        | Ended::NotPut(text) => text.as_slice(),
         Ended::NotLawful => usage_text(),
         Ended::OutOfMemory => memory_text(),
     }
@@ -37,6 +41,7 @@ fn status_of(ended: &Ended) -> Status
 {
     match ended {
         Ended::AllPut(_) => Status::Done,
+        Ended::Differed(_) => Status::Differs,
         Ended::WasRefused(_) => Status::Refused,
         Ended::NotLawful => Status::Usage,
         Ended::NotGot(_) => Status::ReadFault,
@@ -50,7 +55,7 @@ fn unsaid_status(status: Status) -> Status
     ensures { result ≡ unsaid status }
 {
     match status {
-        Status::Done => Status::ConsoleFault,
+        Status::Done | Status::Differs => Status::ConsoleFault,
         other => other,
     }
 }
@@ -58,7 +63,7 @@ fn unsaid_status(status: Status) -> Status
 /// One put on the console, unless there is nothing to say.
 pub(crate) fn say<C: Console>(console: &mut C, ended: &Ended) -> Status
     ensures says { Says (C.shown console.old) (C.shown console.new) result (text_of ended.now) }
-    ensures status { before_text result ≡ status_of ended.now }
+    ensures status { (result ≡ status_of ended.now) ⊎ (result ≡ unsaid (status_of ended.now)) }
 {
     let status = status_of(ended);
     let text = text_of(ended);

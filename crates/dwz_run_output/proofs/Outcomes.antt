@@ -1,5 +1,5 @@
 -- What comes of files that were read, from what was found: the first refusal, or what is put.
-use Rattle.std.proofs.Common.{◌≡◌, ℕ, ◌^◌, ◌<◌, Bool, List, Option, Ok, Err, length, sym, ap, subst, ◌∙◌, inl, inr}
+use Rattle.std.proofs.Common.{◌≡◌, ℕ, ◌^◌, ◌<◌, Bool, false, List, Option, Ok, Err, length, sym, ap, subst, ◌∙◌, inl, inr}
 use Rattle.std.specs.List.{range_with_len}
 use Rattle.dwz_model.specs.declared.fault.Fault.{Fault}
 use Rattle.dwz_model.specs.declared.fault.GraphErr.{GraphErr}
@@ -94,15 +94,16 @@ module _ (o : Options) (contents : List (List ℕ)) (docs : List (Doc ℕ)) (pru
         ap (λ (c : Option (List ℕ × ℕ)). by c s.files) common
         ∙ ap (λ (f : List (List ℕ × ℕ × Option ℕ)). by (common_length_after o.common r) f) files
 
-    pub all_written : (out : Output) (summary : Summary) (partials : ℕ) → out.said ≡ Slimmed summary partials → out.puts ≡ all_puts o r
+    pub all_written : (out : Output) (summary : Summary) (partials : ℕ) → out.said ≡ Slimmed summary partials → out.differs ≡ false → out.puts ≡ all_puts o r
         → summary.common ≡ common_length_after o.common r → summary.files ≡ summary_lines o r 0 o.files → partials ≡ length r.move.parts
         → Each AreBytes contents → length contents < 2 ^ 32 → IsAnswer (Slims o contents) (Ok out)
-    all_written out summary partials said puts common files parts bytes few =
-        let by : List Put → Said → Output = λ p s. record { puts = p; said = s } in
+    all_written out summary partials said same puts common files parts bytes few =
+        let by : List Put → Said → Bool → Output = λ p s d. record { puts = p; said = s; differs = d } in
         let all = summary_is summary common files in
         let is_said : out.said ≡ Slimmed (summary_of o r) (length r.move.parts) =
         said ∙ (ap (λ (s : Summary). Slimmed s partials) all ∙ ap (λ (n : ℕ). Slimmed (summary_of o r) n) parts) in
-        let is : out ≡ output_of o r = ap (λ (p : List Put). by p out.said) puts ∙ ap (by (all_puts o r)) is_said in (
+        let is : out ≡ output_of o r = ap (λ (p : List Put). by p out.said out.differs) puts
+        ∙ (ap (λ (s : Said). by (all_puts o r) s out.differs) is_said ∙ ap (by (all_puts o r) (Slimmed (summary_of o r) (length r.move.parts))) same) in (
           (docs, prunes, is_written, is),
           subst CanBeSaid (sym is_said) (lengths_fit o contents docs prunes bytes is_written few),
         )

@@ -64,5 +64,6 @@ pub fn outcome(
     Ok(Output {
         puts: Puts::new(puts),
         said: Said::Slimmed { summary, partials },
+        differs: false,
     })
 }

@@ -2,7 +2,7 @@
 
 use crate::expect::holds;
 use dwz_model::{DEBUG_LOCLISTS, DEBUG_SUP, Reason, Refusal};
-use dwz_report::{memory_text, read_text, refusal_text, write_text};
+use dwz_report::{memory_text, read_text, refusal_text, usage_text, write_text};
 
 const FAR: Refusal = Refusal {
     file: 3,
@@ -32,6 +32,9 @@ fn texts_read_as_documented(rt: HostRuntime) {
     let text = write_text(rt.alloc(), b"").expect(&rt, "memory");
     let told = b"dwz: cannot write \n";
     holds(&rt, "an empty name", text.as_slice() == told.as_slice());
+    let told =
+        b"usage: dwz [-q] [--dwarf-5] [-m COMMON [-M NAME]] [-o OUT] [-j N] FILE... | --demo N | --explain FILE OFFSET FILE OFFSET | --check OLD NEW [--sup COMMON]\n";
+    holds(&rt, "the usage", usage_text() == told.as_slice());
     let told = b"dwz: out of memory\n";
     holds(&rt, "no memory", memory_text() == told.as_slice());
 }

@@ -135,6 +135,50 @@ a 0X1 b 1 => -j 4 -- a 0X1 b 1
 --explain a! 0x1 b 0x2 => usage
 --explain --explain a 0x1 b 0x2 => usage
 --explain=x a 0x1 b 0x2 => usage
+# two files that are compared
+--check a b => -j 4 --check -- a b
+a --check b => -j 4 --check -- a b
+a b -q -j 3 --check => -q -j 3 --check -- a b
+--check a b --sup c => --sup c -j 4 --check -- a b
+--sup=c --dwarf-5 a --check b => --sup c -j 4 --check -- a b
+--sup - --check a b => --sup - -j 4 --check -- a b
+--check --sup=-c a b => --sup -c -j 4 --check -- a b
+--check -- --sup -q => -j 4 --check -- --sup -q
+--check 0x1 0x2 => -j 4 --check -- 0x1 0x2
+check sup => -j 4 -- check sup
+--check => usage
+--check a => usage
+--check a b c => usage
+--check a 0x1 b 0x2 => usage
+--check a a => usage
+--check a b --sup a => usage
+--check a b --sup b => usage
+--check a b --sup => usage
+--check a b --sup -c => usage
+--check a b --sup -- c => usage
+--check a b --sup= => usage
+--check a b --sup c! => usage
+--check a! b => usage
+--check a b --sup c --sup c => usage
+--check --check a b => usage
+--check=a b => usage
+--check -o x a b => usage
+--check -m c a b => usage
+--check -M n a b => usage
+--check -M n a b --sup c => usage
+--check --demo 2 => usage
+--check --demo 2 a b => usage
+--check --explain a 0x1 b 0x2 => usage
+--check --explain a b => usage
+--sup c => usage
+--sup c a => usage
+--sup c a b => usage
+--sup c -m d a b => usage
+--sup c --demo 2 => usage
+--sup c --explain a 0x1 b 0x2 => usage
+--sup c -o x a => usage
+--chec a b => usage
+-check a b => usage
 # empty words
  a => usage
 -o  a => usage
@@ -153,6 +197,8 @@ const ASKED: &str = r"--explain a 0x0 b 0x1f => a b: 0+0 1+31
 --explain b 0x89abcdef a 0x1234567 => b a: 0+2309737967 1+19088743
 b a 0x1 c d => b a 0x1 c d: 0+0 0+0
 -m c a b => a b: 0+0 0+0
+--check b a => b a: 0+0 0+0
+--check b a --sup c => c b a: 0+0 0+0
 --demo 2 => : 0+0 0+0";
 
 /// The words between the blanks.
@@ -201,12 +247,16 @@ fn plain(rt: &impl Abort, alloc: Global, options: &Options) -> String {
     put_option(rt, &mut text, "-m ", &options.common);
     put_option(rt, &mut text, "-M ", &options.name);
     put_option(rt, &mut text, "-o ", &options.out);
+    put_option(rt, &mut text, "--sup ", &options.sup);
     write!(text, "-j {}", options.workers).expect(rt, "memory");
     if let Some(number) = options.demo {
         write!(text, " --demo {number}").expect(rt, "memory");
     }
     if options.explain {
         put(rt, &mut text, " --explain");
+    }
+    if options.check {
+        put(rt, &mut text, " --check");
     }
     put(rt, &mut text, " --");
     for file in options.files.as_slice() {

@@ -22,42 +22,55 @@ given : {X : Type 0} (o : Option X) (x : X) → o ≡ Some x → weight (is_some
 given o x e = ap (λ o. weight (is_some o)) e
 
 module _ (o : Options) (fit : FitTogether o) where
-  count_is : task_count o ≡ weight (is_some o.common) + weight o.explain + weight (is_some o.demo)
+  count_is : task_count o ≡ weight (is_some o.common) + weight o.explain + weight o.check + weight (is_some o.demo)
   count_is = omega arith
 
   at_most_one : task_count o ≤ 1
   at_most_one = leb-true (task_count o) 1 fit.one_task
 
-  -- with COMMON nothing is explained or demonstrated
-  pub with_common : (common : Word) → o.common ≡ Some common → (o.explain ≡ false) × (o.demo ≡ None)
+  -- with COMMON nothing is explained, demonstrated or compared
+  pub with_common : (common : Word) → o.common ≡ Some common → (o.explain ≡ false) × (o.demo ≡ None) × (o.check ≡ false)
   with_common common e =
       let one = given o.common common e in (
         adds_none o.explain (omega (arith, count_is, at_most_one)),
         not_given o.demo (omega (arith, count_is, at_most_one)),
+        adds_none o.check (omega (arith, count_is, at_most_one)),
       )
 
-  -- with `--explain` there is no COMMON and no demonstration
-  pub with_explain : o.explain ≡ true → (o.common ≡ None) × (o.demo ≡ None)
+  -- with `--explain` there is no COMMON and no demonstration, and nothing is compared
+  pub with_explain : o.explain ≡ true → (o.common ≡ None) × (o.demo ≡ None) × (o.check ≡ false)
   with_explain e =
       let one : weight o.explain ≡ 1 = ap weight e in (
         not_given o.common (omega (arith, count_is, at_most_one)),
         not_given o.demo (omega (arith, count_is, at_most_one)),
+        adds_none o.check (omega (arith, count_is, at_most_one)),
       )
 
-  -- with `--demo` there is no FILE and no COMMON, and nothing is explained
-  pub with_demo : (n : ℕ) → o.demo ≡ Some n → (length o.files ≡ 0) × (o.common ≡ None) × (o.explain ≡ false)
+  -- with `--check` no common file is made, and there is no demonstration, and nothing is explained
+  pub with_check : o.check ≡ true → (o.common ≡ None) × (o.demo ≡ None) × (o.explain ≡ false)
+  with_check e =
+      let one : weight o.check ≡ 1 = ap weight e in (
+        not_given o.common (omega (arith, count_is, at_most_one)),
+        not_given o.demo (omega (arith, count_is, at_most_one)),
+        adds_none o.explain (omega (arith, count_is, at_most_one)),
+      )
+
+  -- with `--demo` there is no FILE and no COMMON, and nothing is explained or compared
+  pub with_demo : (n : ℕ) → o.demo ≡ Some n → (length o.files ≡ 0) × (o.common ≡ None) × (o.explain ≡ false) × (o.check ≡ false)
   with_demo n e =
       let one = given o.demo n e in
       let none = subst (λ (d : Option ℕ). (if is_some d then length o.files == 0
-      else (if o.explain then length o.files == 4 else (nat_lt 0 (length o.files) && nat_le (length o.files) 256))) ≡ true) e fit.file_count in (
+      else (if o.explain then length o.files == 4
+      else (if o.check then length o.files == 2 else (nat_lt 0 (length o.files) && nat_le (length o.files) 256)))) ≡ true) e fit.file_count in (
         eqb-true (length o.files) 0 none,
         not_given o.common (omega (arith, count_is, at_most_one)),
         adds_none o.explain (omega (arith, count_is, at_most_one)),
+        adds_none o.check (omega (arith, count_is, at_most_one)),
       )
 
   -- with OUT there is one FILE and no task
   pub with_out : (out : Word) → o.out ≡ Some out
-      → (length o.files ≡ 1) × (o.common ≡ None) × (o.explain ≡ false) × (o.demo ≡ None)
+      → (length o.files ≡ 1) × (o.common ≡ None) × (o.explain ≡ false) × (o.demo ≡ None) × (o.check ≡ false)
   with_out out e =
       let alone = subst (λ (w : Option Word). (is_none w || (length o.files == 1 && task_count o == 0)) ≡ true) e fit.out_only_for_one in
       let parts = both (length o.files == 1) (task_count o == 0) alone in
@@ -66,8 +79,16 @@ module _ (o : Options) (fit : FitTogether o) where
         not_given o.common (omega (arith, count_is)),
         adds_none o.explain (omega (arith, count_is)),
         not_given o.demo (omega (arith, count_is)),
+        adds_none o.check (omega (arith, count_is)),
       )
 
   -- where nothing is explained, FILEs differ
   pub files_differ : o.explain ≡ false → are_distinct o.files ≡ true
   files_differ e = subst (λ (b : Bool). (b || are_distinct o.files) ≡ true) e fit.distinct_files
+
+  -- where nothing is compared, no common file is read
+  pub no_sup : o.check ≡ false → o.sup ≡ None
+  no_sup e = go o.sup (subst (λ (b : Bool). (is_none o.sup || b) ≡ true) e fit.sup_only_with_check) where
+    go : (sup : Option Word) → (is_none sup || false) ≡ true → sup ≡ None
+    go None lawful = refl
+    go (Some common) lawful = cc

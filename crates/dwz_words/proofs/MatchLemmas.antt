@@ -1,5 +1,5 @@
 -- What the getters of the matches give, and words as texts.
-use Rattle.std.proofs.Common.{◌≡◌, ◌∙◌, ◌<◌, ◌+◌, ◌∷◌, [], ◌++◌, refl, sym, ap, subst, ℕ, Bool, true, false, List, Option, Some, None, codes, arith, unwrap_or, get_or, length, map, take, All}
+use Rattle.std.proofs.Common.{◌≡◌, ◌∙◌, ◌<◌, ◌+◌, ◌∷◌, [], ◌++◌, refl, sym, ap, subst, inl, inr, ℕ, Bool, true, false, List, Option, Some, None, codes, arith, unwrap_or, get_or, length, map, take, All}
 use Rattle.std.specs.Prelude.{IsErrOf, IsOkUnless, Ok, Err, Result, option_and_then, option_map, if◌then◌else◌}
 use Rattle.std.specs.Borrow.{Bor}
 use Rattle.std.specs.Option.{option_map_or}
@@ -8,9 +8,13 @@ use Rattle.std.specs.Str.Parse.{ParsesBool, ParsesUnsigned, digits_value, withou
 use Rattle.std.proofs.lemmas.List.{get_or-map, length-map, take_more}
 use Rattle.std.proofs.lemmas.List.Elements.{All-get_or}
 use Rattle.std.proofs.lemmas.Slice.Eq.{bytes_eq-Decides}
+use Rattle.clap.specs.Kinds.{HasKind, IsAmong, Kinds}
+use Rattle.clap.specs.Values.{kind_of}
 use Rattle.clap.specs.Words.{ReadsOne, Text}
 use Rattle.clap.specs.ValueTests.{is_unsigned_in}
 use Rattle.clap.specs.declared.builder.value_parser.ValueParser.TheVariants as vp
+use Rattle.clap.specs.declared.error.Error.{Error}
+use Rattle.clap.specs.declared.error.kind.ErrorKind.TheVariants.{OutOfMemory}
 use Rattle.clap.proofs.ValueTestLemmas.{Accepts-accepts, accepts-Accepts}
 use Rattle.dwz_words.specs.Lawful.{number_of_text}
 use Rattle.dwz_words.specs.declared.options.Options.{Options}
@@ -73,6 +77,11 @@ pub All-map_at : {X Y : Type 0} (f : X → Y) (P : Y → Type 0) (xs : List X) (
 All-map_at f P xs i x below is all =
     let below' : i < length (map f xs) = rw length-map below in
     subst P (get_or-map f xs i x (f x) below ∙ ap f (sym is)) (All-get_or P (map f xs) i (f x) below' all)
+
+-- where no kind may come memory ran out
+pub no_kind : (kinds : Kinds) (e : Error) → HasKind kinds e → (kind_of e ≡ OutOfMemory → ⊥) → kinds ≡ [] → ⊥
+no_kind kinds e (inl memory) other none = other memory
+no_kind kinds e (inr among) other none = subst (IsAmong (kind_of e)) none among
 
 -- an answer that isn't Usage
 pub unless_no_memory : (r : Result Options WordsErr) → (IsErrOf r Usage → ⊥) → IsOkUnless r NoMemory

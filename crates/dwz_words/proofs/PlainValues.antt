@@ -18,7 +18,7 @@ use Rattle.clap.proofs.ValueTestLemmas.{Accepts-accepts}
 use Rattle.clap.proofs.WalkLemmas.{both}
 use Rattle.dwz_words.specs.Command.{dwz_command}
 use Rattle.dwz_words.specs.Lawful.{is_set, number_of_text, option_number, options_of}
-use Rattle.dwz_words.specs.Plain.{ArePlain, Argument, are_once, common, demo, dwarf, explain, file, is_file, is_option, is_plain, is_plain_number, name, options_said, out, quiet, value_at, value_of, workers}
+use Rattle.dwz_words.specs.Plain.{ArePlain, Argument, are_once, check, common, demo, dwarf, explain, file, is_file, is_option, is_plain, is_plain_number, name, options_said, out, quiet, sup, value_at, value_of, workers}
 use Rattle.dwz_words.proofs.PlainLemmas.{plain_matches}
 use Rattle.dwz_words.proofs.PlainRows.{files_at-all_after, row_at-all_after, row_of, values_in}
 use Rattle.dwz_words.proofs.PlainWalk.{all_after, rule_for, rules}
@@ -67,6 +67,10 @@ explain_text : (p : Argument) → is_option (codes "explain") p ≡ true → row
 explain_text explain e = refl
 explain_text _ e = cc
 
+check_text : (p : Argument) → is_option (codes "check") p ≡ true → row_text (row_of p) ≡ Some (codes "true")
+check_text check e = refl
+check_text _ e = cc
+
 flag_value : (id : Text) → ((p : Argument) → is_option id p ≡ true → row_text (row_of p) ≡ Some (codes "true")) → (ps : List Argument)
     → is_true_in (Some (flag_row id ps)) ≡ is_some (value_at id ps)
 flag_value id text [] = refl
@@ -94,6 +98,8 @@ workers_value (workers text ∷ ps) plain =
     ap (λ (n : Option ℕ). unwrap_or n 4) (number_of-plain 1 64 text (both (is_plain (workers text)) _ plain).0 (omega arith))
 workers_value (demo text ∷ ps) plain = workers_value ps (both (is_plain (demo text)) _ plain).1
 workers_value (explain ∷ ps) plain = workers_value ps (both (is_plain explain) _ plain).1
+workers_value (check ∷ ps) plain = workers_value ps (both (is_plain check) _ plain).1
+workers_value (sup text ∷ ps) plain = workers_value ps (both (is_plain (sup text)) _ plain).1
 workers_value (file text ∷ ps) plain = workers_value ps (both (is_plain (file text)) _ plain).1
 
 demo_value : (ps : List Argument) → list_all is_plain ps ≡ true
@@ -108,6 +114,8 @@ demo_value (out text ∷ ps) plain = demo_value ps (both (is_plain (out text)) _
 demo_value (workers text ∷ ps) plain = demo_value ps (both (is_plain (workers text)) _ plain).1
 demo_value (demo text ∷ ps) plain = number_of-plain 2 10000 text (both (is_plain (demo text)) _ plain).0 (omega arith)
 demo_value (explain ∷ ps) plain = demo_value ps (both (is_plain explain) _ plain).1
+demo_value (check ∷ ps) plain = demo_value ps (both (is_plain check) _ plain).1
+demo_value (sup text ∷ ps) plain = demo_value ps (both (is_plain (sup text)) _ plain).1
 demo_value (file text ∷ ps) plain = demo_value ps (both (is_plain (file text)) _ plain).1
 
 first_value : (o : Option Argument) → option_and_then (λ r. slice_get r.values 0) (option_map row_of o) ≡ option_map value_of o
@@ -148,7 +156,16 @@ module _ (ps : List Argument) (plain : list_all is_plain ps ≡ true) (once : ar
       ∙ flag_value (codes "q") quiet_text ps
 
   explain_is : is_set (codes "explain") (end_rows ps) ≡ is_some (value_at (codes "explain") ps)
-  explain_is = ap is_true_in (flag_row_is (codes "explain") 8 refl refl) ∙ flag_value (codes "explain") explain_text ps
+  explain_is = ap is_true_in
+      (row_at-defaults (codes "explain") (drop 9 rules) (with_default (rows_before 8 ps) (rule_for explain)) refl
+      ∙ flag_row_is (codes "explain") 8 refl refl)
+      ∙ flag_value (codes "explain") explain_text ps
+
+  check_is : is_set (codes "check") (end_rows ps) ≡ is_some (value_at (codes "check") ps)
+  check_is = ap is_true_in
+      (row_at-defaults (codes "check") (drop 10 rules) (with_default (rows_before 9 ps) (rule_for check)) refl
+      ∙ flag_row_is (codes "check") 9 refl refl)
+      ∙ flag_value (codes "check") check_text ps
 
   workers_are : unwrap_or (option_number (codes "j") (end_rows ps)) 4 ≡ option_map_or (digits_value 10) (value_at (codes "j") ps) 4
   workers_are =
@@ -180,4 +197,6 @@ plain_said words few ps h =
       files_are ps h.plain h.once,
       demo_is ps h.plain h.once,
       explain_is ps h.plain h.once,
+      check_is ps h.plain h.once,
+      first_is ps h.plain h.once (codes "sup") refl refl,
     ) refl

@@ -21,8 +21,8 @@ use Rattle.clap.specs.declared.builder.value_parser.ValueParser.TheVariants as v
 use Rattle.clap.specs.declared.parser.matches.ValueSource.{ValueSource}
 use Rattle.clap.specs.declared.parser.matches.ValueSource.TheVariants.{CommandLine, DefaultValue}
 use Rattle.clap.proofs.OnLiterals.{clap_on_literals}
-use Rattle.dwz_words.specs.Command.{common_rule, demo_rule, dwarf_rule, dwz_command, explain_rule, file_rule, name_rule, out_rule, quiet_rule, workers_rule}
-use Rattle.dwz_words.specs.Plain.{Argument, begins_with_dash, common, demo, dwarf, explain, file, option_name, name, out, quiet, words_of, workers}
+use Rattle.dwz_words.specs.Command.{check_rule, common_rule, demo_rule, dwarf_rule, dwz_command, explain_rule, file_rule, name_rule, out_rule, quiet_rule, sup_rule, workers_rule}
+use Rattle.dwz_words.specs.Plain.{Argument, begins_with_dash, check, common, demo, dwarf, explain, file, option_name, name, out, quiet, sup, words_of, workers}
 
 -- ---- the command
 
@@ -46,6 +46,8 @@ rule_for (out text) = built_rule out_rule
 rule_for (workers text) = built_rule workers_rule
 rule_for (demo text) = built_rule demo_rule
 rule_for explain = built_rule explain_rule
+rule_for check = built_rule check_rule
+rule_for (sup text) = built_rule sup_rule
 rule_for (file text) = built_rule file_rule
 
 -- the values that the words give it
@@ -58,6 +60,8 @@ values_for (out text) = text ∷ []
 values_for (workers text) = text ∷ []
 values_for (demo text) = text ∷ []
 values_for explain = []
+values_for check = []
+values_for (sup text) = text ∷ []
 values_for (file text) = text ∷ []
 
 -- the rows after one argument, and after all
@@ -156,6 +160,10 @@ module _ (rows : List Row) (text : Text) (v : IsNoFlag text) where
   unfolding clap_on_literals
   demo_value = leads_by _ _ text (rw (v.no_dashes, v.no_long, v.no_short) refl) (rw (v.no_dashes, v.no_long, v.no_short) refl)
 
+  pub sup_value : Leads (awaiting rows (codes "sup")) (text ∷ []) (between rows (Some (codes "sup", text ∷ [])) idle)
+  unfolding clap_on_literals
+  sup_value = leads_by _ _ text (rw (v.no_dashes, v.no_long, v.no_short) refl) (rw (v.no_dashes, v.no_long, v.no_short) refl)
+
 -- a flag, and the word of an option
 module _ (rows : List Row) (pending : Pending) (settles : settle_fault rules false (held rows pending) ≡ []) where
   pub quiet_leads : (waiting : Waiting) → is_ready waiting ≡ true → has_row (codes "q") (full_rows rows pending) ≡ false
@@ -178,6 +186,13 @@ module _ (rows : List Row) (pending : Pending) (settles : settle_fault rules fal
   explain_leads idle e fresh = leads_by _ _ _ (rw (settles, fresh) refl) refl
   explain_leads positional e fresh = leads_by _ _ _ (rw (settles, fresh) refl) refl
   explain_leads (option id) e fresh = cc
+
+  pub check_leads : (waiting : Waiting) → is_ready waiting ≡ true → has_row (codes "check") (full_rows rows pending) ≡ false
+      → Leads (between rows pending waiting) (codes "--check" ∷ []) (between (row_after check (full_rows rows pending)) None idle)
+  unfolding clap_on_literals
+  check_leads idle e fresh = leads_by _ _ _ (rw (settles, fresh) refl) refl
+  check_leads positional e fresh = leads_by _ _ _ (rw (settles, fresh) refl) refl
+  check_leads (option id) e fresh = cc
 
   pub common_word : (waiting : Waiting) → is_ready waiting ≡ true
       → Leads (between rows pending waiting) (codes "-m" ∷ []) (awaiting (full_rows rows pending) (codes "m"))
@@ -213,6 +228,13 @@ module _ (rows : List Row) (pending : Pending) (settles : settle_fault rules fal
   demo_word idle e = leads_by _ _ _ (rw settles refl) refl
   demo_word positional e = leads_by _ _ _ (rw settles refl) refl
   demo_word (option id) e = cc
+
+  pub sup_word : (waiting : Waiting) → is_ready waiting ≡ true
+      → Leads (between rows pending waiting) (codes "--sup" ∷ []) (awaiting (full_rows rows pending) (codes "sup"))
+  unfolding clap_on_literals
+  sup_word idle e = leads_by _ _ _ (rw settles refl) refl
+  sup_word positional e = leads_by _ _ _ (rw settles refl) refl
+  sup_word (option id) e = cc
 
 -- ---- where the walk stands
 

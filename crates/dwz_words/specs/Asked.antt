@@ -1,5 +1,5 @@
 -- What words ask for beside the options: which files are got, and of which two places something is said.
-use Rattle.std.specs.Prelude.{ℕ, List, [], ◌∷◌, drop, if◌then◌else◌}
+use Rattle.std.specs.Prelude.{ℕ, List, [], ◌∷◌, Option, Some, None, drop, if◌then◌else◌}
 use Rattle.std.specs.Str.{bytes_eq}
 use Rattle.std.specs.Str.Parse.{digits_value}
 use Rattle.dwz_words.specs.Conditions.{Word, is_offset}
@@ -15,9 +15,18 @@ names_of_places (first ∷ first_offset ∷ second ∷ second_offset ∷ []) =
     if bytes_eq first second then first ∷ [] else first ∷ second ∷ []
 names_of_places words = words
 
--- the names of the files that are got, in order; a file's number is its place among them
+-- the names of the files by their numbers, from 0 on; a common file is none of them, and has the number behind theirs
+abbrev pub names_numbered : Options → List Word
+names_numbered o = if o.explain then names_of_places o.files else o.files
+
+-- these names, and before them that of a common file, if there is one
+abbrev pub behind : Option Word → List Word → List Word
+behind None names = names
+behind (Some common) names = common ∷ names
+
+-- the names of the files that are got, in order: the common file of `--sup` comes first
 abbrev pub names_got : Options → List Word
-names_got o = if o.explain then names_of_places o.files else o.files
+names_got o = behind o.sup (names_numbered o)
 
 -- of FILE OFFSET FILE OFFSET the two places, each as the number of its file and an offset there; of any other number of words twice the
 -- first byte of file 0

@@ -14,6 +14,10 @@ letter_rule id letter = record (new_rule id) { short = Some letter; action = Som
 abbrev pub long_flag_rule : Text → Rule
 long_flag_rule name = record (new_rule name) { long = Some name; action = Some SetTrue }
 
+-- an option with one value, by a name, as `--sup COMMON`
+abbrev pub long_rule : Text → Rule
+long_rule name = record (new_rule name) { long = Some name; action = Some Set }
+
 -- `-q`
 abbrev pub quiet_rule : Rule
 quiet_rule = record (new_rule (codes "q")) { short = Some 113; action = Some SetTrue }
@@ -59,10 +63,18 @@ file_rule = record (new_rule (codes "FILE")) {
 abbrev pub explain_rule : Rule
 explain_rule = long_flag_rule (codes "explain")
 
+-- `--check`
+abbrev pub check_rule : Rule
+check_rule = long_flag_rule (codes "check")
+
+-- `--sup COMMON`
+abbrev pub sup_rule : Rule
+sup_rule = long_rule (codes "sup")
+
 -- all rules, FILE the only one without a letter or a name
 abbrev pub command_rules : List Rule
 command_rules = quiet_rule ∷ dwarf_rule ∷ common_rule ∷ name_rule ∷ out_rule ∷ workers_rule ∷ demo_rule
-    ∷ file_rule ∷ explain_rule ∷ []
+    ∷ file_rule ∷ explain_rule ∷ check_rule ∷ sup_rule ∷ []
 
 -- the command: no name of the program before the words, and no words for help and version
 abbrev pub dwz_command : App

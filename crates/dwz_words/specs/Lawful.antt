@@ -41,6 +41,8 @@ options_of rows = record {
   files = unwrap_or (all_of (codes "FILE") rows) [];
   demo = option_number (codes "demo") rows;
   explain = is_set (codes "explain") rows;
+  check = is_set (codes "check") rows;
+  sup = first_of (codes "sup") rows;
 }
 
 -- ---- lawful words

@@ -20,6 +20,8 @@ pub data Argument : Type 0 where
   workers : Word → Argument
   demo : Word → Argument
   explain : Argument
+  check : Argument
+  sup : Word → Argument
   file : Word → Argument
 
 -- the words of an argument
@@ -32,6 +34,8 @@ words_of (out word) = codes "-o" ∷ word ∷ []
 words_of (workers word) = codes "-j" ∷ word ∷ []
 words_of (demo word) = codes "--demo" ∷ word ∷ []
 words_of explain = codes "--explain" ∷ []
+words_of check = codes "--check" ∷ []
+words_of (sup word) = codes "--sup" ∷ word ∷ []
 words_of (file word) = word ∷ []
 
 -- the word begins with `-`
@@ -55,6 +59,8 @@ is_plain (out word) = not (begins_with_dash word)
 is_plain (workers word) = is_plain_number 1 64 word
 is_plain (demo word) = is_plain_number 2 10000 word
 is_plain explain = true
+is_plain check = true
+is_plain (sup word) = not (begins_with_dash word)
 is_plain (file word) = not (begins_with_dash word)
 
 -- the name of the option, of which there may be one; a FILE has none
@@ -67,6 +73,8 @@ option_name (out word) = Some (codes "o")
 option_name (workers word) = Some (codes "j")
 option_name (demo word) = Some (codes "demo")
 option_name explain = Some (codes "explain")
+option_name check = Some (codes "check")
+option_name (sup word) = Some (codes "sup")
 option_name (file word) = None
 
 -- the argument is the option of this name
@@ -100,6 +108,8 @@ value_of (out word) = word
 value_of (workers word) = word
 value_of (demo word) = word
 value_of explain = codes "true"
+value_of check = codes "true"
+value_of (sup word) = word
 value_of (file word) = word
 
 -- the value of the option of this name, if it is there
@@ -121,4 +131,6 @@ options_said arguments = record {
   files = map value_of (filter is_file arguments);
   demo = option_map (digits_value 10) (value_at (codes "demo") arguments);
   explain = is_some (value_at (codes "explain") arguments);
+  check = is_some (value_at (codes "check") arguments);
+  sup = value_at (codes "sup") arguments;
 }

@@ -1,7 +1,7 @@
 //! What options ask for: which files are got, and of which two places something is said.
 
 ghost use Rattle.std.specs.Prelude.{◌≡◌, IfOk, map};
-ghost use Rattle.dwz_words.specs.Asked.{names_got, offset_value, places_asked};
+ghost use Rattle.dwz_words.specs.Asked.{names_got, names_numbered, offset_value, places_asked};
 
 use crate::conditions::is_offset;
 use crate::options::Options;
@@ -20,10 +20,10 @@ fn all_names<'a>(alloc: Global, files: &'a [Blob]) -> Result<Vec<&'a [u8]>, NoMe
     Ok(names)
 }
 
-/// The names of the files that are got, in order: the FILEs; with `--explain`, where they are FILE OFFSET FILE OFFSET, the first and the
-/// third, or just one where these are equal. A file's number is its place among them, from 0.
-pub fn names_got<'a>(alloc: Global, options: &'a Options) -> Result<Vec<&'a [u8]>, NoMemory>
-    ensures { IfOk result (λ v. map (λ n. n.now) v.items ≡ names_got options.now) }
+/// The names of the files that have numbers, from 0 on: the FILEs; with `--explain`, where they are FILE OFFSET FILE OFFSET, the first and
+/// the third, or just one where these are equal. A common file is none of them: its number is that behind theirs.
+pub fn names_numbered<'a>(alloc: Global, options: &'a Options) -> Result<Vec<&'a [u8]>, NoMemory>
+    ensures { IfOk result (λ v. map (λ n. n.now) v.items ≡ names_numbered options.now) }
 {
     match options.files.as_slice() {
         [first, _, second, _] if options.explain => {
@@ -35,6 +35,22 @@ pub fn names_got<'a>(alloc: Global, options: &'a Options) -> Result<Vec<&'a [u8]
             Ok(names)
         }
         files => all_names(alloc, files),
+    }
+}
+
+/// The names of the files that are got, in order: with `--sup` first the common file, and then those that have numbers.
+pub fn names_got<'a>(alloc: Global, options: &'a Options) -> Result<Vec<&'a [u8]>, NoMemory>
+    ensures { IfOk result (λ v. map (λ n. n.now) v.items ≡ names_got options.now) }
+{
+    let files = names_numbered(alloc, options)?;
+    match &options.sup {
+        None => Ok(files),
+        Some(common) => {
+            let mut names = Vec::new(alloc);
+            names.push(common.as_slice())?;
+            names.extend_from_slice(&files)?;
+            Ok(names)
+        }
     }
 }
 
@@ -50,7 +66,7 @@ fn offset_value(word: &[u8]) -> u32
 }
 
 /// The two places of which `--explain` asks, of FILE OFFSET FILE OFFSET: in file 0 at the first OFFSET, and at the second in file 0 where
-/// the FILEs are equal, and else in file 1, as `names_got` numbers them. A word that is no OFFSET counts as 0. Where there aren't four
+/// the FILEs are equal, and else in file 1, as `names_numbered` has them. A word that is no OFFSET counts as 0. Where there aren't four
 /// words, both places are the first byte of file 0.
 pub fn places_asked(options: &Options) -> (Place, Place)
     ensures { ((result.0.file, result.0.offset), (result.1.file, result.1.offset)) ≡ places_asked options.now }

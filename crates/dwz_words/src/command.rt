@@ -3,7 +3,7 @@
 ghost use Rattle.std.specs.Prelude.{◌≡◌, IfOk, false};
 ghost use Rattle.clap.specs.Words.{app_of, rule_of};
 ghost use Rattle.dwz_words.specs.Command.{demo_rule, dwz_command, file_rule};
-ghost use Rattle.dwz_words.specs.Command.{letter_rule, long_flag_rule, quiet_rule, workers_rule};
+ghost use Rattle.dwz_words.specs.Command.{letter_rule, long_flag_rule, long_rule, quiet_rule, workers_rule};
 
 use clap::{Arg, ArgAction, Command};
 use dwz_model::NoMemory;
@@ -32,6 +32,14 @@ fn letter_option<'a>(alloc: Global, id: &'a str, letter: char) -> Arg<'a>
     Arg::new(alloc, id).short(letter).action(ArgAction::Set)
 }
 
+/// An option with one value, by a name.
+fn long_option<'a>(alloc: Global, name: &'a str) -> Arg<'a>
+    ensures rule { rule_of result ≡ long_rule name.entry.now }
+    ensures local { result.global ≡ false }
+{
+    Arg::new(alloc, name).long(name).action(ArgAction::Set)
+}
+
 fn workers_option<'a>(alloc: Global) -> Arg<'a>
     ensures rule { rule_of result ≡ workers_rule }
     ensures local { result.global ≡ false }
@@ -58,7 +66,8 @@ fn file_words<'a>(alloc: Global) -> Arg<'a>
     Arg::new(alloc, "FILE").num_args(0..)
 }
 
-/// `[-q] [--dwarf-5] [-m COMMON [-M NAME]] [-o OUT] [-j N] FILE...`, `--demo N`, and `--explain FILE OFFSET FILE OFFSET`.
+/// `[-q] [--dwarf-5] [-m COMMON [-M NAME]] [-o OUT] [-j N] FILE...`, `--demo N`, `--explain FILE OFFSET FILE OFFSET`, and
+/// `--check OLD NEW [--sup COMMON]`.
 pub(crate) fn make_command<'a>(alloc: Global) -> Result<Command<'a>, NoMemory>
     ensures { IfOk result (λ command. app_of command ≡ dwz_command) }
 {
@@ -75,5 +84,8 @@ pub(crate) fn make_command<'a>(alloc: Global) -> Result<Command<'a>, NoMemory>
         .arg(letter_option(alloc, "o", 'o'))?;
     let numbered = named.arg(workers_option(alloc))?.arg(demo_option(alloc))?;
     let filed = numbered.arg(file_words(alloc))?;
-    filed.arg(long_flag(alloc, "explain"))
+    let asked = filed
+        .arg(long_flag(alloc, "explain"))?
+        .arg(long_flag(alloc, "check"))?;
+    asked.arg(long_option(alloc, "sup"))
 }

@@ -9,7 +9,8 @@ ghost use Rattle.std.specs.Option.{option_map_or};
 ghost use Rattle.dwz_words.specs.Conditions.{FitTogether, are_distinct, are_places, has_common_apart};
 ghost use Rattle.dwz_words.specs.Conditions.{has_distinct_files, has_file_count, has_file_names};
 ghost use Rattle.dwz_words.specs.Conditions.{has_name_only_with_common, has_offsets, has_one_task};
-ghost use Rattle.dwz_words.specs.Conditions.{has_out_only_for_one, is_among, is_file_name, is_offset};
+ghost use Rattle.dwz_words.specs.Conditions.{has_out_only_for_one, has_sup_apart, has_sup_only_with_check};
+ghost use Rattle.dwz_words.specs.Conditions.{is_among, is_apart, is_file_name, is_offset};
 ghost use Rattle.dwz_words.specs.Conditions.{is_offset_digit, task_count};
 
 use crate::options::Options;
@@ -27,6 +28,7 @@ fn task_count(options: &Options) -> usize
     let tasks = [
         options.common.is_some(),
         options.explain,
+        options.check,
         options.demo.is_some(),
     ];
     tasks.iter().filter(|is| **is).count()
@@ -46,6 +48,8 @@ fn has_file_count(options: &Options) -> bool
         count == 0
     } else if options.explain {
         count == 4
+    } else if options.check {
+        count == 2
     } else {
         count > 0 && count <= MOST_FILES
     }
@@ -61,6 +65,12 @@ fn has_out_only_for_one(options: &Options) -> bool
     ensures { result ≡ has_out_only_for_one options.now }
 {
     options.out.is_none() || options.files.len() == 1 && task_count(options) == 0
+}
+
+fn has_sup_only_with_check(options: &Options) -> bool
+    ensures { result ≡ has_sup_only_with_check options.now }
+{
+    options.sup.is_none() || options.check
 }
 
 fn is_among(words: &[Blob], word: &[u8]) -> bool
@@ -85,13 +95,25 @@ fn has_distinct_files(options: &Options) -> bool
     options.explain || are_distinct(options.files.as_slice())
 }
 
+fn is_apart(files: &[Blob], common: &Option<Blob>) -> bool
+    ensures { result ≡ is_apart files.now common.now }
+{
+    match common {
+        Some(common) => !is_among(files, common.as_slice()),
+        None => true,
+    }
+}
+
 fn has_common_apart(options: &Options) -> bool
     ensures { result ≡ has_common_apart options.now }
 {
-    match &options.common {
-        Some(common) => !is_among(options.files.as_slice(), common.as_slice()),
-        None => true,
-    }
+    is_apart(options.files.as_slice(), &options.common)
+}
+
+fn has_sup_apart(options: &Options) -> bool
+    ensures { result ≡ has_sup_apart options.now }
+{
+    is_apart(options.files.as_slice(), &options.sup)
 }
 
 fn is_file_name(word: &Blob) -> bool
@@ -122,6 +144,7 @@ fn has_file_names(options: &Options) -> bool
         && is_file_name_or_none(&options.common)
         && is_file_name_or_none(&options.name)
         && is_file_name_or_none(&options.out)
+        && is_file_name_or_none(&options.sup)
 }
 
 fn is_offset_digit(byte: u8) -> bool
@@ -171,8 +194,10 @@ pub(crate) fn fit_together(options: &Options) -> bool
         && has_file_count(options)
         && has_name_only_with_common(options)
         && has_out_only_for_one(options)
+        && has_sup_only_with_check(options)
         && has_distinct_files(options)
         && has_common_apart(options)
+        && has_sup_apart(options)
         && has_file_names(options)
         && has_offsets(options)
 }

@@ -2,7 +2,7 @@
 //!
 //! `clap` reads the words by the one command of `command`, `reading` takes the values of its matches, and `conditions` tests what they have
 //! to meet beside. Contracts speak of `specs/Lawful.antt`, and of plain words as `specs/Plain.antt` has them. `asked` says what options ask
-//! for: which files are got, and the two places of `--explain`, whose words `clap` reads as four FILEs beside a flag.
+//! for: which files are got and how they are numbered, and the two places of `--explain`, whose words `clap` reads as four FILEs beside a flag.
 //!
 //! A further option is a row, a field and a test, whether it has a value or is a flag, behind which FILEs may follow:
 //!
@@ -23,6 +23,6 @@ mod conditions;
 mod options;
 mod reading;
 
-pub use asked::{names_got, places_asked};
+pub use asked::{names_got, names_numbered, places_asked};
 pub use options::{Options, WordsErr};
 pub use reading::parse;

@@ -25,6 +25,10 @@ pub struct Options {
     pub demo: Option<u32>,
     /// `--explain`: say why two entries aren't shared. FILEs are then FILE OFFSET FILE OFFSET.
     pub explain: bool,
+    /// `--check`: say whether two files mean the same. FILEs are then OLD NEW.
+    pub check: bool,
+    /// `--sup COMMON`: the name of the finished common file beside which these two are read.
+    pub sup: Option<Blob>,
 }
 
 /// Why there are no options.

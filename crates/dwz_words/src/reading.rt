@@ -75,6 +75,8 @@ fn options_of(alloc: Global, matches: &ArgMatches<'_>) -> Result<Options, NoMemo
         files: names(alloc, matches.get_strs("FILE").unwrap_or(&[]))?,
         demo: matches.get_one::<u32>("demo"),
         explain: matches.get_one::<bool>("explain").unwrap_or(false),
+        check: matches.get_one::<bool>("check").unwrap_or(false),
+        sup: blob_if_some(alloc, matches.get_str("sup"))?,
     })
 }
 

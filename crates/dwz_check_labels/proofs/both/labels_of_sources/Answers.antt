@@ -1,5 +1,6 @@
-use Rattle.std.proofs.Common.{ℕ, List, length, subst, sym}
+use Rattle.std.proofs.Common.{ℕ, List, length, ap, subst, sym, ◌∙◌}
 use Rattle.dwz_groups.specs.declared.groups.Edge.{Edge}
+use Rattle.dwz_groups.proofs.MarkLemmas.{grouped_length}
 use Rattle.dwz_check_labels.specs.Rows.{AreKeysBelow}
 use Rattle.dwz_check_labels.proofs.BothLemmas.{all_said}
 use Rattle.dwz_check_labels.proofs.FileLemmas.{keys_all}
@@ -10,8 +11,12 @@ group-requires c =
     keys_all c.len.result c.as_slice.result.now (subst (λ (n : ℕ). AreKeysBelow n c.as_slice.result.now) (sym c.len.ensures)
     (subst (λ (w : List Edge). AreKeysBelow (length c.put_lones-2.new.labels) w) (sym c.as_slice.ensures.value) c.in_ok-put_lones-2.ensures.keys))
 
-pub returns : goal.returns
-returns c = λ x y z kx ky kz.
+pub returns-clause-many : goal.returns-clause-many
+returns-clause-many c =
+    ap (λ (w : List (List ℕ)). length w) c.in_ok-targets.ensures ∙ grouped_length c.len.result c.as_slice.result.now ∙ c.len.ensures
+
+pub returns-clause-labels : goal.returns-clause-labels
+returns-clause-labels c = λ x y z kx ky kz.
     all_said x y z c.new-labels.result c.put_tops.new.labels c.put_tops-2.new.labels c.put_common.new.labels c.put_lones.new.labels c.put_lones-2.new.labels c.new-edges.result.items
     c.put_tops.new.edges.items c.put_tops-2.new.edges.items c.put_common.new.edges.items c.put_lones.new.edges.items c.put_lones-2.new.edges.items c.new-labels.ensures c.new-edges.ensures.items
     (c.in_ok-put_tops.ensures.adds x.said x.name kx) (c.in_ok-put_tops-2.ensures.adds y.said y.name ky) (c.in_ok-put_common.ensures.adds z kz) (c.in_ok-put_lones.ensures.adds x.said x.name kx)

@@ -21,8 +21,8 @@ labels_of_sources-requires c =
     c.requires.said in
     record { old = r.old; new = r.new; common = tt; few = r.few }
 
-pub returns : goal.returns
-returns c =
+pub returns-clause-labels : goal.returns-clause-labels
+returns-clause-labels c =
     let p = source_is c.source_of-before.result c.named_file-first.result None c.args.old.now [] c.args.indexes.now.old None c.source_of-before.ensures.own c.source_of-before.ensures.common refl
     c.source_of-before.ensures.refs
     c.source_of-before.ensures.starts c.source_of-before.ensures.tables c.source_of-before.ensures.lines (named_of c.named_file-first.result c.args.old.now [] c.args.indexes.now.old
@@ -37,4 +37,4 @@ returns c =
     (λ (x : CrossLabels). AreLabelsFor c.args.old.now c.args.new.now None c.args.indexes.now x.labels x.targets) c.labels_of_sources.result
     (λ (x : CrossLabels) h. alone_labels c.args.old.now c.args.new.now c.args.indexes.now c.source_of-before.result c.source_of-after.result p q c.source_of-before.ensures.common
     c.source_of-after.ensures.common x.labels x.targets h)
-    (told_by c.source_of-before.result c.source_of-after.result None (λ (x : CrossLabels). x.labels) (λ (x : CrossLabels). x.targets) c.labels_of_sources.result c.labels_of_sources.ensures)
+    (told_by c.source_of-before.result c.source_of-after.result None (λ (x : CrossLabels). x.labels) (λ (x : CrossLabels). x.targets) c.labels_of_sources.result c.labels_of_sources.ensures.labels)

@@ -31,12 +31,12 @@ labels_of_files-requires c =
     c.args.indexes.now c.index-files-0.result c.index-files-1.result c.requires.two c.common.ensures c.back-files.ensures c.requires.indexes c.index-files-0.is c.index-files-1.is in
     r.s
 
-pub returns : goal.returns
-returns c =
+pub returns-clause-labels : goal.returns-clause-labels
+returns-clause-labels c =
     let r = all_read c.placed_laws.ensures.common c.placed_laws.ensures.back (length c.args.graph.now.given + length c.args.graph.now.back) c.args.graph.now (behind c.common.result)
     c.back-files.result.now
     c.args.indexes.now c.index-files-0.result c.index-files-1.result c.requires.two c.common.ensures c.back-files.ensures c.requires.indexes c.index-files-0.is c.index-files-1.is in
     if_ok (λ (x : CrossLabels). AreLabelsFor c.index-files-0.result c.index-files-1.result (behind c.common.result) c.args.indexes.now x.labels x.targets)
     (λ (x : CrossLabels). AreLabelsOf c.args.graph.now x.labels x.targets) c.labels_of_files.result
     (λ (x : CrossLabels) h. labels_from c.args.graph.now c.index-files-0.result c.index-files-1.result (behind c.common.result) c.args.indexes.now x.labels x.targets r h)
-    c.labels_of_files.ensures
+    c.labels_of_files.ensures.labels

@@ -16,19 +16,19 @@ labels_beside-requires c =
     subst (λ (y : CrossIndexes). AreFilesSaid c.args.old.now c.args.new.now (Some c.in-Some.file.now) y) (with_same c.args.indexes.now c.in-Some-common.index c.in-Some-common.is)
     (subst (λ (m : Option File). AreFilesSaid c.args.old.now c.args.new.now m c.args.indexes.now) (ap behind c.in-Some.is) c.requires)
 
-pub returns-in_ok-heres-in-None : goal.returns-in_ok-heres-in-None
-returns-in_ok-heres-in-None c =
+pub returns-in_ok-heres-in-None-clause-labels : goal.returns-in_ok-heres-in-None-clause-labels
+returns-in_ok-heres-in-None-clause-labels c =
     subst (λ (m : Option File). IfOk c.labels_alone.result (λ (x : CrossLabels). AreLabelsFor c.args.old.now c.args.new.now m c.args.indexes.now x.labels x.targets)) (sym (ap behind c.in-None.is))
-    c.labels_alone.ensures
+    c.labels_alone.ensures.labels
 
-pub returns-in-Some-common : goal.returns-in-Some-common
-returns-in-Some-common c =
+pub returns-in-Some-common-clause-labels : goal.returns-in-Some-common-clause-labels
+returns-in-Some-common-clause-labels c =
     subst (λ (m : Option File). IfOk c.labels_beside.result (λ (x : CrossLabels). AreLabelsFor c.args.old.now c.args.new.now m c.args.indexes.now x.labels x.targets)) (sym (ap behind c.in-Some.is))
     (subst (λ (y : CrossIndexes). IfOk c.labels_beside.result (λ (x : CrossLabels). AreLabelsFor c.args.old.now c.args.new.now (Some c.in-Some.file.now) y x.labels x.targets))
-    (sym (with_same c.args.indexes.now c.in-Some-common.index c.in-Some-common.is)) c.labels_beside.ensures)
+    (sym (with_same c.args.indexes.now c.in-Some-common.index c.in-Some-common.is)) c.labels_beside.ensures.labels)
 
-pub returns-in-None-common : goal.returns-in-None-common
-returns-in-None-common c =
+pub returns-in-None-common-clause-labels : goal.returns-in-None-common-clause-labels
+returns-in-None-common-clause-labels c =
     subst (λ (m : Option File). IfOk c.labels_beside_none.result (λ (x : CrossLabels). AreLabelsFor c.args.old.now c.args.new.now m c.args.indexes.now x.labels x.targets)) (sym (ap behind
     c.in-Some.is))
-    c.labels_beside_none.ensures
+    c.labels_beside_none.ensures.labels

@@ -28,8 +28,8 @@ labels_of_sources-requires c =
     c.source_of-before.ensures.common c.source_of-after.ensures.common c.source_of.ensures.common c.requires.said in
     record { old = r.old; new = r.new; common = r.common; few = r.few }
 
-pub returns : goal.returns
-returns c =
+pub returns-clause-labels : goal.returns-clause-labels
+returns-clause-labels c =
     let t = named_of c.named_file-third.result c.args.common.now [] c.args.index.now c.args.heres.now.common.items c.as_slice-3.result.now c.named_file-third.ensures.units
     c.named_file-third.ensures.sections c.named_file-third.ensures.strs
     c.named_file-third.ensures.index c.named_file-third.ensures.heres c.as_slice-3.ensures.value c.requires.heres in
@@ -51,4 +51,4 @@ returns c =
     c.named_file-third.result p q w t
     c.source_of-before.ensures.common c.source_of-after.ensures.common c.source_of.ensures.common x.labels x.targets h)
     (told_by c.source_of-before.result c.source_of-after.result (Some c.source_of.result) (λ (x : CrossLabels). x.labels) (λ (x : CrossLabels). x.targets) c.labels_of_sources.result
-    c.labels_of_sources.ensures)
+    c.labels_of_sources.ensures.labels)

@@ -1,9 +1,12 @@
-use Rattle.dwz_run.proofs.AllDone.{all_done, all_silent}
+use Rattle.dwz_run.proofs.AllDone.{all_apart, all_done, all_silent}
 use Rattle.dwz_run.proofs.SameWorkers.{same_out}
 use Rattle.dwz_run.proofs.laws.done_laws.Goals as goal
 
 pub returns-clause-done : goal.returns-clause-done
 returns-clause-done c words old new shown shown_new e store told = all_done words old new shown shown_new store told e
+
+pub returns-clause-apart : goal.returns-clause-apart
+returns-clause-apart c words old new shown shown_new e store told = all_apart words old new shown shown_new store told e
 
 pub returns-clause-silent : goal.returns-clause-silent
 returns-clause-silent c words old new shown shown_new e store told = all_silent words old new shown shown_new store told e

@@ -80,5 +80,5 @@ returns c docs prunes read are new =
     let all = all_bytes o contents docs prunes read bytes c.in_ok-files.files.items (subst (λ (k : ℕ). AreMadeSo (sup_name o) r k c.in_ok-files.files.items) (sym count) made) in
     let lines = c.in_ok-lines.ensures o r before (subst (AreBytesOf o r) (sym c.deref-2.ensures.value) all) in
     let names : List (List ℕ) → Type 0 = λ ns. c.in_ok-lines.lines.items ≡ summary_lines o r 0 ns in
-    all_written o contents docs prunes read first none files _ _ _ refl (c.new-2.ensures ∙ c.in_ok-puts.ensures r before common all) (c.in_ok-line.ensures o r common)
+    all_written o contents docs prunes read first none files _ _ _ refl refl (c.new-2.ensures ∙ c.in_ok-puts.ensures r before common all) (c.in_ok-line.ensures o r common)
     (c.new.ensures ∙ subst names c.as_slice.ensures lines) are.parts bytes (omega (arith, count, c.requires.few))

@@ -14,4 +14,6 @@ returns c =
     let workers = added _ _ _ _ _ c.in_ok-arg-4.ensures c.workers_option.ensures.local out c.workers_option.ensures.rule in
     let demo = added _ _ _ _ _ c.in_ok-numbered.ensures c.demo_option.ensures.local workers c.demo_option.ensures.rule in
     let file = added _ _ _ _ _ c.in_ok-filed.ensures c.file_words.ensures.local demo c.file_words.ensures.rule in
-    IfOk-weaker c.arg-9.result _ _ (λ r h. added _ r _ _ _ h c.long_flag-2.ensures.local file c.long_flag-2.ensures.rule) c.arg-9.ensures
+    let explain = added _ _ _ _ _ c.in_ok-arg-5.ensures c.long_flag-2.ensures.local file c.long_flag-2.ensures.rule in
+    let check = added _ _ _ _ _ c.in_ok-asked.ensures c.long_flag-3.ensures.local explain c.long_flag-3.ensures.rule in
+    IfOk-weaker c.arg-11.result _ _ (λ r h. added _ r _ _ _ h c.long_option.ensures.local check c.long_option.ensures.rule) c.arg-11.ensures

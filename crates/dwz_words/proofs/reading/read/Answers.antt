@@ -1,9 +1,14 @@
-use Rattle.std.proofs.Common.{◌≡◌, ◌∙◌, ◌≤◌, ap, map, subst, sym, []}
+use Rattle.std.proofs.Common.{rules, ◌≡◌, ◌∙◌, ◌≤◌, ap, map, subst, sym, []}
 use Rattle.std.specs.Prelude.{IfSome}
+use Rattle.clap.specs.Kinds.{HasKind}
+use Rattle.clap.specs.Values.{kind_of}
 use Rattle.clap.specs.Words.{App, fault_of, is_simple, is_simple_and_free, matches_of}
+use Rattle.clap.specs.declared.error.kind.ErrorKind.TheVariants.{OutOfMemory}
+use Rattle.dwz_words.specs.Command.{dwz_command}
 use Rattle.dwz_words.specs.Lawful.{options_of}
 use Rattle.dwz_words.specs.declared.options.Options.{Options}
 use Rattle.dwz_words.proofs.CommandLemmas.{command_is_free, command_is_simple}
+use Rattle.dwz_words.proofs.MatchLemmas.{no_kind}
 use Rattle.dwz_words.proofs.RangeLemmas.{demo_in_range, workers_in_range}
 use Rattle.dwz_words.proofs.reading.read.Goals as goal
 
@@ -27,3 +32,10 @@ pub returns-in-Ok-clause-demo : goal.returns-in-Ok-clause-demo
 returns-in-Ok-clause-demo c =
     subst (λ (o : Options). IfSome o.demo (λ n. (2 ≤ n) × (n ≤ 10000))) (sym c.in_ok-options_of-in-Ok.ensures)
     (demo_in_range c.in_ok-command.command c.in-Ok.matches c.in-Ok.ensures.parsed c.in_ok-command.ensures)
+
+pub returns-clause-usage : goal.returns-clause-usage
+returns-clause-usage c =
+    let made = c.in_ok-command.ensures in
+    let kinds = subst (λ (a : App). HasKind (fault_of a (map (λ t. t.now) c.args.texts.now)) c.in-Err.error) made (c.in-Err.ensures.kinds (ap is_simple_and_free made ∙ command_is_free)) in
+    let other : kind_of c.in-Err.error ≡ OutOfMemory → ⊥ = search (rules, c.kind.ensures, c.eq.ensures, c.if-eq.false) in
+    λ _ none. no_kind (fault_of dwz_command (map (λ t. t.now) c.args.texts.now)) c.in-Err.error kinds other none

@@ -109,6 +109,7 @@ fn put_entry_of(out: &mut Vec<u8>) -> Result<Named, NoMemory>
 
 /// Appends what a value says besides the entries that it names, and answers which these are; where they are those of operands, these are
 /// kept. `line` is the number of its unit's line table. The value ends at `end`.
+#[inline(always)]
 pub fn put_plain(
     alloc: Global,
     out: &mut Vec<u8>,

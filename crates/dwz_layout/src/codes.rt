@@ -95,7 +95,7 @@ impl Codes {
         ensures err { OnErr result (FindsSame self.old.by_key self.new.by_key) }
         ensures key { self.new.key ≡ self.old.key }
     {
-        let key = self.key.to_vec(*self.key.allocator())?;
+        let key = Vec::from_slice(*self.key.allocator(), self.key.as_slice())?;
         self.by_key.insert(key, code)?;
         Ok(())
     }

@@ -3,7 +3,7 @@
 //! A first pass measures, and a second one writes (`dwz_encode`). Neither keeps attributes of entries: both read them again. Places have 64
 //! bits; whether there are too many bytes is asked of the finished layout.
 
-ghost use Rattle.std.specs.Prelude.{◌≡◌, IfOk, OnOk};
+ghost use Rattle.std.specs.Prelude.{◌≡◌, [], IfOk, OnOk};
 ghost use Rattle.dwz_layout.specs.Attributes.{call_of, here_of, here_view, no_numbers};
 ghost use Rattle.dwz_layout.specs.Laid;
 ghost use Rattle.dwz_layout.specs.Laid.{laid_unit, laying_of, with_call};
@@ -16,6 +16,7 @@ use crate::walk::{Entry, Origin, Walk};
 use crate::ways::{WritingContext, here_of};
 use dwz_model::NoMemory;
 use std::alloc::{AllocError, Global};
+use std::mem;
 
 /// The entries of a unit that are laid so far.
 #[derive(Drop)]
@@ -91,7 +92,17 @@ pub(crate) fn header_size(sort: Sort) -> u64
     }
 }
 
-/// Lays the unit with a number, which begins at a place.
+// The room for codes, with none in it.
+#[inline(always)]
+fn codes_room(alloc: Global, room: &mut Scratch) -> Vec<u32>
+    ensures { result.items ≡ [] }
+{
+    let mut codes = mem::replace(&mut room.codes, Vec::new(alloc));
+    codes.clear();
+    codes
+}
+
+/// Lays the unit with a number, which begins at a place. The codes stand in the room that is lent.
 pub(crate) fn lay(
     alloc: Global,
     room: &mut Scratch,
@@ -106,7 +117,7 @@ pub(crate) fn lay(
     let mut laying = Laying {
         shapes: Shapes::new(alloc),
         at: more(at, header_size(unit.sort))?,
-        codes: Vec::new(alloc),
+        codes: codes_room(alloc, room),
     };
     let of = here_of(known, here, unit.sort);
     let mut walk = Walk::new(known, unit);

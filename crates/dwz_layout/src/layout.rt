@@ -5,7 +5,7 @@ ghost use Rattle.dwz_layout.specs.Laid.{file_view, made, made_of, no_unit, with_
 
 use crate::Tables;
 use crate::known::EntryTable;
-use crate::laying::{header_size, lay};
+use crate::laying::{Laying, header_size, lay};
 use crate::order::{FileItems, UnitItems};
 use crate::recent::Recent;
 use crate::sizes::{Scratch, more};
@@ -90,7 +90,11 @@ impl FileLayout {
         ensures { OnOk result (made self.new spots.new ≡ with_unit known.now here unit.now (made self.old spots.old)) }
     {
         let at = self.end;
-        let laying = lay(
+        let Laying {
+            shapes,
+            at: end,
+            codes,
+        } = lay(
             alloc,
             room,
             known,
@@ -99,15 +103,15 @@ impl FileLayout {
             at,
             spots.places.as_mut_slice(),
         )?;
-        let table = laying.shapes.table(alloc)?;
+        let table = shapes.table(alloc)?;
         let abbrev = self.tables.keep(table)?;
-        let end = laying.at;
         self.units.push(OutUnit {
             at,
             end,
             abbrev,
-            codes: DwzList::new(laying.codes),
+            codes: DwzList::new(Vec::from_slice(alloc, codes.as_slice())?),
         })?;
+        room.codes = codes;
         spots.roots.push(more(at, header_size(unit.sort))?)?;
         self.end = end;
         Ok(())
@@ -150,6 +154,7 @@ impl Layout {
         let mut room = Scratch {
             pairs: Vec::new(alloc),
             operands: Vec::new(alloc),
+            codes: Vec::new(alloc),
             recent: Recent::new(alloc)?,
         };
         let mut laid = Vec::new(alloc);

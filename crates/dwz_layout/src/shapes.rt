@@ -17,7 +17,9 @@ use dwz_abbrev::{Decl, Table};
 use dwz_model::{NoMemory, Pair, Pairs};
 use std::alloc::Global;
 use std::marker::Model;
-use std::mem;
+
+// How many bytes most declarations have room in.
+const DECL_ROOM: usize = 24;
 
 /// The shapes of a unit's entries, each once. Clauses see them in the order of their codes.
 #[derive(Drop)]
@@ -97,8 +99,8 @@ impl Shapes {
         }
     }
 
-    /// The code of a shape, which is added if it is new. The pairs stand in the room that is lent, and stay there where the shape is
-    /// known; where it is new, and after an error, there may be none.
+    /// The code of a shape, which is added if it is new. The pairs stand in the room that is lent, and are copied where the shape is new:
+    /// so the room is kept.
     #[inline(never)]
     pub fn code_for(
         &mut self,
@@ -116,7 +118,7 @@ impl Shapes {
         match self.codes.code_of(tag, children, room.as_slice())? {
             Some(code) => Ok(code),
             None => {
-                let pairs = Pairs::new(mem::replace(room, Vec::new(alloc)));
+                let pairs = Pairs::new(Vec::from_slice(alloc, room.as_slice())?);
                 add(&mut self.table, &mut self.codes, tag, children, pairs)
             }
         }
@@ -177,7 +179,7 @@ impl Shapes {
     pub fn table(&self, alloc: Global) -> Result<Vec<u8>, NoMemory>
         ensures { IfOk result (λ table. table.items ≡ table_for self.now) }
     {
-        let mut table = Vec::new(alloc);
+        let mut table = Vec::with_capacity(alloc, self.table.len().saturating_mul(DECL_ROOM))?;
         self.table.write(&mut table)?;
         Ok(table)
     }

@@ -32,11 +32,13 @@ use std::alloc::AllocError;
 // How many bytes the number of an entry or the offset of a text has.
 const OFFSET: u64 = 4;
 
-/// Room for the names and forms of an entry, and for the operands of an expression; and where shapes stood lately.
+/// Room for the names and forms of an entry, for the operands of an expression, and for the codes of a unit's entries; and where shapes
+/// stood lately.
 #[derive(Drop)]
 pub(crate) struct Scratch {
     pub(crate) pairs: Vec<Pair>,
     pub(crate) operands: Vec<Operand>,
+    pub(crate) codes: Vec<u32>,
     pub(crate) recent: Recent,
 }
 

@@ -7,6 +7,6 @@ use Rattle.dwz_layout.proofs.shapes.Shapes.table.Goals as goal
 pub returns : goal.returns
 returns c =
     c.in_ok-write.ensures.ok
-    ∙ ap (λ (w : List ℕ). w ++ table_bytes (by_code c.self.inside.table)) c.new-table.ensures.items
+    ∙ ap (λ (w : List ℕ). w ++ table_bytes (by_code c.self.inside.table)) c.in_ok-table.ensures.items
     ∙ table_is c.self.inside.table c.self.invariant.0
     ∙ ap table_for c.self.view_is

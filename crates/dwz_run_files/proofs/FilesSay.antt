@@ -7,7 +7,7 @@ use Rattle.dwz_def_reading.specs.Files.{sources_of}
 use Rattle.dwz_def_reading.specs.Meanings.{Sources}
 use Rattle.dwz_def_tops.specs.Lists.{NoneTwice, Nth}
 use Rattle.dwz_def_tops.proofs.Members.{nth_in}
-use Rattle.dwz_def_tops.specs.Spots.{EntryName, FileUnit, file_numbers, named}
+use Rattle.dwz_def_tops.specs.Spots.{EntryName, FileUnit, file_numbers}
 use Rattle.dwz_def_images.specs.After.{Replaces, at_file, name_of_place}
 use Rattle.dwz_def_images.specs.Units.{all_units, out_units, units_of_file}
 use Rattle.dwz_def_images.proofs.FileLemmas.{replaced}

@@ -36,7 +36,7 @@ use Rattle.dwz_law_layout.specs.Knows.{IsRead}
 use Rattle.dwz_law_layout.specs.Facts.{AreFacts, HasFile, RunFacts, docs, file_read, move, rule, units, units_written, written}
 use Rattle.dwz_law_layout.specs.Listed.{AreListed, TextsAt}
 use Rattle.dwz_law_layout.specs.NamedLaws.{entry_name}
-use Rattle.dwz_law_layout.proofs.FileEntries.{IsHere, below, here, name_there, named, named_all, names, number_is, read_name}
+use Rattle.dwz_law_layout.proofs.FileEntries.{IsHere, below, here, name_there, named, named_all, number_is, read_name}
 use Rattle.dwz_law_layout.proofs.ImagesStand.{old}
 use Rattle.dwz_law_layout.proofs.OwnedEntries.{found_names, name, names_same, unit_there}
 use Rattle.dwz_law_layout.proofs.PartHomes.{not_first}

@@ -12,6 +12,7 @@ use crate::units::{laid_abbrevs, laid_info};
 use crate::work::LaidRun;
 use dwz_model::{Blob, NoMemory, Sections};
 use std::alloc::Global;
+use std::thread::Threads;
 
 // A section with these bytes, where there are any.
 fn section_of(bytes: Vec<u8>) -> Option<Blob>
@@ -24,13 +25,19 @@ fn section_of(bytes: Vec<u8>) -> Option<Blob>
 }
 
 // The sections of the common file, with these texts. Its units are the first of all.
-fn sections_of(alloc: Global, work: &LaidRun, texts: CommonTexts) -> Result<Sections, NoMemory>
+fn sections_of<R: Threads + Sync>(
+    rt: &R,
+    alloc: Global,
+    work: &LaidRun,
+    texts: CommonTexts,
+    workers: u32,
+) -> Result<Sections, NoMemory>
     requires { (f : RunFacts) × IsWork f work.now }
     ensures { (f : RunFacts) → IsWork f work.now → HasTexts (run f) (Some texts) → IfOk result (λ s. s ≡ common_after (run f)) }
 {
     let units = work.prepared.ordered.orders[0].as_slice();
     let laid = work.layout.file(0);
-    let info = laid_info(alloc, work, 0, units, laid)?;
+    let info = laid_info(rt, alloc, work, 0, units, laid, workers)?;
     let abbrev = laid_abbrevs(alloc, laid)?;
     Ok(Sections {
         info,
@@ -44,18 +51,20 @@ fn sections_of(alloc: Global, work: &LaidRun, texts: CommonTexts) -> Result<Sect
 }
 
 /// The sections of the common file, if there is one, which has these texts: its partial units (DWARF 5, 7.3.6) with their abbreviations,
-/// its texts, and a line table with its paths (6.2.4).
-pub(crate) fn new_common(
+/// its texts, and a line table with its paths (6.2.4). By at most so many workers.
+pub(crate) fn new_common<R: Threads + Sync>(
+    rt: &R,
     alloc: Global,
     work: &LaidRun,
     texts: Option<CommonTexts>,
+    workers: u32,
 ) -> Result<Option<Sections>, NoMemory>
-    requires { (f : RunFacts) × IsWork f work.now × HasTexts (run f) texts }
+    requires work { (f : RunFacts) × IsWork f work.now × HasTexts (run f) texts }
     ensures { (f : RunFacts) → IsWork f work.now → HasTexts (run f) texts → IfOk result (IsNewCommon (run f)) }
 {
     match texts {
         Some(texts) => {
-            let sections = sections_of(alloc, work, texts)?;
+            let sections = sections_of(rt, alloc, work, texts, workers)?;
             Ok(Some(sections))
         }
         None => Ok(None),

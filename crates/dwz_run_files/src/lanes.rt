@@ -1,6 +1,8 @@
-//! What is new in all files, by several threads. Files differ much in size, so each thread has every so many of them.
+//! What is new in all files, by several threads. Files differ much in size, so each thread has every so many of them. Where there are more
+//! workers than files, several make the units of a file.
 
 ghost use Rattle.std.specs.Prelude.{◌≡◌, ◌<◌, ◌≤◌, None, length, map, slice_index_or, IfOk};
+ghost use Rattle.std.specs.Thread.{IsSync};
 ghost use Rattle.std.specs.Vec.Iter.{into_iter_items};
 ghost use Rattle.dwz_def_readback.specs.Files.{Run};
 ghost use Rattle.dwz_law_layout.specs.Facts.{RunFacts, run};
@@ -31,12 +33,14 @@ fn rank_at(ranks: &[Option<u32>], number: usize) -> Option<u32>
     }
 }
 
-// What is new in the file with that number, and in every so many files behind it.
-fn every(
+// What is new in the file with that number, and in every so many files behind it, each by at most so many workers.
+fn every<R: Threads + Sync>(
+    rt: &R,
     alloc: Global,
     work: &LaidRun,
     first: usize,
     step: usize,
+    workers: u32,
 ) -> Result<Vec<Option<NewFile>>, NoMemory>
     requires work { (f : RunFacts) × IsWork f work.now }
     requires step { (0 < step) × (step ≤ 64) }
@@ -47,26 +51,32 @@ fn every(
     let mut number = first;
     while number < ranks.len() {
         let rank = rank_at(ranks, number);
-        let new = new_or_old(alloc, work, number, rank)?;
+        let new = new_or_old(rt, alloc, work, number, rank, workers)?;
         made.push(new)?;
         number += step;
     }
     Ok(made)
 }
 
-// What so many threads make: the first has the first file, the next the file behind, and each every so many files from there on.
+// What so many threads make: the first has the first file, the next the file behind, and each every so many files from there on, each by at
+// most so many workers.
 fn lanes<R: Threads + Sync>(
     rt: &R,
     alloc: Global,
     work: &LaidRun,
     step: usize,
+    workers: u32,
 ) -> Result<VecDeque<Lane>, NoMemory>
     requires work { (f : RunFacts) × IsWork f work.now }
     requires step { (0 < step) × (step ≤ 64) }
     ensures len { IfOk result (λ lanes. length lanes.items ≡ step) }
     ensures each { (f : RunFacts) → IsWork f work.now → IfOk result (λ lanes. AreLanes (run f) step 0 (map into_iter_items lanes.items)) }
 {
-    let made = thread::map_indices(rt, alloc, step, &|first| every(alloc, work, first, step))?;
+    let each = |first: usize| -> Result<Vec<Option<NewFile>>, NoMemory>
+        requires { IsSync R.row × ((f : RunFacts) × IsWork f work.now) × ((0 < step) × (step ≤ 64)) }
+        ensures { (f : RunFacts) → IsWork f work.entry.now → IfOk result (λ made. AreEvery (run f) step first made.items) }
+    { every(rt, alloc, work, first, step, workers) };
+    let made = thread::map_indices(rt, alloc, step, &each)?;
     let mut lanes = VecDeque::with_capacity(alloc, step)?;
     for lane in made {
         lanes.push_back(lane?.into_iter())?;
@@ -113,8 +123,8 @@ pub(crate) fn new_files<R: Threads + Sync>(
     let count = work.prepared.ordered.ranks.len();
     let step = count.min(workers as usize);
     if step < 2 {
-        return every(alloc, work, 0, 1);
+        return every(rt, alloc, work, 0, 1, workers);
     }
-    let lanes = lanes(rt, alloc, work, step)?;
+    let lanes = lanes(rt, alloc, work, step, workers / step as u32)?;
     take_turns(alloc, lanes, count)
 }

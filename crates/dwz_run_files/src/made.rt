@@ -67,7 +67,7 @@ fn lay_files<R: Threads + Sync>(
         starts: starts.as_slice(),
         tops: tops.as_slice(),
     };
-    let common = new_common(alloc, &work, texts)?;
+    let common = new_common(rt, alloc, &work, texts, workers)?;
     let files = new_files(rt, alloc, &work, workers)?;
     Ok(Laid { common, files })
 }

@@ -17,13 +17,16 @@ use crate::work::LaidRun;
 use dwz_def_output::NewFile;
 use dwz_model::{NoMemory, Sections};
 use std::alloc::Global;
+use std::thread::Threads;
 
 // The sections of a file, whose units begin there after.
-fn sections_of(
+fn sections_of<R: Threads + Sync>(
+    rt: &R,
     alloc: Global,
     work: &LaidRun,
     moved: &FileAfter,
     units_at: &[u64],
+    workers: u32,
 ) -> Result<Sections, NoMemory>
     requires moved { (f : RunFacts) × IsMoved f work.now moved.now }
     requires many { length units_at.now ≡ length (raw_units moved.now.file.now.units) }
@@ -32,7 +35,7 @@ fn sections_of(
 {
     let old = &moved.file.sections;
     let pruned = work.prepared.pruned.as_slice();
-    let info = info_section(alloc, work, moved)?;
+    let info = info_section(rt, alloc, work, moved, workers)?;
     let abbrev = abbrev_section(alloc, work, moved)?;
     let strs = strs_section(alloc, old.strs.bytes, pruned, moved.number)?;
     let offsets = offsets_section(alloc, old.offsets, pruned, moved.number)?;
@@ -61,13 +64,20 @@ fn is_importing(importing: &[bool], number: usize) -> bool
 }
 
 // What is new in the file with a number, which has that rank among those that are written.
-fn new_file(alloc: Global, work: &LaidRun, number: usize, rank: u32) -> Result<NewFile, NoMemory>
-    requires { (f : RunFacts) × IsWork f work.now × HasRank f number rank }
+fn new_file<R: Threads + Sync>(
+    rt: &R,
+    alloc: Global,
+    work: &LaidRun,
+    number: usize,
+    rank: u32,
+    workers: u32,
+) -> Result<NewFile, NoMemory>
+    requires work { (f : RunFacts) × IsWork f work.now × HasRank f number rank }
     ensures { (f : RunFacts) → IsWork f work.now → HasRank f number rank → IfOk result (IsNewFile (run f) number) }
 {
     let moved = moved_file(work, number, rank);
     let units_at = units_at(alloc, work, &moved)?;
-    let sections = sections_of(alloc, work, &moved, units_at.as_slice())?;
+    let sections = sections_of(rt, alloc, work, &moved, units_at.as_slice(), workers)?;
     let narrow = narrow_fault(alloc, work, &moved, units_at.as_slice())?;
     let imports = is_importing(work.prepared.run.settled.importing.as_slice(), number);
     Ok(NewFile {
@@ -77,19 +87,21 @@ fn new_file(alloc: Global, work: &LaidRun, number: usize, rank: u32) -> Result<N
     })
 }
 
-/// What is new in the file with a number, if it is written.
-pub(crate) fn new_or_old(
+/// What is new in the file with a number, if it is written, by at most so many workers.
+pub(crate) fn new_or_old<R: Threads + Sync>(
+    rt: &R,
     alloc: Global,
     work: &LaidRun,
     number: usize,
     rank: Option<u32>,
+    workers: u32,
 ) -> Result<Option<NewFile>, NoMemory>
-    requires { (f : RunFacts) × IsWork f work.now × IsRank f number rank }
+    requires work { (f : RunFacts) × IsWork f work.now × IsRank f number rank }
     ensures { (f : RunFacts) → IsWork f work.now → IsRank f number rank → IfOk result (IsNewOrOld (run f) number) }
 {
     match rank {
         Some(rank) => {
-            let new = new_file(alloc, work, number, rank)?;
+            let new = new_file(rt, alloc, work, number, rank, workers)?;
             Ok(Some(new))
         }
         None => Ok(None),

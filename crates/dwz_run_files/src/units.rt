@@ -11,25 +11,29 @@ ghost use Rattle.dwz_run_files.specs.Works.{HaveUnitPlaces, IsMoved};
 use crate::moved::FileAfter;
 use crate::unit_places;
 use crate::work::LaidRun;
-use dwz_encode::info_of;
+use dwz_encode::info_by;
 use dwz_layout::{FileLayout, UnitItems};
 use dwz_model::{Blob, NoMemory};
 use std::alloc::Global;
+use std::thread::Threads;
 
-/// `.debug_info` of units that are laid so, the first of which has that number (DWARF 5, 7.5.1).
-pub(crate) fn laid_info(
+/// `.debug_info` of units that are laid so, the first of which has that number (DWARF 5, 7.5.1), by at most so many workers.
+pub(crate) fn laid_info<R: Threads + Sync>(
+    rt: &R,
     alloc: Global,
     work: &LaidRun,
     first: u32,
     units: &[UnitItems],
     laid: &FileLayout,
+    workers: u32,
 ) -> Result<Blob, NoMemory>
     ensures { let layout = work.now.layout.now in
         IfOk result (λ info. info ≡ units_page work.now.prepared.now.known layout.places layout.roots first units.now
         laid.now.units.items) }
 {
     let known = &work.prepared.known;
-    let info = info_of(alloc, known, work.layout.spots(), first, units, laid)?;
+    let spots = work.layout.spots();
+    let info = info_by(rt, alloc, workers, known, spots, first, units, laid)?;
     Ok(Blob::new(info))
 }
 
@@ -41,15 +45,25 @@ pub(crate) fn laid_abbrevs(alloc: Global, laid: &FileLayout) -> Result<Blob, NoM
     Ok(Blob::new(abbrevs))
 }
 
-/// `.debug_info` of a file (7.5.1).
-pub(crate) fn info_section(
+/// `.debug_info` of a file (7.5.1), by at most so many workers.
+pub(crate) fn info_section<R: Threads + Sync>(
+    rt: &R,
     alloc: Global,
     work: &LaidRun,
     moved: &FileAfter,
+    workers: u32,
 ) -> Result<Blob, NoMemory>
     ensures { (f : RunFacts) → IsMoved f work.now moved.now → IfOk result (λ info. info ≡ (sections_of (run f) moved.now.number).info) }
 {
-    laid_info(alloc, work, moved.first, moved.units, moved.laid)
+    laid_info(
+        rt,
+        alloc,
+        work,
+        moved.first,
+        moved.units,
+        moved.laid,
+        workers,
+    )
 }
 
 /// `.debug_abbrev` of a file (7.5.3).

@@ -5,13 +5,13 @@ use Rattle.dwz_run_files.proofs.CommonLaid.{common_is, common_made, in_layout, i
 use Rattle.dwz_run_files.proofs.common_sections.sections_of.Goals as goal
 
 pub index-requires : goal.index-requires
-index-requires c = (let below = in_orders c.requires.0 c.args.work.now c.requires.1 in omega (arith, below))
+index-requires g c = (let below = in_orders c.requires.0 c.args.work.now c.requires.1 in omega (arith, below))
 
 pub file-laid-requires : goal.file-laid-requires
-file-laid-requires c = (let below = in_layout c.requires.0 c.args.work.now c.requires.1 in omega (arith, below))
+file-laid-requires g c = (let below = in_layout c.requires.0 c.args.work.now c.requires.1 in omega (arith, below))
 
 pub returns : goal.returns
-returns c f is has =
+returns g c f is has =
     let p = c.args.work.now.prepared.now in
     let units : slice_get p.ordered.orders.items 0 ≡ Some c.as_slice-units.result.now =
     item_got p.ordered.orders.items 0 c.index.result.now (in_orders f c.args.work.now is) c.index.ensures

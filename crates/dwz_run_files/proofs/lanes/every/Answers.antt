@@ -5,8 +5,8 @@ use Rattle.dwz_run_files.specs.Lanes.{AreEvery}
 use Rattle.dwz_run_files.proofs.WorksMade.{rank_found, ranks_long}
 use Rattle.dwz_run_files.proofs.lanes.every.Goals as goal
 
-pub new_or_old-requires : goal.new_or_old-requires
-new_or_old-requires c =
+pub new_or_old-requires-clause-work : goal.new_or_old-requires-clause-work
+new_or_old-requires-clause-work g c κs within =
     let r = c.requires.work in (
       r.0,
       r.1,
@@ -16,7 +16,7 @@ new_or_old-requires c =
     )
 
 pub loop-number-preserved : goal.loop-number-preserved
-loop-number-preserved c = λ f is rest are. (
+loop-number-preserved g c = λ f is rest are. (
     let n = c.loop-number.number in
     let ranks = c.as_slice-ranks.result.now in
     let same = c.as_slice-ranks.ensures.value in
@@ -29,7 +29,7 @@ loop-number-preserved c = λ f is rest are. (
     (c.loop-number.invariant f is (new ∷ rest) (less, c.in_ok-new.ensures f is rank, are))))
 
 pub returns : goal.returns
-returns c = λ f is. (
+returns g c = λ f is. (
     let long = ranks_long f c.args.work.now is c.as_slice-ranks.result.now c.as_slice-ranks.ensures.value in
     let end : length (run f).files ≤ c.loop-number.number = omega (arith, long, c.loop-number-test.false) in
     subst (AreEvery (run f) c.args.step c.args.first) (append-nil c.loop-number.made.items) (c.loop-number.invariant f is [] end))

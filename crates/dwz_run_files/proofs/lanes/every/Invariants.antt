@@ -6,9 +6,9 @@ use Rattle.dwz_run_files.specs.Works.{IsWork}
 use Rattle.dwz_run_files.proofs.lanes.every.Given as goal
 
 abbrev pub invariant-loop-number : goal.invariant-loop-number
-invariant-loop-number l =
+invariant-loop-number g l =
     (f : RunFacts) → IsWork f l.work → (rest : List (Option NewFile)) → AreEvery (run f) l.step l.number rest
     → AreEvery (run f) l.step l.first (l.made.items ++ rest)
 
 abbrev pub decreases-loop-number : goal.decreases-loop-number
-decreases-loop-number l = length l.ranks - l.number
+decreases-loop-number g l = length l.ranks - l.number

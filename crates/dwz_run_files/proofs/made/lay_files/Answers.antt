@@ -13,8 +13,8 @@ pub tops-requires-clause-inside : goal.tops-requires-clause-inside
 tops-requires-clause-inside g c =
     tops_inside c.requires.works.0 c.args.prepared.now c.requires.works.1 c.args.prepared.now.run.indexes.now refl
 
-pub new_common-requires : goal.new_common-requires
-new_common-requires g c = (
+pub new_common-requires-clause-work : goal.new_common-requires-clause-work
+new_common-requires-clause-work g c κs within = (
   c.requires.works.0,
   work_made c.requires.works.0 _ c.requires.works.1 c.args.prepared.now.run.indexes.now c.deref.result.now c.in_ok-starts.starts.items c.in_ok-tops.tops.items
       refl c.deref.ensures.value c.in_ok-layout.ensures c.as_slice.ensures.value c.in_ok-starts.ensures

@@ -8,19 +8,19 @@ use Rattle.dwz_run_files.specs.Works.{HaveUnitPlaces}
 use Rattle.dwz_run_files.proofs.sections.new_file.Goals as goal
 
 pub sections_of-requires-clause-moved : goal.sections_of-requires-clause-moved
-sections_of-requires-clause-moved c = (let r = c.requires in (r.0, c.moved_file-moved.ensures.moved r.0 r.1 r.2))
+sections_of-requires-clause-moved g c κs within = (let r = c.requires.work in (r.0, c.moved_file-moved.ensures.moved r.0 r.1 r.2))
 
 pub sections_of-requires-clause-many : goal.sections_of-requires-clause-many
-sections_of-requires-clause-many c = ap (λ (v : List ℕ). length v) c.as_slice.ensures.value ∙ c.in_ok-units_at.ensures.many
+sections_of-requires-clause-many g c κs within = ap (λ (v : List ℕ). length v) c.as_slice.ensures.value ∙ c.in_ok-units_at.ensures.many
 
 pub narrow_fault-requires-clause-moved : goal.narrow_fault-requires-clause-moved
-narrow_fault-requires-clause-moved c = (let r = c.requires in (r.0, c.moved_file-moved.ensures.moved r.0 r.1 r.2))
+narrow_fault-requires-clause-moved g c = (let r = c.requires.work in (r.0, c.moved_file-moved.ensures.moved r.0 r.1 r.2))
 
 pub narrow_fault-requires-clause-many : goal.narrow_fault-requires-clause-many
-narrow_fault-requires-clause-many c = ap (λ (v : List ℕ). length v) c.as_slice-2.ensures.value ∙ c.in_ok-units_at.ensures.many
+narrow_fault-requires-clause-many g c = ap (λ (v : List ℕ). length v) c.as_slice-2.ensures.value ∙ c.in_ok-units_at.ensures.many
 
 pub returns : goal.returns
-returns c f is has =
+returns g c f is has =
     let m = c.moved_file-moved.result in
     let moved = c.moved_file-moved.ensures.moved f is has in
     let begin = c.in_ok-units_at.ensures.places f moved in

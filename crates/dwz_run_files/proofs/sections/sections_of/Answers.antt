@@ -7,7 +7,7 @@ use Rattle.dwz_run_files.proofs.SectionsMade.{sections_made}
 use Rattle.dwz_run_files.proofs.sections.sections_of.Goals as goal
 
 pub returns : goal.returns
-returns c f is begin =
+returns g c f is begin =
     let m = c.args.moved.now in
     let old = m.file.now.sections in
     let pruned = c.as_slice-pruned.ensures.value in

@@ -32,7 +32,6 @@ mod table;
 #[cfg(test)]
 mod taken;
 #[cfg(test)]
-mod taken_plain;
 #[cfg(test)]
 mod taken_rows;
 #[cfg(test)]

@@ -1,10 +1,9 @@
-//! What units take from a finished common file: small rows that were worked out by hand, and drawn ones beside a plain way.
+//! What units take from a finished common file, by small rows that were worked out by hand.
 
 use crate::expect::holds;
-use crate::taken_plain::{blocked_plainly, first_plainly, list, taken_plainly};
 use crate::taken_rows::{are_apart, are_kin, are_rows, grouped, lists_of};
-use dwz_groups::{Edge, Groups};
-use dwz_model::{Flags, Numbers, at_or};
+use dwz_groups::Groups;
+use dwz_model::{DwzList, Flags, Numbers};
 use dwz_takes::{Rows, blocked, images, takes};
 use std::alloc::Global;
 use std::process::Abort;
@@ -55,6 +54,15 @@ fn rows_of(rt: &impl Abort, alloc: Global, text: &str) -> Rows {
     }
 }
 
+// The list with that number.
+fn list(lists: &Groups, number: usize) -> &[u32] {
+    if number < lists.len() {
+        lists.get(number)
+    } else {
+        &[]
+    }
+}
+
 // Whether the lists are these.
 fn are_lists(found: &[Numbers], expected: &Groups) -> bool {
     if found.len() != expected.len() {
@@ -82,103 +90,6 @@ fn takes_what_fits(rt: HostRuntime) {
     }
 }
 
-// Numbers that look drawn.
-#[derive(Drop)]
-struct Draw {
-    state: u64,
-}
-
-impl Draw {
-    fn below(&mut self, bound: u32) -> u32 {
-        let more = self.state.wrapping_mul(6_364_136_223_846_793_005);
-        self.state = more.wrapping_add(1_442_695_040_888_963_407);
-        let high = self.state / 0x1_0000_0000;
-        high as u32 % bound.max(1)
-    }
-}
-
-// So many numbers below the bound.
-fn drawn(rt: &impl Abort, alloc: Global, draw: &mut Draw, count: usize, bound: u32) -> Vec<u32> {
-    let mut numbers = Vec::new(alloc);
-    for _ in 0..count {
-        numbers.push(draw.below(bound)).expect(rt, "memory");
-    }
-    numbers
-}
-
-// Lists under so many keys, with numbers below the bound, as many as that together.
-fn drawn_lists(
-    rt: &impl Abort,
-    alloc: Global,
-    draw: &mut Draw,
-    count: u32,
-    length: usize,
-    bound: u32,
-) -> Groups {
-    let mut edges = Vec::new(alloc);
-    for _ in 0..length {
-        let key = draw.below(count);
-        let value = draw.below(bound);
-        edges.push(Edge { key, value }).expect(rt, "memory");
-    }
-    grouped(rt, alloc, count as usize, edges.as_slice())
-}
-
-// Under each owner what it owns: the first number, and so on.
-fn owned(rt: &impl Abort, alloc: Global, owners: &[u32], count: usize, first: u32) -> Groups {
-    let mut edges = Vec::new(alloc);
-    let mut value = first;
-    for key in owners {
-        edges.push(Edge { key: *key, value }).expect(rt, "memory");
-        value = value.saturating_add(1);
-    }
-    grouped(rt, alloc, count, edges.as_slice())
-}
-
-// Rows of four units with twelve tops, whose units are given, and of six partial units with as many.
-fn drawn_rows(rt: &impl Abort, alloc: Global, draw: &mut Draw, units: &[u32], kinds: u32) -> Rows {
-    let classes = drawn(rt, alloc, draw, 24, kinds);
-    let parts = drawn(rt, alloc, draw, 12, 6);
-    Rows {
-        classes: Numbers::new(classes),
-        unit_tops: owned(rt, alloc, units, 4, 0),
-        unit_names: drawn_lists(rt, alloc, draw, 4, 6, 3),
-        part_tops: owned(rt, alloc, parts.as_slice(), 6, 12),
-        part_names: drawn_lists(rt, alloc, draw, 6, 2, 3),
-        part_targets: drawn_lists(rt, alloc, draw, 6, 5, 6),
-        names: 3,
-    }
-}
-
-// Whether each unit takes what it takes by the plain way.
-fn are_taken(rt: &impl Abort, alloc: Global, rows: &Rows, found: &[Numbers]) -> bool {
-    for (unit, numbers) in found.iter().enumerate() {
-        let plain = taken_plainly(rt, alloc, rows, unit);
-        if numbers.as_slice() != plain.as_slice() {
-            return false;
-        }
-    }
-    found.len() == rows.unit_tops.len()
-}
-
-// Whether each top of a unit has the image that it has by the plain way, and no top of a partial unit has one.
-fn are_images(rows: &Rows, found: &[Numbers], images: &[Option<u32>]) -> bool {
-    for (unit, numbers) in found.iter().enumerate() {
-        for top in list(&rows.unit_tops, unit) {
-            let plain = first_plainly(rows, numbers.as_slice(), *top);
-            if at_or(images, *top as usize, None) != plain {
-                return false;
-            }
-        }
-    }
-    for top in rows.part_tops.items() {
-        if at_or(images, *top as usize, None).is_some() {
-            return false;
-        }
-    }
-    true
-}
-
 // Which tops have to stay. The test ends where what is given isn't as it has to be.
 fn staying(
     rt: &impl Abort,
@@ -190,47 +101,6 @@ fn staying(
     let are = are_kin(kin, images, targets);
     assert!(rt; are);
     blocked(alloc, kin, images, targets).expect(rt, "memory")
-}
-
-// Whether just those tops have to stay that have to by the plain way.
-fn stay(
-    rt: &impl Abort,
-    alloc: Global,
-    kin: &[u32],
-    images: &[Option<u32>],
-    targets: &Groups,
-) -> bool {
-    let found = staying(rt, alloc, kin, images, targets);
-    let plain = blocked_plainly(rt, alloc, kin, images, targets);
-    found.as_slice() == plain.as_slice()
-}
-
-// Whether all is as by the plain way, for what is drawn from there on.
-fn agrees(rt: &impl Abort, alloc: Global, seed: u32) -> bool {
-    let mut draw = Draw {
-        state: u64::from(seed),
-    };
-    let kinds = draw.below(20).max(2);
-    let units = drawn(rt, alloc, &mut draw, 12, 4);
-    let rows = drawn_rows(rt, alloc, &mut draw, units.as_slice(), kinds);
-    let are = are_rows(&rows);
-    assert!(rt; are);
-    let apart = are_apart(&rows, units.as_slice());
-    assert!(rt; apart);
-    let found = takes(alloc, &rows).expect(rt, "memory");
-    let imaged = images(alloc, &rows, found.as_slice()).expect(rt, "memory");
-    let kin = drawn(rt, alloc, &mut draw, 24, 12);
-    let targets = drawn_lists(rt, alloc, &mut draw, 24, 12, 24);
-    are_taken(rt, alloc, &rows, found.as_slice())
-        && are_images(&rows, found.as_slice(), imaged.as_slice())
-        && stay(rt, alloc, kin.as_slice(), imaged.as_slice(), &targets)
-}
-
-#[test]
-fn agrees_with_a_plain_way(rt: HostRuntime) {
-    for seed in 0..1000 {
-        holds(&rt, "drawn rows", agrees(&rt, rt.alloc(), seed));
-    }
 }
 
 // For each top the number of its kin, and its image, each a digit; what it refers to; and whether it has to stay.
@@ -257,6 +127,33 @@ fn images_of(rt: &impl Abort, alloc: Global, text: &str) -> Vec<Option<u32>> {
         images.push(image).expect(rt, "memory");
     }
     images
+}
+
+// The images of tops that are all of the first unit.
+fn imaged(rt: &impl Abort, alloc: Global, text: &str) -> DwzList<Option<u32>> {
+    let rows = rows_of(rt, alloc, text);
+    let are = are_rows(&rows);
+    assert!(rt; are);
+    let apart = are_apart(&rows, &[0; 10]);
+    assert!(rt; apart);
+    let found = takes(alloc, &rows).expect(rt, "memory");
+    images(alloc, &rows, found.as_slice()).expect(rt, "memory")
+}
+
+// Whether the images are these, each a digit.
+fn are_imaged(rt: &impl Abort, alloc: Global, rows: &str, expected: &str) -> bool {
+    imaged(rt, alloc, rows).as_slice() == images_of(rt, alloc, expected).as_slice()
+}
+
+#[test]
+fn an_image_is_the_first_alike_top(rt: HostRuntime) {
+    let alloc = rt.alloc();
+    let each = are_imaged(&rt, alloc, "01|-|56|-|-", "56--------");
+    holds(&rt, "each has one", each);
+    let least = are_imaged(&rt, alloc, "0|-|50|-|-", "0---------");
+    holds(&rt, "the least of two", least);
+    let taken = are_imaged(&rt, alloc, "01|-|67 5|- -|- -", "5---------");
+    holds(&rt, "in a partial unit that is taken", taken);
 }
 
 // Whether these flags are those of a text.

@@ -1,4 +1,4 @@
-//! Rows of tops that are written down or drawn, and whether they are as `dwz_takes` asks: what clauses say of its answers rests on that.
+//! Rows of tops that are written down, and whether they are as `dwz_takes` asks: what clauses say of its answers rests on that.
 
 ghost use Rattle.std.specs.Prelude.{◌≡◌, ℕ, ◌<◌, IsTrue, length, slice_index_or};
 ghost use Rattle.dwz_model.specs.Lists.{In};

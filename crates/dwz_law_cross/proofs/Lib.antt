@@ -9,3 +9,8 @@ pub mod StandLemmas
 pub mod SupLemmas
 pub mod FinishedLemmas
 pub mod StayLemmas
+pub mod Depths
+pub mod OneRaw
+pub mod ChosenForms
+pub mod StoredForms
+pub mod FreeForms

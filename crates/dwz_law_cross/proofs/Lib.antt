@@ -14,3 +14,6 @@ pub mod OneRaw
 pub mod ChosenForms
 pub mod StoredForms
 pub mod FreeForms
+pub mod WrittenForms
+pub mod WrittenRaw
+pub mod AllStand

@@ -17,3 +17,5 @@ pub mod FreeForms
 pub mod WrittenForms
 pub mod WrittenRaw
 pub mod AllStand
+pub mod OwnRefs
+pub mod OwnFiles

@@ -1,4 +1,4 @@
--- By names: a file before and after, and the common file.
+-- By names: a file before, and what stands after in its place.
 use Rattle.std.proofs.Common.{◌≡◌, ℕ, suc, Bool, true, false, List, [], ◌∷◌, ◌++◌, ◌==◌, cond, map, refl, sym, ap, subst, ◌∙◌, inl, inr, eqb-true}
 use Rattle.std.specs.List.{filter}
 use Rattle.dwz_model.specs.Lists.{Each, In, Nth}
@@ -12,11 +12,10 @@ use Rattle.dwz_def_plan.specs.Moves.{Move, image_in}
 use Rattle.dwz_def_plan.specs.Plan.{PartialUnit}
 use Rattle.dwz_def_images.specs.After.{AreAfterOf, AreOld, ArePlaced, IsNamedBelow, IsOfFile}
 use Rattle.dwz_def_images.specs.Held.{Serves}
-use Rattle.dwz_def_images.specs.Units.{common_units, kept_unit, kept_units, out_units, partial_unit, partial_units, units_of_file}
+use Rattle.dwz_def_images.specs.Units.{kept_unit, kept_units, out_units, partial_unit, partial_units, units_of_file}
 use Rattle.dwz_def_images.proofs.EntryLemmas.{unit_seen}
 use Rattle.dwz_def_images.proofs.ExpandLemmas.{kept_same, type_root}
 use Rattle.dwz_def_images.proofs.FileLemmas.{files_are}
-use Rattle.dwz_def_images.proofs.FileOuts.{file_outs}
 use Rattle.dwz_def_images.proofs.HeldLemmas.{plan_held}
 use Rattle.dwz_def_images.proofs.OldFiles.{files_old}
 use Rattle.dwz_def_images.proofs.ServeLemmas.{held_serves}
@@ -45,15 +44,13 @@ none_whole m h s (p ∷ parts) = by (same_home p.home h) (none_whole m h (suc s)
   by false e = e
 
 module _ (scope : TopScope) (docs : List (Doc ℕ)) (rule : Rule) (placed : Each (λ doc. ArePlaced doc.units) docs) (is : IsAlike scope (units_of docs) rule.alike)
-    (choice : IsChoice (units_of docs) rule) (file : ℕ) where
+    (choice : IsChoice (units_of docs) rule) (file : ℕ) (outs : List (DwUnit EntryName))
+    (after : AreAfterOf (IsOfFile (units_of docs) file) (plan_of rule docs) (units_of docs) outs) where
   abbrev units : List (FileUnit EntryName)
   units = units_of docs
 
   abbrev m : Move
   m = plan_of rule docs
-
-  abbrev outs : List (DwUnit EntryName)
-  outs = out_units m units file ++ common_units m
 
   old : AreOld units
   old = files_old docs placed
@@ -64,9 +61,6 @@ module _ (scope : TopScope) (docs : List (Doc ℕ)) (rule : Rule) (placed : Each
   -- a unit of the file
   abbrev Mine : ℕ → Type 0
   Mine = IsOfFile units file
-
-  after : AreAfterOf Mine m units outs
-  after = file_outs units rule (file_numbers 0 docs) file
 
   -- ---- the units of the file, with their numbers
 

@@ -12,12 +12,13 @@ use Rattle.dwz_model.proofs.OnceLemmas.{none_both, none_right}
 use Rattle.dwz_def_tops.proofs.ShownLemmas.{entries_placed, map_shown, root_key, types_placed}
 use Rattle.dwz_def_tops.proofs.ShownUnits.{entries_named, types_named, units_named, units_placed}
 use Rattle.dwz_def_tops.specs.Alike.{IsAlike, TopScope}
-use Rattle.dwz_def_tops.specs.Spots.{EntryName, in_file, named_files, named_in, spot_in, spots_from, tops_among, units_of}
+use Rattle.dwz_def_tops.specs.Spots.{EntryName, file_numbers, in_file, named_files, named_in, spot_in, spots_from, tops_among, units_of}
 use Rattle.dwz_def_plan.specs.Homes.{IsChoice, Rule}
 use Rattle.dwz_def_plan.specs.Moves.{Move, image_in}
-use Rattle.dwz_def_images.specs.After.{ArePlaced, Place, at_file, name_from, name_of_place}
+use Rattle.dwz_def_images.specs.After.{AreAfterOf, ArePlaced, IsOfFile, Place, at_file, name_from, name_of_place}
 use Rattle.dwz_def_images.specs.Units.{common_units, out_units, units_of_file}
 use Rattle.dwz_def_images.proofs.BackLemmas.{append_none, at_none}
+use Rattle.dwz_def_images.proofs.FileOuts.{file_outs}
 use Rattle.dwz_def_images.proofs.OldFiles.{shown_append}
 use Rattle.dwz_def_images.proofs.StillLemmas.{at_append, at_other, at_own}
 use Rattle.dwz_def_cross.specs.CrossLaws.{IsPairing}
@@ -140,6 +141,9 @@ module _ (scope : TopScope) (docs : List (Doc ℕ)) (rule : Rule) (placed : Each
   abbrev news : List (DwUnit Place)
   news = own ++ common
 
+  after : AreAfterOf (IsOfFile (units_of docs) file) m (units_of docs) outs
+  after = file_outs (units_of docs) rule (file_numbers 0 docs) file
+
   shown : UnitsShown g outs news
   shown = shown_append g (out_units m (units_of docs) file) (common_units m) own common at.own_shown at.common_shown
 
@@ -156,11 +160,11 @@ module _ (scope : TopScope) (docs : List (Doc ℕ)) (rule : Rule) (placed : Each
     closed = old.closed;
     mains = old.mains;
     entries = entries_named h (λ s. g (f s)) doc.units (units_of_file file (units_of docs)) news names
-        (entries_placed g f (units_of_file file (units_of docs)) outs news shown (name_entries scope docs rule placed is choice file));
+        (entries_placed g f (units_of_file file (units_of docs)) outs news shown (name_entries scope docs rule placed is choice file outs after));
     types = types_named h (λ s. g (f s)) doc.units (units_of_file file (units_of docs)) news names
-        (types_placed g f (units_of_file file (units_of docs)) outs news shown (name_types scope docs rule placed is choice file));
+        (types_placed g f (units_of_file file (units_of docs)) outs news shown (name_types scope docs rule placed is choice file outs after));
     units = unit_pairs h f g outs news shown at.closed at.one at.apart doc.units (units_of_file file (units_of docs)) (whole_units (out_units m (units_of docs) file)) (whole_units own) names
-        (name_units scope docs rule placed is choice file) (whole_shown g (out_units m (units_of docs) file) own at.own_shown) (λ p there. in_left p own common (whole_in own p there));
+        (name_units scope docs rule placed is choice file outs after) (whole_shown g (out_units m (units_of docs) file) own at.own_shown) (λ p there. in_left p own common (whole_in own p there));
     apart = at.apart;
   }
 
@@ -170,29 +174,40 @@ module _ (scope : TopScope) (docs : List (Doc ℕ)) (rule : Rule) (placed : Each
 -- ---- the old file with places of any kind, beside units that none of its references names
 
 module _ (scope : TopScope) (docs : List (Doc ℕ)) (rule : Rule) (placed : Each (λ doc. ArePlaced doc.units) docs) (is : IsAlike scope (units_of docs) rule.alike)
-    (choice : IsChoice (units_of docs) rule) (file : ℕ) (g : EntryName → Place) (own common : List (DwUnit Place)) (at : AreAt (plan_of rule docs) docs file g own common)
+    (choice : IsChoice (units_of docs) rule) (file : ℕ) (outs : List (DwUnit EntryName)) (after : AreAfterOf (IsOfFile (units_of docs) file) (plan_of rule docs) (units_of docs) outs)
+    (g : EntryName → Place) (own common : List (DwUnit Place)) (own_shown : UnitsShown g (out_units (plan_of rule docs) (units_of docs) file) own) (shown : UnitsShown g outs (own ++ common))
+    (outs_closed : Closed outs) (one : OnePlace g outs) (apart : NoneTwice (units_keys (own ++ common)))
     {A : Type 0} (h : A → EntryName) (v : WithCommon A) (names : UnitsShown h v.own (units_of_file file (units_of docs)))
     (kinds : (u : DwUnit A) → In u v.own → IsPartial u.kind → ⊥) (closed : Closed v.own) (mains : HaveMains v.own)
     (apart_from : (u : DwUnit A) (d : Seen A) → In u v.common → In d (all_seen v.own) → d.at ≡ u.root.at → ⊥) where
-  pub meets : CrossSame v (with_common own common)
-  meets =
+  -- what stands after in place of the file may be any units
+  pub meets_in : CrossSame v (with_common own common)
+  meets_in =
       let m = plan_of rule docs in
       let f = image_in m in
-      let outs = out_units m (units_of docs) file ++ common_units m in
-      let shown = shown_append g (out_units m (units_of docs) file) (common_units m) own common at.own_shown at.common_shown in
       cross_same (λ p. g (f (h p))) v (with_common own common) (record {
         apart_from = apart_from;
         kinds = kinds;
         closed = closed;
         mains = mains;
         entries = entries_named h (λ s. g (f s)) v.own (units_of_file file (units_of docs)) (own ++ common) names
-            (entries_placed g f (units_of_file file (units_of docs)) outs (own ++ common) shown (name_entries scope docs rule placed is choice file));
+            (entries_placed g f (units_of_file file (units_of docs)) outs (own ++ common) shown (name_entries scope docs rule placed is choice file outs after));
         types = types_named h (λ s. g (f s)) v.own (units_of_file file (units_of docs)) (own ++ common) names
-            (types_placed g f (units_of_file file (units_of docs)) outs (own ++ common) shown (name_types scope docs rule placed is choice file));
-        units = unit_pairs h f g outs (own ++ common) shown at.closed at.one at.apart v.own (units_of_file file (units_of docs)) (whole_units (out_units m (units_of docs) file)) (whole_units own) names
-            (name_units scope docs rule placed is choice file) (whole_shown g (out_units m (units_of docs) file) own at.own_shown) (λ p there. in_left p own common (whole_in own p there));
-        apart = at.apart;
+            (types_placed g f (units_of_file file (units_of docs)) outs (own ++ common) shown (name_types scope docs rule placed is choice file outs after));
+        units = unit_pairs h f g outs (own ++ common) shown outs_closed one apart v.own (units_of_file file (units_of docs)) (whole_units (out_units m (units_of docs) file)) (whole_units own) names
+            (name_units scope docs rule placed is choice file outs after) (whole_shown g (out_units m (units_of docs) file) own own_shown) (λ p there. in_left p own common (whole_in own p there));
+        apart = apart;
       })
+
+-- such as those of the file and of the common file
+pub meets : (scope : TopScope) (docs : List (Doc ℕ)) (rule : Rule) → Each (λ doc. ArePlaced doc.units) docs → IsAlike scope (units_of docs) rule.alike → IsChoice (units_of docs) rule
+    → (file : ℕ) (g : EntryName → Place) (own common : List (DwUnit Place)) → AreAt (plan_of rule docs) docs file g own common
+    → {A : Type 0} (h : A → EntryName) (v : WithCommon A) → UnitsShown h v.own (units_of_file file (units_of docs)) → ((u : DwUnit A) → In u v.own → IsPartial u.kind → ⊥) → Closed v.own → HaveMains v.own
+    → ((u : DwUnit A) (d : Seen A) → In u v.common → In d (all_seen v.own) → d.at ≡ u.root.at → ⊥) → CrossSame v (with_common own common)
+meets scope docs rule placed is choice file g own common at h v names kinds closed mains apart_from =
+    let m = plan_of rule docs in
+    meets_in scope docs rule placed is choice file (out_units m (units_of docs) file ++ common_units m) (file_outs (units_of docs) rule (file_numbers 0 docs) file) g own common at.own_shown
+    (shown_append g (out_units m (units_of docs) file) (common_units m) own common at.own_shown at.common_shown) at.closed at.one at.apart h v names kinds closed mains apart_from
 
 -- a file of documents, at places of it
 pub named_at : (docs : List (Doc ℕ)) (file : ℕ) (doc : Doc ℕ) → Nth 0 docs file doc → UnitsShown (λ p. name_of_place docs (at_file file p)) doc.units (units_of_file file (units_of docs))

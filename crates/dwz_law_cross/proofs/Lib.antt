@@ -19,3 +19,4 @@ pub mod WrittenRaw
 pub mod AllStand
 pub mod OwnRefs
 pub mod OwnFiles
+pub mod AloneLemmas

@@ -59,7 +59,7 @@ module _ {A B C : Type 0} (f : A → B) (h : B → C) where
   kind_moved (OfType s m) = refl
   kind_moved Partial = refl
 
-  units_moved : (us : List (DwUnit A)) (vs : List (DwUnit C)) → UnitsShown (λ x. h (f x)) us vs → UnitsShown h (map (unit_map f) us) vs
+  pub units_moved : (us : List (DwUnit A)) (vs : List (DwUnit C)) → UnitsShown (λ x. h (f x)) us vs → UnitsShown h (map (unit_map f) us) vs
   units_moved [] [] s = tt
   units_moved (u ∷ us) (v ∷ vs) s = (
     record { kind = s.0.kind ∙ kind_moved u.kind; root = node_moved u.root v.root s.0.root; below = entries_moved u.below v.below s.0.below },
@@ -68,7 +68,7 @@ module _ {A B C : Type 0} (f : A → B) (h : B → C) where
   units_moved [] (v ∷ vs) s = absurd s
   units_moved (u ∷ us) [] s = absurd s
 
-partial_was : {A B : Type 0} (f : A → B) (k : Kind A) → IsPartial (kind_map f k) → IsPartial k
+pub partial_was : {A B : Type 0} (f : A → B) (k : Kind A) → IsPartial (kind_map f k) → IsPartial k
 partial_was f Compile h = h
 partial_was f (OfType s m) h = h
 partial_was f Partial h = h
@@ -92,7 +92,7 @@ module _ (scope : TopScope) (docs : List (Doc ℕ)) (rule : Rule) (placed : Each
   all_once : NoneTwice (units_keys (all_units r.move r.units r.files))
   all_once = once scope docs rule placed is choice input file doc nth
 
-  own_one : (x y : EntryName) → In x (units_keys outs) → In y (units_keys outs) → (places r).place x ≡ (places r).place y → x ≡ y
+  pub own_one : (x y : EntryName) → In x (units_keys outs) → In y (units_keys outs) → (places r).place x ≡ (places r).place y → x ≡ y
   own_one x y a b e =
       let stands = numbering_stands same_spot spots_same (files_out r) (run_once r all_once) (file_out r file) (file_there r file is_there) (fitted_fixed r file) in
       place_one (places r) (fitted r file) stands x y (subst (In x) (sym (fitted_names r file)) a) (subst (In y) (sym (fitted_names r file)) b) e

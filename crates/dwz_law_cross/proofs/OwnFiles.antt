@@ -1,24 +1,30 @@
 -- What stands after in place of a file that imports nothing from the common file: the file's own units.
-use Rattle.std.proofs.Common.{◌≡◌, ℕ, ◌&&◌, ◌==◌, Bool, true, false, List, ◌++◌, sym, ap, subst, ◌∙◌, arith, inl, inr, eq-eqb}
+use Rattle.std.proofs.Common.{refl, ◌≡◌, ℕ, ◌&&◌, ◌==◌, Bool, true, false, List, ◌++◌, sym, ap, subst, ◌∙◌, arith, inl, inr, eq-eqb, eqb-true}
 use Rattle.std.specs.List.{list_any}
+use Rattle.std.proofs.lemmas.Bool.{and_parts}
 use Rattle.dwz_model.specs.Lists.{Each, In, Nth}
 use Rattle.dwz_model.proofs.ListFacts.{in_cases, in_left, in_right}
-use Rattle.dwz_model.proofs.Members.{any_false, any_true, nth_in, nth_one}
+use Rattle.dwz_model.proofs.Members.{any_false, any_from, any_true, in_nth, nth_in, nth_one}
 use Rattle.dwz_def_reading.specs.Documents.{Doc, DwUnit}
 use Rattle.dwz_def_tops.specs.Alike.{IsAlike, TopScope}
 use Rattle.dwz_def_tops.specs.Seen.{Closed}
-use Rattle.dwz_def_tops.specs.Spots.{EntryName, FileUnit, PartialOf, file_numbers, units_of}
-use Rattle.dwz_def_plan.specs.Homes.{Common, Home, IsChoice, Local, Rule, file_of, same_home}
-use Rattle.dwz_def_plan.specs.Moves.{Move, plan}
-use Rattle.dwz_def_plan.specs.Plan.{PartialUnit}
-use Rattle.dwz_def_plan.proofs.HomeLemmas.{file_at}
+use Rattle.dwz_def_tops.specs.Spots.{EntryName, FileUnit, PartialOf, Top, Within, file_numbers, name_list, tops_of, units_of}
+use Rattle.dwz_def_plan.specs.Homes.{Common, Home, IsChoice, Local, Rule, file_of, is_home, moves, same_home}
+use Rattle.dwz_def_plan.specs.IsPlan.{Has, OfTop}
+use Rattle.dwz_def_plan.specs.Moves.{Move, image_in, plan}
+use Rattle.dwz_def_plan.specs.Plan.{PartialUnit, stand_in}
+use Rattle.dwz_def_plan.proofs.HomeLemmas.{file_at, file_of_top}
+use Rattle.dwz_def_plan.proofs.PartRows.{part_is as part_row_is}
+use Rattle.dwz_def_plan.proofs.UserLemmas.{move_stand, stay_fixed}
 use Rattle.dwz_def_plan.proofs.PlanLemmas.{home_own}
-use Rattle.dwz_def_images.specs.After.{AreAfterOf, ArePlaced, IsOfFile}
-use Rattle.dwz_def_images.specs.Units.{common_units, kept_unit, kept_units, out_units, partial_unit, partial_units}
+use Rattle.dwz_def_images.specs.After.{AreAfterOf, AreOld, ArePlaced, IsOfFile}
+use Rattle.dwz_def_images.specs.Held.{IsHeld}
+use Rattle.dwz_def_images.specs.Units.{changes, common_units, kept_unit, kept_units, out_units, partial_unit, partial_units}
 use Rattle.dwz_def_images.proofs.FileLemmas.{replaced}
 use Rattle.dwz_def_images.proofs.FileOuts.{file_outs}
+use Rattle.dwz_def_images.proofs.HeldLemmas.{row_found}
 use Rattle.dwz_def_readback.specs.Files.{imports_common}
-use Rattle.dwz_def_readback.proofs.HomeLemmas.{parts_from}
+use Rattle.dwz_def_readback.proofs.HomeLemmas.{part_is, parts_from}
 use Rattle.dwz_def_readback.proofs.WithinLemmas.{closed_at, kept_to}
 use Rattle.dwz_law_cross.proofs.OwnRefs.{refs_there}
 
@@ -71,3 +77,51 @@ own_closed scope docs rule placed is choice file imports =
     let m = plan rule (units_of docs) (file_numbers 0 docs) in
     λ e a k there attr ref. refs_there scope (units_of docs) rule is choice (file_numbers 0 docs) whole.old whole.held file (out_units m (units_of docs) file)
     (own_after (units_of docs) rule (file_numbers 0 docs) file imports) (closed_at file 0 0 0 docs placed) e a k there attr ref
+
+-- ---- a file of which nothing moves imports nothing
+
+abbrev number_of : EntryName → ℕ
+number_of (Within t path) = t
+number_of _ = 0
+
+-- a unit that uses a partial unit has a top that moves
+used_moves : (scope : TopScope) (units : List (FileUnit EntryName)) (rule : Rule) → IsAlike scope units rule.alike → IsChoice units rule → (files : List ℕ) → AreOld units → IsHeld units (plan rule units files)
+    → (n : ℕ) (part : PartialUnit) → Nth 0 (plan rule units files).parts n part → (i : ℕ) → In i part.users → (t : Top) × In t (tops_of units) × (t.unit ≡ i) × (moves rule units t.number ≡ true)
+used_moves scope units rule is choice files old held n part nth i user =
+    let p = part_is scope units rule is choice files n part nth in
+    let s = p.some.0 in
+    let b = (p.tops s).0 p.some.1 in
+    let has = subst (Has (name_list s) (OfTop s)) (sym (row_found rule units files n part nth)) (((part_row_is n part).tops_are (name_list s) s).1 (p.some.1, refl)) in
+    let like = held.used n part nth i user (name_list s) s has in
+    let t = like.top in
+    let moved : moves rule units s.number ≡ true = ap is_home b.home ∙ p.moves in
+    let f = image_in (plan rule units files) in
+    let images : stand_in rule units t.number ≡ stand_in rule units s.number =
+    ap number_of (sym (ap f (old.tops_named t like.there).0) ∙ like.at ∙ ap f (old.tops_named s b.there).0) in
+    let stands : stand_in rule units s.number ≡ s.number = move_stand units rule s.number moved ∙ b.rep in
+    (t, like.there, like.unit_is, by t.number s.number images stands moved (moves rule units t.number) refl)
+  where
+    by : (x y : ℕ) → stand_in rule units x ≡ stand_in rule units y → stand_in rule units y ≡ y → moves rule units y ≡ true → (q : Bool) → moves rule units x ≡ q → moves rule units x ≡ true
+    by x y images stands moved true e = e
+    by x y images stands moved false e =
+        (let same : x ≡ y = sym (stay_fixed units rule x e) ∙ images ∙ stands in absurd (let z : false ≡ true = sym e ∙ ap (moves rule units) same ∙ moved in cc))
+
+pub stays_alone : (scope : TopScope) (units : List (FileUnit EntryName)) (rule : Rule) → IsAlike scope units rule.alike → IsChoice units rule → (files : List ℕ) → AreOld units
+    → IsHeld units (plan rule units files) → (file : ℕ) → changes (plan rule units files) units file ≡ false → imports_common (plan rule units files) units file ≡ false
+unfolding imports_common changes
+stays_alone scope units rule is choice files old held file still = by (imports_common m units file) refl where
+  m : Move
+  m = plan rule units files
+
+  by : (b : Bool) → imports_common m units file ≡ b → b ≡ false
+  by false e = refl
+  by true e =
+      let o = any_from (λ (p : PartialUnit). same_home p.home Common && list_any (λ j. file_of units j == file) p.users) m.parts e in
+      let users = (and_parts (same_home o.one.home Common) (list_any (λ j. file_of units j == file) o.one.users) o.passes).1 in
+      let u = any_from (λ j. file_of units j == file) o.one.users users in
+      let of_file : file_of units u.one ≡ file = eqb-true (file_of units u.one) file u.passes in
+      let n = in_nth 0 m.parts o.one o.there in
+      let t = used_moves scope units rule is choice files old held n.number o.one n.nth u.one u.there in
+      let own : t.0.file ≡ file = sym (file_of_top units t.0 t.1) ∙ ap (file_of units) t.2 ∙ of_file in
+      let one : (t.0.file == file && m.gone t.0.number) ≡ true = ap (λ (b : Bool). b && m.gone t.0.number) (eq-eqb t.0.file file own) ∙ ap (λ (b : Bool). true && b) t.3 in
+      absurd (let z : true ≡ false = sym (any_true (λ (w : Top). w.file == file && m.gone w.number) t.0 (tops_of units) t.1 one) ∙ still in cc)

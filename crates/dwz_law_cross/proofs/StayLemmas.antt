@@ -44,7 +44,7 @@ module _ {A B : Type 0} (f : A → B) where
       ap (λ (w : List B). f e.at ∷ w)
       (ap (λ (w : List B). w ++ keys (entries_map f t)) (keys_mapped s) ∙ ap (λ (w : List B). map f (keys s) ++ w) (keys_mapped t) ∙ sym (map-append f (keys s) (keys t)))
 
-  units_mapped : (units : List (DwUnit A)) → units_keys (map (unit_map f) units) ≡ map f (units_keys units)
+  pub units_mapped : (units : List (DwUnit A)) → units_keys (map (unit_map f) units) ≡ map f (units_keys units)
   unfolding units_keys unit_keys
   units_mapped [] = refl
   units_mapped (u ∷ units) =

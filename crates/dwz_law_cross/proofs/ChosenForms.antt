@@ -19,7 +19,7 @@ use Rattle.dwz_def_encoding.proofs.Places.{IsSame}
 
 -- ---- forms by their classes
 
-told : (test : ℕ → Class → Bool) (rows : List ClassRow) (form : ℕ) → list_all (λ r. test r.form r.class) rows ≡ true → (class_in rows form ≡ Unread) ⊎ (test form (class_in rows form) ≡ true)
+pub told : (test : ℕ → Class → Bool) (rows : List ClassRow) (form : ℕ) → list_all (λ r. test r.form r.class) rows ≡ true → (class_in rows form ≡ Unread) ⊎ (test form (class_in rows form) ≡ true)
 unfolding class_in
 told test [] form e = inl refl
 told test (r ∷ rows) form e =

@@ -20,3 +20,4 @@ pub mod AllStand
 pub mod OwnRefs
 pub mod OwnFiles
 pub mod AloneLemmas
+pub mod ByItself

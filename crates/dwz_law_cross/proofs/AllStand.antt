@@ -28,11 +28,12 @@ use Rattle.dwz_def_encoding.specs.Fitting.{EachAttr, depth}
 use Rattle.dwz_def_encoding.specs.Meant.{all_entry_keys}
 use Rattle.dwz_def_encoding.specs.Placing.{texts_bytes, texts_of, units_with}
 use Rattle.dwz_def_encoding.specs.Writing.{tables_of}
+use Rattle.dwz_def_encoding.proofs.ChosenNames.{all_seen_key}
 use Rattle.dwz_def_encoding.proofs.Rising.{entries_are_keys}
 use Rattle.dwz_def_encoding.proofs.SameLemmas.{spots_same}
 use Rattle.dwz_def_readback.specs.AllFiles.{AreRead, CommonMade}
 use Rattle.dwz_def_readback.specs.Back.{CanWrite, SaysUnits, WasReadFrom}
-use Rattle.dwz_def_readback.specs.Files.{Run, common_fitted, common_forms, file_forms, fitted, fitted_by, fitted_if, formed, formed_by, places, shared, sources, texts, uses}
+use Rattle.dwz_def_readback.specs.Files.{Run, common_fitted, common_forms, file_forms, fitted, fitted_by, fitted_if, formed, formed_by, imports_common, shared_if, places, shared, sources, texts, uses}
 use Rattle.dwz_def_readback.proofs.AllLemmas.{all_placed, can_write, files_carried}
 use Rattle.dwz_def_readback.proofs.NameLemmas.{common_entries, common_names}
 use Rattle.dwz_def_readback.proofs.ReadPlaces.{read_from}
@@ -40,9 +41,11 @@ use Rattle.dwz_def_output.specs.FilesAfter.{common_bytes, file_after}
 use Rattle.dwz_def_output.specs.Written.{CanBeWritten, common_under, rule_under, run_under, stored_of}
 use Rattle.dwz_def_output.proofs.AllMade as made
 use Rattle.dwz_law_cross.specs.ReadLaws.{AllMayStand, IsFormOfBack, IsFormOfCommon}
+use Rattle.dwz_law_cross.specs.StandLaws.{StandLaw}
 use Rattle.dwz_law_cross.proofs.ChosenForms.{IsUnbound}
 use Rattle.dwz_law_cross.proofs.Depths.{kept_deep, part_deep, units_deep, units_read}
 use Rattle.dwz_law_cross.proofs.FreeForms.{part_free}
+use Rattle.dwz_law_cross.proofs.OwnFiles.{own_closed}
 use Rattle.dwz_law_cross.proofs.StoredForms.{UnitStandsSo, renumbered_stand, stored_stand}
 use Rattle.dwz_law_cross.proofs.WrittenForms.{own_stand, shared_stand}
 use Rattle.dwz_law_cross.proofs.WrittenRaw.{common_low, common_raw, file_raw}
@@ -94,7 +97,7 @@ module _ (scope : TopScope) (name : List ℕ) (contents : List (List ℕ)) (docs
   top_read t there = (
     of_file t.file,
     (λ i u nth same. subst (λ (k : ℕ). CarriedUnit (of_file k) (bases_in u.unit) u.unit) same
-    (files_carried of_file 0 0 0 docs (λ file doc at. (was_read file doc at).carried) u (nth_in 0 (units_of docs) i u nth))),
+        (files_carried of_file 0 0 0 docs (λ file doc at. (was_read file doc at).carried) u (nth_in 0 (units_of docs) i u nth))),
   )
 
   free : (n : ℕ) (part : PartialUnit) → Nth 0 r.move.parts n part → EachAttr IsUnbound (partial_unit r.move n).below
@@ -164,3 +167,22 @@ module _ (scope : TopScope) (name : List ℕ) (contents : List (List ℕ)) (docs
         let small = low_by (common_under scope r) made_common in
         let same = file_raw r can few small (file_after name r file) file there changed (all.file file there changed) (all.file_fits file there changed) common number raw said says in
         subst (AllMayStand (IsFormOfBack sup)) (sym same) (stored_stand (IsFormOfBack sup) (places r) (tables_of [] (fitted r file)) (fitted r file) file_so)
+
+  -- one that imports nothing from the common file
+  module _ (file : ℕ) (there : In file r.files) (changed : changes r.move r.units file ≡ true) (imports : imports_common r.move r.units file ≡ false) where
+    own_refs : (e : Seen EntryName) (a : Named EntryName) (k : EntryName) → In e (all_seen (out_units r.move r.units file)) → In a e.attrs → In k a.value.refs → In k (units_keys (out_units r.move r.units file))
+    own_refs e a k e_in a_in k_in =
+        let outs = out_units r.move r.units file in
+        let o = own_closed scope docs rule (all_placed 0 docs (λ n doc nth. (was_read n doc nth).placed)) alike choice file imports e a k e_in a_in k_in in
+        subst (λ (x : EntryName). In x (units_keys outs)) o.2 (entries_are_keys outs o.0.at (all_seen_key outs o.0 o.1))
+
+    pub own_stands : (common : Option (Common Place)) (number : ℕ) (raw : List RawUnit) (said : List (DwUnit Place)) → SaysUnits common number (file_after name r file) raw said
+        → AllMayStand (IsFormOfBack false) raw
+    own_stands = file_stands false file there changed (λ e. ap (λ (b : Bool). shared_if b (texts r)) imports) (λ e. own_refs)
+
+pub stand_so : StandLaw
+stand_so scope name contents docs prunes bytes written = record {
+  common = common_stands scope name contents docs prunes bytes written;
+  file = λ file there changed. file_stands scope name contents docs prunes bytes written true file there changed (λ e. absurd (let z : true ≡ false = e in cc)) (λ e. absurd (let z : true ≡ false = e in cc));
+  alone = own_stands scope name contents docs prunes bytes written;
+}

@@ -21,3 +21,4 @@ pub mod OwnRefs
 pub mod OwnFiles
 pub mod AloneLemmas
 pub mod ByItself
+pub mod Machines

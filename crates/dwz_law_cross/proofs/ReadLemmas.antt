@@ -151,7 +151,7 @@ pub none_there : (bytes : List ℕ) → elf_fault bytes ≡ None → has_sup byt
 unfolding section_range
 none_there bytes none = ap is_some (no_range 9 (sections_in bytes) (no_sup (sections_in bytes) (name_table bytes) [] (headers_in bytes) (no_faults by_itself bytes none).kept))
 
-by_none : (common : Option (List ℕ)) (bytes : List ℕ) → has_sup bytes ≡ false → file_sup_fault common bytes ≡ None
+pub by_none : (common : Option (List ℕ)) (bytes : List ℕ) → has_sup bytes ≡ false → file_sup_fault common bytes ≡ None
 unfolding file_sup_fault
 by_none common bytes e = rw e refl
 

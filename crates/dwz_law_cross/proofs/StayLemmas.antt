@@ -126,7 +126,7 @@ module _ (scope : TopScope) (docs : List (Doc ℕ)) (rule : Rule) (placed : Each
   are : AreAt (plan_of rule docs) docs file at news (shared_units r at)
   are = record { own_shown = own_shown; common_shown = common_shown_by r at; one = one; closed = closed scope docs rule placed is choice input file doc nth; apart = once }
 
-  same : CrossSame (with_common (doc_in old doc).units (shared_units r at)) (with_common news (shared_units r at))
+  pub same : CrossSame (with_common (doc_in old doc).units (shared_units r at)) (with_common news (shared_units r at))
   same = met_with scope docs rule placed is choice input file doc nth old common old_apart at (λ k h. shared_place k (subst (In k) (common_names r) h)) news are
 
   mean : (output : ℕ → List ℕ) (common_bytes : Option (List ℕ)) → AllBack scope docs rule input output common_bytes g → MeanSame common_bytes old new common doc (input.bytes file) (input.bytes file)

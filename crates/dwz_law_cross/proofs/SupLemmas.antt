@@ -1,6 +1,6 @@
 -- Nothing is wrong with the `.debug_sup` of what was written.
 use Rattle.std.proofs.Common.{◌≡◌, ℕ, ◌+◌, ◌<◌, Bool, true, false, List, [], ◌∷◌, ◌++◌, cond, Option, Some, None, length, unwrap_or, bytes_eq, length-append, refl, ap, subst, ◌∙◌, arith, eq-eqb}
-use Rattle.std.specs.Prelude.{if◌then◌else◌}
+use Rattle.std.specs.Prelude.{◌||◌, if◌then◌else◌}
 use Rattle.std.specs.Option.{is_some}
 use Rattle.dwz_model.specs.Lists.{Each, In}
 use Rattle.dwz_bytes.specs.Spelling.{le_bytes, uleb}
@@ -86,6 +86,28 @@ if_not common bytes e = rw e refl
 of_common_file : (bytes : List ℕ) → has_sup bytes ≡ true → sum_fault is_of_common (sum_of bytes) (debug_sup bytes) (read_sup (debug_sup bytes)) ≡ None → common_sup_fault bytes ≡ None
 unfolding common_sup_fault
 of_common_file bytes e good = rw e good
+
+-- ---- which files have the section
+
+module _ (scope : TopScope) (name : List ℕ) (contents : List (List ℕ)) (docs : List (Doc ℕ)) (prunes : List Bool) (bytes : Each AreBytes contents) (written : CanBeWritten scope name contents docs
+    prunes) (file : ℕ) where
+  abbrev run : Run
+  run = run_under scope contents docs prunes
+
+  -- after, just those that import from the common file
+  pub imports_there : In file run.files → changes run.move run.units file ≡ true → has_sup (file_after name run file) ≡ imports_common run.move run.units file
+  unfolding file_after_by
+  imports_there there moves =
+      let c = made.changed scope name contents docs prunes bytes written file moves in
+      let can = files.can_be_made name run file c.doc c.read (content_bytes contents bytes file) c.some moves (made.sections_free scope name contents docs prunes bytes written file there)
+      (made.file_free scope name contents docs prunes bytes written file there) in
+      let none : has_sup (run.input.bytes file) ≡ false = none_there (run.input.bytes file) (reads_sound c.read.limits (run.input.bytes file) (run.input.raw file) c.doc c.read.reads) in
+      same_there (run.input.bytes file) (changes_after name run file) (order_of (elf_of (run.input.bytes file))) can 9
+      ∙ ap (λ (b : Bool). b || is_some (sup_after name run file)) none ∙ by (imports_common run.move run.units file)
+    where
+      by : (b : Bool) → is_some (if b then Some (sup_bytes (sup_of name run)) else None) ≡ b
+      by true = refl
+      by false = refl
 
 -- ---- the files of a run
 

@@ -3,4 +3,6 @@ pub mod BesideLaws
 pub mod CheckLaws
 pub mod ReadLaws
 pub mod SupLaws
+pub mod StandLaws
+pub mod Within
 pub mod FinishedLaws

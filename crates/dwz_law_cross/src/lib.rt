@@ -3,8 +3,8 @@
 //! What stands after of a file means what the file meant: images pair the two, at whatever places (`pair_laws`), and so at those where
 //! things are written (`beside_laws`). So the old file and the file after mean the same where both are read back, beside the common file
 //! and each with a number of its own (`check_laws`). Files that were given, and files that were written, are read by the rule of files that
-//! may have been written (`read_laws`), and nothing is wrong with the `.debug_sup` of the latter (`sup_laws`); so both are read one behind
-//! the other, and mean the same (`finished_laws`).
+//! may have been written (`read_laws`), since the entries of the latter may stand as they do (`stand_laws`) and nothing is wrong with their
+//! `.debug_sup` (`sup_laws`); so both are read one behind the other, and mean the same (`finished_laws`).
 //!
 //! No code is here. Read first: `CrossSame` of `dwz_def_cross`, then `specs/CheckLaws.antt`, `specs/ReadLaws.antt`, `specs/FinishedLaws.antt`.
 #![tactic(auto)]
@@ -14,6 +14,7 @@ mod check;
 mod finished;
 mod pairs;
 mod read;
+mod stand;
 mod sup;
 
 pub use beside::beside_laws;
@@ -21,4 +22,5 @@ pub use check::check_laws;
 pub use finished::finished_laws;
 pub use pairs::pair_laws;
 pub use read::read_laws;
+pub use stand::stand_laws;
 pub use sup::sup_laws;

@@ -25,6 +25,7 @@ ROOTS = [
     ("dwz_def_reading", "src/finished.rt", ["finished_laws", "beside_laws"]),
     ("dwz_def_reading", "src/places.rt", ["place_laws", "bound_laws"]),
     ("dwz_def_cross", "src/laws.rt", ["cross_laws"]),
+    ("dwz_def_limits", "src/laws.rt", ["limit_laws"]),
     ("dwz_def_check", "src/laws.rt", ["answer_laws"]),
     ("dwz_def_expand", "src/laws.rt", ["expand_laws", "refusal_laws"]),
     ("dwz_def_taken", "src/taken.rt", ["taken_laws", "over_laws"]),

@@ -50,7 +50,8 @@ use Rattle.dwz_law_cross.proofs.StoredForms.{UnitStandsSo, renumbered_stand, sto
 use Rattle.dwz_law_cross.proofs.WrittenForms.{own_stand, shared_stand}
 use Rattle.dwz_law_cross.proofs.WrittenRaw.{common_low, common_raw, file_raw}
 
-module _ (scope : TopScope) (name : List ℕ) (contents : List (List ℕ)) (docs : List (Doc ℕ)) (prunes : List Bool) (bytes : Each AreBytes contents) (written : CanBeWritten scope name contents docs prunes) where
+module _ (scope : TopScope) (name : List ℕ) (contents : List (List ℕ)) (docs : List (Doc ℕ)) (prunes : List Bool) (bytes : Each AreBytes contents)
+    (written : CanBeWritten scope name contents docs prunes) where
   abbrev r : Run
   r = run_under scope contents docs prunes
 
@@ -81,7 +82,8 @@ module _ (scope : TopScope) (name : List ℕ) (contents : List (List ℕ)) (docs
   low i u nth =
       units_deep 256 0 0 0 docs (λ file doc at.
       let o = are file doc at in
-      units_read (debug_abbrev (r.input.bytes file)) (given o.limits.entries) (around_of (r.input.bytes file) (r.input.raw file)) (r.input.raw file) doc.units 0 0 (debug_info (r.input.bytes file)) o.reads.spelled o.reads.means) u
+      units_read (debug_abbrev (r.input.bytes file)) (given o.limits.entries) (around_of (r.input.bytes file) (r.input.raw file)) (r.input.raw file) doc.units 0 0
+      (debug_info (r.input.bytes file)) o.reads.spelled o.reads.means) u
       (nth_in 0 (units_of docs) i u nth)
 
   low_part : (n : ℕ) (part : PartialUnit) → Nth 0 r.move.parts n part → suc (depth (partial_unit r.move n).below) ≤ 256
@@ -152,7 +154,8 @@ module _ (scope : TopScope) (name : List ℕ) (contents : List (List ℕ)) (docs
     file_so : Each (UnitStandsSo (IsFormOfBack sup)) (fitted r file)
     unfolding fitted_by formed_by
     file_so =
-        let formed_so = own_stand (units_of docs) rule r.files low_part free sup whole.old low_kept file (file_forms r file) spots_same (OfFile (sources r file)) (can.file file there changed).carried none refs in
+        let formed_so = own_stand (units_of docs) rule r.files low_part free sup whole.old low_kept file (file_forms r file) spots_same (OfFile (sources r file))
+        (can.file file there changed).carried none refs in
         by (r.input.prunes file) formed_so
       where
         by : (b : Bool) → Each (UnitStandsSo (IsFormOfBack sup)) (formed r file) → Each (UnitStandsSo (IsFormOfBack sup)) (fitted_if b r file)
@@ -170,7 +173,8 @@ module _ (scope : TopScope) (name : List ℕ) (contents : List (List ℕ)) (docs
 
   -- one that imports nothing from the common file
   module _ (file : ℕ) (there : In file r.files) (changed : changes r.move r.units file ≡ true) (imports : imports_common r.move r.units file ≡ false) where
-    own_refs : (e : Seen EntryName) (a : Named EntryName) (k : EntryName) → In e (all_seen (out_units r.move r.units file)) → In a e.attrs → In k a.value.refs → In k (units_keys (out_units r.move r.units file))
+    own_refs : (e : Seen EntryName) (a : Named EntryName) (k : EntryName) → In e (all_seen (out_units r.move r.units file)) → In a e.attrs → In k a.value.refs
+        → In k (units_keys (out_units r.move r.units file))
     own_refs e a k e_in a_in k_in =
         let outs = out_units r.move r.units file in
         let o = own_closed scope docs rule (all_placed 0 docs (λ n doc nth. (was_read n doc nth).placed)) alike choice file imports e a k e_in a_in k_in in
@@ -183,6 +187,7 @@ module _ (scope : TopScope) (name : List ℕ) (contents : List (List ℕ)) (docs
 pub stand_so : StandLaw
 stand_so scope name contents docs prunes bytes written = record {
   common = common_stands scope name contents docs prunes bytes written;
-  file = λ file there changed. file_stands scope name contents docs prunes bytes written true file there changed (λ e. absurd (let z : true ≡ false = e in cc)) (λ e. absurd (let z : true ≡ false = e in cc));
+  file = λ file there changed. file_stands scope name contents docs prunes bytes written true file there changed (λ e. absurd (let z : true ≡ false = e in cc))
+      (λ e. absurd (let z : true ≡ false = e in cc));
   alone = own_stands scope name contents docs prunes bytes written;
 }

@@ -4,12 +4,14 @@ use Rattle.std.specs.List.{list_all}
 use Rattle.std.proofs.lemmas.Bool.{eqb-true}
 use Rattle.dwz_codes.specs.Rows.{has}
 use Rattle.dwz_model.specs.Lists.{Each}
-use Rattle.dwz_def_reading.specs.Classes.{Class, OfAddress, OfBlock, OfCommonEntry, OfCommonText, OfConstant, OfExpression, OfFlag, OfIndex, OfInfoEntry, OfListIndex, OfOffset, OfSignature, OfText, OfTextBySlot, OfTextInLineStr, OfTextInStr, OfUnitEntry, Unread, class_of, class_rows, names_file, names_list}
+use Rattle.dwz_def_reading.specs.Classes.{Class, OfAddress, OfBlock, OfCommonEntry, OfCommonText, OfConstant, OfExpression, OfFlag, OfIndex, OfInfoEntry, OfListIndex, OfOffset, OfSignature}
+use Rattle.dwz_def_reading.specs.Classes.{OfText, OfTextBySlot, OfTextInLineStr, OfTextInStr, OfUnitEntry, Unread, class_of, class_rows, names_file, names_list}
 use Rattle.dwz_def_reading.specs.Documents.{Attr, DwUnit, Entries, Kind, Node, Sec, Value, only}
 use Rattle.dwz_def_reading.specs.Entries.{RawAttr, RawEntry}
 use Rattle.dwz_def_reading.specs.Finished.{around_in}
 use Rattle.dwz_def_reading.specs.Files.{sources_of}
-use Rattle.dwz_def_reading.specs.Meanings.{Around, Common, IfSo, IsFileBy, IsLocList, MeanAttrs, MeanEntries, MeanUnits, MeaningContext, MeansAs, MeansKind, MeansNode, all_places, constant_value, number_of, offset_of, scope_of, stmt_list, without_siblings}
+use Rattle.dwz_def_reading.specs.Meanings.{Around, Common, IfSo, IsFileBy, IsLocList, MeanAttrs, MeanEntries, MeanUnits, MeaningContext, MeansAs, MeansKind, MeansNode, all_places}
+use Rattle.dwz_def_reading.specs.Meanings.{constant_value, number_of, offset_of, scope_of, stmt_list, without_siblings}
 use Rattle.dwz_def_reading.specs.Places.{Place, at_file}
 use Rattle.dwz_def_reading.specs.Trees.{EachEntry, End, Entry, Forest, Position, behind, first_below}
 use Rattle.dwz_def_reading.specs.Units.{CompileUnit, PartialUnit, RawKind, RawUnit, TypeUnit, root_tag}
@@ -60,7 +62,8 @@ module _ {P : Type 0} (s : MeaningContext P) where
   file_too None number v h = h
   file_too (Some place) number v h = record { table = h.table; stands = h.stands; path = h.path; is_path = h.is_path; value = h.value }
 
-  constant_too : (b : Bool) (a : RawAttr) (v : Value P) → IfSo b (IsFileBy (stmt_list s) s (number_of a.raw) v) (v ≡ constant_value a) → IfSo b (IsFileBy (stmt_list s) t (number_of a.raw) v) (v ≡ constant_value a)
+  constant_too : (b : Bool) (a : RawAttr) (v : Value P) → IfSo b (IsFileBy (stmt_list s) s (number_of a.raw) v) (v ≡ constant_value a)
+      → IfSo b (IsFileBy (stmt_list s) t (number_of a.raw) v) (v ≡ constant_value a)
   constant_too true a v h = file_too (stmt_list s) (number_of a.raw) v h
   constant_too false a v h = h
 
@@ -149,7 +152,8 @@ units_too around [] (v ∷ units) own h = absurd h
 units_too around (u ∷ raw) [] own h = absurd h
 
 -- so it is with a file
-pub by_itself : (common : Option (Common Place)) (number : ℕ) (bytes : List ℕ) (raw : List RawUnit) (units : List (DwUnit Place)) → SaysUnits common number bytes raw units → AllMayStand (IsFormOfBack false) raw
+pub by_itself : (common : Option (Common Place)) (number : ℕ) (bytes : List ℕ) (raw : List RawUnit) (units : List (DwUnit Place)) → SaysUnits common number bytes raw units
+    → AllMayStand (IsFormOfBack false) raw
     → SaysUnits None number bytes raw units
 by_itself common number bytes raw units says own = record {
   elf = says.elf;

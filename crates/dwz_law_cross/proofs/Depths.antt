@@ -12,7 +12,8 @@ use Rattle.dwz_def_reading.specs.Trees.{End, Entry, Forest, IfChildren, Position
 use Rattle.dwz_def_reading.specs.Entries.{Mode}
 use Rattle.dwz_def_reading.specs.Units.{RawUnit, SpellsUnit, SpellsUnits, entry_count}
 use Rattle.dwz_def_tops.specs.Spaces.{IsUnder, tops_under}
-use Rattle.dwz_def_tops.specs.Spots.{ASpace, ATop, EntryName, FileUnit, Nothing, Row, SpaceName, Top, in_file, name_list, name_of, named, named_files, row_tops, rows_of_root, spot_in, spots_from, tops_of}
+use Rattle.dwz_def_tops.specs.Spots.{ASpace, ATop, EntryName, FileUnit, Nothing, Row, SpaceName, Top, in_file, name_list, name_of, named, named_files, row_tops, rows_of_root, spot_in}
+use Rattle.dwz_def_tops.specs.Spots.{spots_from, tops_of}
 use Rattle.dwz_def_tops.proofs.RowLemmas.{RowIs, unit_row}
 use Rattle.dwz_def_tops.proofs.Tops.{unit_of}
 use Rattle.dwz_def_plan.specs.IsPlan.{Has, IsPart, OfSpace, OfTop, row}
@@ -80,7 +81,8 @@ module _ (file unit : ℕ) (tongue : Option ℤ) where
   unfolding row_tops depth
   top_deep spaces n Nothing g h t is = absurd is
   top_deep spaces n (ATop u next) (Entry e f g) h t (inl x) =
-      subst (λ (w : Top). length (name_list w) + suc (depth w.below) ≤ length spaces + max (suc (depth f)) (depth g)) (h.1 ∙ x) (let len = length-map spaces (λ (s : SpaceName). s.text) in omega (arith, len))
+      subst (λ (w : Top). length (name_list w) + suc (depth w.below) ≤ length spaces + max (suc (depth f)) (depth g)) (h.1 ∙ x)
+      (let len = length-map spaces (λ (s : SpaceName). s.text) in omega (arith, len))
   top_deep spaces n (ATop u next) (Entry e f g) h t (inr r) = (let rest = top_deep spaces (suc n) next g h.2 t r in omega (arith, rest))
   top_deep spaces n (ASpace d inner next) (Entry e f g) h t is = elim (in_cases t (row_tops inner) (row_tops next) is) [
     | inl a ↦
@@ -165,7 +167,8 @@ part_deep units rule files most low some held n part nth =
 
 -- ---- units before
 
-named_deep : (file : ℕ) (f : ℕ → EntryName) (most : ℕ) (some : List (DwUnit ℕ)) → Each (λ v. suc (depth v.below) ≤ most) some → (u : FileUnit EntryName) → In u (map (in_file file) (map (unit_map f) some))
+named_deep : (file : ℕ) (f : ℕ → EntryName) (most : ℕ) (some : List (DwUnit ℕ)) → Each (λ v. suc (depth v.below) ≤ most) some → (u : FileUnit EntryName)
+    → In u (map (in_file file) (map (unit_map f) some))
     → suc (depth u.unit.below) ≤ most
 named_deep file f most [] low u there = absurd there
 named_deep file f most (v ∷ some) low u (inl e) =
@@ -191,7 +194,8 @@ module _ {P : Type 0} (c : UnitContext) (s : MeaningContext P) where
   if_deep false f End at bytes Spelled deep low is means = omega (arith, low)
   if_deep false f (Entry d k l) at bytes Spelled deep low is means = absurd (subst (λ (h : Forest RawEntry). MeanEntries s h (Entry d k l)) is.0 means)
 
-  forest_deep : (f : Forest RawEntry) (g : Entries P) (p : Position) (start : ℕ) (bytes : List ℕ) → SpellsForest (λ e. e.children) (SpellsFront c) f p start bytes → MeanEntries s f g → p.depth ≤ suc c.mode.depth
+  forest_deep : (f : Forest RawEntry) (g : Entries P) (p : Position) (start : ℕ) (bytes : List ℕ) → SpellsForest (λ e. e.children) (SpellsFront c) f p start bytes → MeanEntries s f g
+      → p.depth ≤ suc c.mode.depth
       → p.depth + depth g ≤ suc c.mode.depth
   unfolding depth
   forest_deep End End p start bytes is means low = omega (arith, low)
@@ -199,7 +203,8 @@ module _ {P : Type 0} (c : UnitContext) (s : MeaningContext P) where
   forest_deep (Entry e f h) End p start bytes is means low = absurd means
   forest_deep (Entry e f h) (Entry d k l) p start bytes is means low =
       let stands = is.first.stands.depth in
-      let own = if_deep e.children f k (p.depth + 1) is.second_bytes _ (λ q m. forest_deep f k (first_below p) _ is.second_bytes q m (omega (arith, stands))) (omega (arith, stands)) is.second means.1 in
+      let own = if_deep e.children f k (p.depth + 1) is.second_bytes _ (λ q m. forest_deep f k (first_below p) _ is.second_bytes q m (omega (arith, stands)))
+      (omega (arith, stands)) is.second means.1 in
       let rest = forest_deep h l (behind p f) _ is.third_bytes is.third means.2 low in
       omega (arith, own, rest)
 
@@ -213,7 +218,8 @@ unit_read abbrevs m around before u v start bytes is means =
     (λ q h. forest_deep c (scope_of around u) u.below v.below (first_below (root_position before)) _ t.second_bytes q h (omega (arith, root))) (omega (arith, root)) t.second means in
     subst (λ (n : Mode). suc (depth v.below) ≤ n.depth) is.is_context.same_mode (omega (arith, all))
 
-pub units_read : {P : Type 0} (abbrevs : List ℕ) (m : Mode) (around : Around P) (raw : List RawUnit) (units : List (DwUnit P)) (before start : ℕ) (bytes : List ℕ) → SpellsUnits abbrevs m before raw start bytes
+pub units_read : {P : Type 0} (abbrevs : List ℕ) (m : Mode) (around : Around P) (raw : List RawUnit) (units : List (DwUnit P)) (before start : ℕ) (bytes : List ℕ)
+    → SpellsUnits abbrevs m before raw start bytes
     → MeanUnits around raw units → Each (λ v. suc (depth v.below) ≤ m.depth) units
 units_read abbrevs m around [] [] before start bytes is means = tt
 units_read abbrevs m around [] (v ∷ units) before start bytes is means = absurd means

@@ -33,6 +33,7 @@ use Rattle.dwz_def_output.specs.FilesAfter.{bytes_after, bytes_by, common_bytes,
 use Rattle.dwz_def_output.specs.Written.{CanBeWritten, common_under, rule_under, run_under, stored_of}
 use Rattle.dwz_def_output.proofs.AllMade.{are, read_back}
 use Rattle.dwz_def_cross.specs.CrossSame.{CrossSame}
+use Rattle.dwz_def_limits.specs.Within.{AreWithinLimits, StoresUnits}
 use Rattle.dwz_law_cross.specs.BesideLaws.{new_units, shared_units}
 use Rattle.dwz_law_cross.specs.CheckLaws.{SaySame}
 use Rattle.dwz_law_cross.specs.FinishedLaws.{AloneLaw, FinishedLaw, NamesLaw, SaidSame, SaidSameAlone}
@@ -40,7 +41,6 @@ use Rattle.dwz_law_cross.specs.PairLaws.{with_common}
 use Rattle.dwz_law_cross.specs.StandLaws.{StandSo}
 use Rattle.dwz_law_cross.specs.SupLaws.{AreGood}
 use Rattle.dwz_law_cross.specs.ReadLaws.{HasRoom, doc_in}
-use Rattle.dwz_law_cross.specs.Within.{AreWithinLimits, StoresUnits}
 use Rattle.dwz_law_cross.proofs.AllStand as stand
 use Rattle.dwz_law_cross.proofs.AloneLemmas.{moved_alone, still_alone}
 use Rattle.dwz_law_cross.proofs.ByItself.{by_itself}
@@ -88,7 +88,8 @@ record ThreeRooms (a b c : List ℕ) (x y z : List RawUnit) : Type 0 where
   first : HasRoom no_files_before a x
   more : TwoRooms (limits_after no_files_before a x) b c y z
 
-three_rooms : (a b c : List ℕ) (x y z : List RawUnit) → AreWithinLimits (a ∷ b ∷ c ∷ []) → StoresUnits a x → StoresUnits b y → StoresUnits c z → machine_of b ≡ machine_of a → machine_of c ≡ machine_of b
+three_rooms : (a b c : List ℕ) (x y z : List RawUnit) → AreWithinLimits (a ∷ b ∷ c ∷ []) → StoresUnits a x → StoresUnits b y → StoresUnits c z → machine_of b ≡ machine_of a
+    → machine_of c ≡ machine_of b
     → ThreeRooms a b c x y z
 three_rooms a b c x y z within p q s same also =
     let each = within.each in
@@ -196,7 +197,8 @@ module _ (scope : TopScope) (name : List ℕ) (contents : List (List ℕ)) (docs
 
         common_read_so : HasRoom no_files_before common raw → ReadsBy (rule_of_common 2) no_files_before common raw common_doc
         common_read_so room =
-            common_reads 2 no_files_before common raw shared says room good.common (raws_partial (around_in None 2 common raw) raw shared says.means partial) (stands.common is_common None 2 raw shared says)
+            common_reads 2 no_files_before common raw shared says room good.common (raws_partial (around_in None 2 common raw) raw shared says.means partial)
+            (stands.common is_common None 2 raw shared says)
 
         moved_with : changes r.move r.units file ≡ true → (same : SaySame (Some (given_by 2 common raw)) shared 0 1 doc was now) → AreWithinLimits (common ∷ was ∷ now ∷ []) → With now
         moved_with changed same within =
@@ -247,7 +249,8 @@ module _ (scope : TopScope) (name : List ℕ) (contents : List (List ℕ)) (docs
 
       moved : changes r.move r.units file ≡ true → AreWithinLimits (common ∷ was ∷ now ∷ []) → With now
       moved changed within =
-          let m = checks scope docs (rule_under scope docs) placed alike choice (stored_of contents prunes) (file_after name r) (Some common) back_with file doc nth changed 0 1 2 (λ e. cc) (λ e. cc) in
+          let m = checks scope docs (rule_under scope docs) placed alike choice (stored_of contents prunes) (file_after name r) (Some common) back_with file doc nth changed 0 1 2 (λ e. cc)
+          (λ e. cc) in
           moved_with m.0 m.1 m.2 m.3 changed m.4 within
 
       stayed : changes r.move r.units file ≡ false → AreWithinLimits (common ∷ was ∷ was ∷ []) → With was
@@ -304,7 +307,8 @@ module _ (scope : TopScope) (name : List ℕ) (contents : List (List ℕ)) (docs
               old = doc_in 0 doc;
               new = new_doc;
               are = refl;
-              same = moved_alone scope docs (rule_under scope docs) placed alike choice (stored_of contents prunes) file doc nth imports 0 1 at (λ k h. ap to (sym (back.placing.written file there changed k h)));
+              same = moved_alone scope docs (rule_under scope docs) placed alike choice (stored_of contents prunes) file doc nth imports 0 1 at
+                  (λ k h. ap to (sym (back.placing.written file there changed k h)));
             },
           )
 
@@ -349,4 +353,5 @@ pub finished_alone : AloneLaw
 finished_alone scope name contents docs prunes bytes written file doc nth imports within = without_it scope name contents docs prunes bytes written file doc nth imports within
 
 pub names_sup : NamesLaw
-names_sup scope name contents docs prunes bytes written file doc nth = (no_sup scope name contents docs prunes bytes written file doc nth, names_it scope name contents docs prunes bytes written file doc nth)
+names_sup scope name contents docs prunes bytes written file doc nth =
+    (no_sup scope name contents docs prunes bytes written file doc nth, names_it scope name contents docs prunes bytes written file doc nth)

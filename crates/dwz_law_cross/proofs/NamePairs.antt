@@ -100,14 +100,16 @@ module _ (scope : TopScope) (docs : List (Doc ℕ)) (rule : Rule) (placed : Each
   abbrev Same : DwUnit EntryName → DwUnit EntryName → Type 0
   Same = UnitSame (image_in m) outs
 
-  kept_whole : (s : ℕ) (u : FileUnit EntryName) → Nth 0 units s u → (rest : List (DwUnit EntryName)) → unless_partial (kept_unit m units s u).kind (kept_unit m units s u) rest ≡ kept_unit m units s u ∷ rest
+  kept_whole : (s : ℕ) (u : FileUnit EntryName) → Nth 0 units s u → (rest : List (DwUnit EntryName))
+      → unless_partial (kept_unit m units s u).kind (kept_unit m units s u) rest ≡ kept_unit m units s u ∷ rest
   kept_whole s u nth rest = by u.unit.kind refl where
     by : (k : Kind EntryName) → u.unit.kind ≡ k → unless_partial (kind_map (image_in m) k) (kept_unit m units s u) rest ≡ kept_unit m units s u ∷ rest
     by Compile e = refl
     by (OfType a b) e = refl
     by Partial e = absurd (subst (λ (k : Kind EntryName). IsNamedBelow s k (rows_of_root units s) u.unit.below) e (old.units_named s u nth).below)
 
-  two_from : (s : ℕ) (some : List (FileUnit EntryName)) → ((i : ℕ) (u : FileUnit EntryName) → Nth s some i u → Nth 0 units i u) → EachTwo Same (units_of_file file some) (whole_units (kept_units m units file s some))
+  two_from : (s : ℕ) (some : List (FileUnit EntryName)) → ((i : ℕ) (u : FileUnit EntryName) → Nth s some i u → Nth 0 units i u)
+      → EachTwo Same (units_of_file file some) (whole_units (kept_units m units file s some))
   unfolding units_of_file kept_units whole_units
   two_from s [] into = tt
   two_from s (u ∷ some) into = by (u.file == file) refl (two_from (suc s) some (λ i w nth. into i w (inr nth))) where

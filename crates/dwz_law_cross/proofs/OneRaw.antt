@@ -77,6 +77,7 @@ module _ (abbrevs : List ℕ) (m k : Mode) (is : IsOfAll m) where
   roomier units bytes h = units_again abbrevs m (with_room m k) units 0 0 bytes h (units_may units 0 0 bytes h)
 
 -- units that such a mode spells are the units that are spelled with more room than it has
-pub one_raw : (abbrevs : List ℕ) (m k : Mode) → IsOfAll m → (units others : List RawUnit) (bytes : List ℕ) → SpellsUnits abbrevs m 0 units 0 bytes → SpellsUnits abbrevs (with_room m k) 0 others 0 bytes
+pub one_raw : (abbrevs : List ℕ) (m k : Mode) → IsOfAll m → (units others : List RawUnit) (bytes : List ℕ) → SpellsUnits abbrevs m 0 units 0 bytes
+    → SpellsUnits abbrevs (with_room m k) 0 others 0 bytes
     → units ≡ others
 one_raw abbrevs m k is units others bytes h more = units_one abbrevs (with_room m k) 0 0 units others bytes (roomier abbrevs m k is units bytes h) more

@@ -29,8 +29,8 @@ use Rattle.dwz_def_readback.proofs.WithinLemmas.{closed_at, kept_to}
 use Rattle.dwz_law_cross.proofs.OwnRefs.{refs_there}
 
 -- none of its units is a user of what is in the common file
-pub no_user : (m : Move) (units : List (FileUnit EntryName)) (file : ℕ) → imports_common m units file ≡ false → (n : ℕ) (part : PartialUnit) → Nth 0 m.parts n part → part.home ≡ Common → (i : ℕ) → In i part.users
-    → file_of units i ≡ file → ⊥
+pub no_user : (m : Move) (units : List (FileUnit EntryName)) (file : ℕ) → imports_common m units file ≡ false → (n : ℕ) (part : PartialUnit) → Nth 0 m.parts n part → part.home ≡ Common
+    → (i : ℕ) → In i part.users → file_of units i ≡ file → ⊥
 unfolding imports_common
 no_user m units file imports n part nth home i user of_file =
     let none = any_false (λ (p : PartialUnit). same_home p.home Common && list_any (λ j. file_of units j == file) p.users) part m.parts (nth_in 0 m.parts n part nth) imports in
@@ -71,7 +71,8 @@ module _ (units : List (FileUnit EntryName)) (rule : Rule) (files : List ℕ) (f
 
 -- and their references name entries of them
 pub own_closed : (scope : TopScope) (docs : List (Doc ℕ)) (rule : Rule) → Each (λ doc. ArePlaced doc.units) docs → IsAlike scope (units_of docs) rule.alike → IsChoice (units_of docs) rule
-    → (file : ℕ) → imports_common (plan rule (units_of docs) (file_numbers 0 docs)) (units_of docs) file ≡ false → Closed (out_units (plan rule (units_of docs) (file_numbers 0 docs)) (units_of docs) file)
+    → (file : ℕ) → imports_common (plan rule (units_of docs) (file_numbers 0 docs)) (units_of docs) file ≡ false
+    → Closed (out_units (plan rule (units_of docs) (file_numbers 0 docs)) (units_of docs) file)
 own_closed scope docs rule placed is choice file imports =
     let whole = replaced scope docs rule placed is choice in
     let m = plan rule (units_of docs) (file_numbers 0 docs) in
@@ -85,7 +86,8 @@ number_of (Within t path) = t
 number_of _ = 0
 
 -- a unit that uses a partial unit has a top that moves
-used_moves : (scope : TopScope) (units : List (FileUnit EntryName)) (rule : Rule) → IsAlike scope units rule.alike → IsChoice units rule → (files : List ℕ) → AreOld units → IsHeld units (plan rule units files)
+used_moves : (scope : TopScope) (units : List (FileUnit EntryName)) (rule : Rule) → IsAlike scope units rule.alike → IsChoice units rule → (files : List ℕ) → AreOld units
+    → IsHeld units (plan rule units files)
     → (n : ℕ) (part : PartialUnit) → Nth 0 (plan rule units files).parts n part → (i : ℕ) → In i part.users → (t : Top) × In t (tops_of units) × (t.unit ≡ i) × (moves rule units t.number ≡ true)
 used_moves scope units rule is choice files old held n part nth i user =
     let p = part_is scope units rule is choice files n part nth in

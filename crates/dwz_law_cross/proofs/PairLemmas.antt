@@ -68,7 +68,8 @@ one_unit [] h a b i j e = absurd i
 one_unit (u ∷ units) h a b (inl x) (inl y) e = sym x ∙ y
 one_unit (u ∷ units) h a b (inr x) (inr y) e = one_unit units (none_right (unit_keys u) (units_keys units) h) a b x y e
 one_unit {Q} (u ∷ units) h a b (inl x) (inr y) e =
-    absurd (none_both (unit_keys u) (units_keys units) h u.root.at (inr (inl refl)) (subst (λ (w : Q). In w (units_keys units)) (sym e ∙ sym (ap (λ (w : DwUnit Q). w.root.at) x)) (root_key units b y)))
+    absurd (none_both (unit_keys u) (units_keys units) h u.root.at (inr (inl refl))
+    (subst (λ (w : Q). In w (units_keys units)) (sym e ∙ sym (ap (λ (w : DwUnit Q). w.root.at) x)) (root_key units b y)))
 one_unit {Q} (u ∷ units) h a b (inr x) (inl y) e =
     absurd (none_both (unit_keys u) (units_keys units) h u.root.at (inr (inl refl)) (subst (λ (w : Q). In w (units_keys units)) (e ∙ sym (ap (λ (w : DwUnit Q). w.root.at) y)) (root_key units a x)))
 
@@ -108,7 +109,8 @@ module _ {A K P : Type 0} (h : A → K) (f : K → K) (g : K → P) (outs : List
   unit_pair u n o p first same last there =
       let s = units_placed g f (n ∷ []) outs placed shown closed one (λ x is. elim is [ inl e ↦ (o, subst (λ (w : DwUnit K). UnitSame f outs w o) e same) | inr r ↦ absurd r ]) n (inl refl) in
       let v : s.0 ≡ p = one_unit placed apart s.0 p s.1.there there (s.1.root.at ∙ ap g (sym same.root.at) ∙ sym last.root.at) in
-      let t = units_named h (λ x. g (f x)) (u ∷ []) (n ∷ []) placed (first, tt) (λ x is. elim is [ inl e ↦ (s.0, subst (λ (w : DwUnit K). UnitSame (λ y. g (f y)) placed w s.0) e s.1) | inr r ↦ absurd r ]) u (inl refl) in
+      let t = units_named h (λ x. g (f x)) (u ∷ []) (n ∷ []) placed (first, tt)
+      (λ x is. elim is [ inl e ↦ (s.0, subst (λ (w : DwUnit K). UnitSame (λ y. g (f y)) placed w s.0) e s.1) | inr r ↦ absurd r ]) u (inl refl) in
       let w : t.0 ≡ p = one_unit placed apart t.0 p t.1.there there (t.1.root.at ∙ ap (λ x. g (f x)) (sym first.root.at) ∙ ap g (sym same.root.at) ∙ sym last.root.at) in
       subst (λ (x : DwUnit P). UnitSame F placed u x) w t.1
 
@@ -202,7 +204,8 @@ module _ (scope : TopScope) (docs : List (Doc ℕ)) (rule : Rule) (placed : Each
 -- such as those of the file and of the common file
 pub meets : (scope : TopScope) (docs : List (Doc ℕ)) (rule : Rule) → Each (λ doc. ArePlaced doc.units) docs → IsAlike scope (units_of docs) rule.alike → IsChoice (units_of docs) rule
     → (file : ℕ) (g : EntryName → Place) (own common : List (DwUnit Place)) → AreAt (plan_of rule docs) docs file g own common
-    → {A : Type 0} (h : A → EntryName) (v : WithCommon A) → UnitsShown h v.own (units_of_file file (units_of docs)) → ((u : DwUnit A) → In u v.own → IsPartial u.kind → ⊥) → Closed v.own → HaveMains v.own
+    → {A : Type 0} (h : A → EntryName) (v : WithCommon A) → UnitsShown h v.own (units_of_file file (units_of docs)) → ((u : DwUnit A) → In u v.own → IsPartial u.kind → ⊥) → Closed v.own
+    → HaveMains v.own
     → ((u : DwUnit A) (d : Seen A) → In u v.common → In d (all_seen v.own) → d.at ≡ u.root.at → ⊥) → CrossSame v (with_common own common)
 meets scope docs rule placed is choice file g own common at h v names kinds closed mains apart_from =
     let m = plan_of rule docs in
@@ -212,4 +215,5 @@ meets scope docs rule placed is choice file g own common at h v names kinds clos
 -- a file of documents, at places of it
 pub named_at : (docs : List (Doc ℕ)) (file : ℕ) (doc : Doc ℕ) → Nth 0 docs file doc → UnitsShown (λ p. name_of_place docs (at_file file p)) doc.units (units_of_file file (units_of docs))
 named_at docs file doc nth =
-    subst (λ (w : List (DwUnit EntryName)). UnitsShown (λ p. name_of_place docs (at_file file p)) doc.units w) (sym (doc_named file 0 0 0 docs doc nth)) (map_shown (λ p. name_of_place docs (at_file file p)) doc.units)
+    subst (λ (w : List (DwUnit EntryName)). UnitsShown (λ p. name_of_place docs (at_file file p)) doc.units w) (sym (doc_named file 0 0 0 docs doc nth))
+    (map_shown (λ p. name_of_place docs (at_file file p)) doc.units)

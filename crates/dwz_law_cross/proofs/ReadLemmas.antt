@@ -123,7 +123,8 @@ abbrev AreWhole : List RawUnit → Type 0
 AreWhole units = Each (λ u. IsWhole u.kind) units
 
 module _ (abbrevs : List ℕ) (sup : Bool) (before_room room : ℕ) where
-  unit_may : (before : ℕ) (u : RawUnit) (start : ℕ) (bytes : List ℕ) → SpellsUnit abbrevs (given before_room) before u start bytes → before + entry_count u ≤ room → IsWhole u.kind → UnitMay (given before_room) (of_back sup room) before u
+  unit_may : (before : ℕ) (u : RawUnit) (start : ℕ) (bytes : List ℕ) → SpellsUnit abbrevs (given before_room) before u start bytes → before + entry_count u ≤ room → IsWhole u.kind
+      → UnitMay (given before_room) (of_back sup room) before u
   unit_may before u start bytes is fits whole =
       let t = is.is_tree in
       let same = is.is_context.same_mode in

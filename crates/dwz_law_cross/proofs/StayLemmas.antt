@@ -112,7 +112,8 @@ module _ (scope : TopScope) (docs : List (Doc ℕ)) (rule : Rule) (placed : Each
   once =
       let own = (each_in (λ (d : Doc ℕ). ArePlaced d.units) doc docs placed (nth_in 0 docs file doc nth)).apart in
       let names = none_right (units_keys outs) (units_keys shared) (names_apart scope docs rule placed is choice input file doc nth) in
-      let all : (k : EntryName) → In k (units_keys shared) → In k (units_keys (outs ++ shared)) = λ k h. subst (In k) (sym (keys_joined outs shared)) (in_right k (units_keys outs) (units_keys shared) h) in
+      let all : (k : EntryName) → In k (units_keys shared) → In k (units_keys (outs ++ shared)) = λ k h. subst (In k) (sym (keys_joined outs shared))
+      (in_right k (units_keys outs) (units_keys shared) h) in
       let new_keys = units_mapped (at_file new) doc.units in
       subst NoneTwice (sym (keys_joined news (shared_units r at)))
       (none_append (units_keys news) (units_keys (shared_units r at))

@@ -57,7 +57,8 @@ module _ {K : Type 0} (Q : K → Type 0) where
   )
 
 -- of units whose entries refer so
-module _ {K : Type 0} (units : List (DwUnit K)) (Q : K → Type 0) (refs : (e : Seen K) (a : Named K) (k : K) → In e (all_seen units) → In a e.attrs → In k a.value.refs → Q k) (u : DwUnit K) (there : In u units) where
+module _ {K : Type 0} (units : List (DwUnit K)) (Q : K → Type 0) (refs : (e : Seen K) (a : Named K) (k : K) → In e (all_seen units) → In a e.attrs → In k a.value.refs → Q k) (u : DwUnit K)
+    (there : In u units) where
   root_refers : Each (Refer Q) u.root.attrs
   root_refers = attrs_refer Q u.root.attrs (λ a k a_in k_in. refs (see u.root u.below) a k (root_seen units u there) a_in k_in)
 
@@ -81,7 +82,8 @@ line_form units part (Local file) = by (first_named 0x10 (root_of units (first_u
   by (Some a) = refl
 line_form units part Stay = refl
 
-roots_line : (units : List (FileUnit EntryName)) (rule : Rule) (files : List ℕ) (n : ℕ) (part : PartialUnit) → Nth 0 (plan rule units files).parts n part → Each IsLine ((plan rule units files).roots n)
+roots_line : (units : List (FileUnit EntryName)) (rule : Rule) (files : List ℕ) (n : ℕ) (part : PartialUnit) → Nth 0 (plan rule units files).parts n part
+    → Each IsLine ((plan rule units files).roots n)
 unfolding line_attrs IsLine
 roots_line units rule files n part nth = subst (Each IsLine) (sym (ap (root_in_part units) (part_found 0 (plan rule units files).parts n n part nth (omega arith)))) (by (names_path part)) where
   by : (b : Bool) → Each IsLine (elim b as (λ _. List (Attr EntryName)) [ true ↦ line_in units part.home part.tops ∷ [] | false ↦ [] ])
@@ -90,11 +92,14 @@ roots_line units rule files n part nth = subst (Each IsLine) (sym (ap (root_in_p
 
 line_common : (x : UnitForms EntryName) (a : Attr EntryName) → IsLine a → IsFormOfCommon 0x3c true (fit_attr x a).form
 unfolding has IsLine
-line_common x a is = (let form : (fit_attr x a).form ≡ 0x17 = ap (λ (c : Chosen). c.form) (ap (λ k. fit_as k x a) (ap class_of is ∙ offset_class)) ∙ is in ap (λ (n : ℕ). has n (codes_of_common true)) form)
+line_common x a is =
+    let form : (fit_attr x a).form ≡ 0x17 = ap (λ (c : Chosen). c.form) (ap (λ k. fit_as k x a) (ap class_of is ∙ offset_class)) ∙ is in
+    ap (λ (n : ℕ). has n (codes_of_common true)) form
 
 -- ---- what is kept is no partial unit
 
-tag_whole : (f : EntryName → EntryName) (k : Kind EntryName) (i : ℕ) (u : FileUnit EntryName) (units : List (FileUnit EntryName)) → IsNamedBelow i k (rows_of_root units i) u.unit.below → tag_of (kind_map f k) ≢ 0x3c
+tag_whole : (f : EntryName → EntryName) (k : Kind EntryName) (i : ℕ) (u : FileUnit EntryName) (units : List (FileUnit EntryName)) → IsNamedBelow i k (rows_of_root units i) u.unit.below
+    → tag_of (kind_map f k) ≢ 0x3c
 tag_whole f Compile i u units named e = omega (arith, e)
 tag_whole f (OfType signature main) i u units named e = omega (arith, e)
 tag_whole f Partial i u units named e = absurd named
@@ -115,14 +120,16 @@ module _ (units : List (FileUnit EntryName)) (rule : Rule) (files : List ℕ)
     abbrev IsShared : Attr EntryName → Type 0
     IsShared a = IsUnbound a × (IsBuilt a.form × Refer (λ k. In k (units_keys (common_units m))) a)
 
-    made : (n : ℕ) (part : PartialUnit) → Nth 0 m.parts n part → CarriedUnit from (f.origin (partial_unit m n).at) (partial_unit m n) → EachAttr (Refer (λ k. In k (units_keys (common_units m)))) (partial_unit m n).below
+    made : (n : ℕ) (part : PartialUnit) → Nth 0 m.parts n part → CarriedUnit from (f.origin (partial_unit m n).at) (partial_unit m n)
+        → EachAttr (Refer (λ k. In k (units_keys (common_units m)))) (partial_unit m n).below
         → UnitStandsSo IsFormOfCommon (fit_unit shared_forms (partial_unit m n))
     made n part nth c refer =
         let v = partial_unit m n in
         let x = unit_forms shared_forms v in
         let origin = f.origin v.at in
         let built = entries_more (CarriedAttr from origin) (λ a. IsBuilt a.form) (built_of from origin) v.below (carried_attrs from origin v.below c.below) in
-        let both = join_entries (λ a. IsBuilt a.form) (Refer (λ k. In k (units_keys (common_units m)))) (λ a. IsBuilt a.form × Refer (λ k. In k (units_keys (common_units m))) a) (λ a p q. (p, q)) v.below built refer in
+        let both = join_entries (λ a. IsBuilt a.form) (Refer (λ k. In k (units_keys (common_units m)))) (λ a. IsBuilt a.form × Refer (λ k. In k (units_keys (common_units m))) a)
+        (λ a p q. (p, q)) v.below built refer in
         let all = join_entries IsUnbound (λ a. IsBuilt a.form × Refer (λ k. In k (units_keys (common_units m))) a) IsShared (λ a p q. (p, q)) v.below (free n part nth) both in
         fit_stands IsFormOfCommon IsLine IsShared shared_forms v (line_common x)
         (λ a b. common_fit x same (ap (λ (t : Bool). holder_of {K = EntryName} t Partial) is_shared) a b.0 b.1.0 b.1.1) (roots_line units rule files n part nth) all (deep n part nth)
@@ -143,9 +150,11 @@ module _ (units : List (FileUnit EntryName)) (rule : Rule) (files : List ℕ)
 
   -- ---- a file
 
-  module _ (sup : Bool) (old : AreOld units) (low : (i : ℕ) (u : FileUnit EntryName) → Nth 0 units i u → suc (depth (kept_unit m units i u).below) ≤ 256) (file : ℕ) (f : Forms EntryName) (same : IsSame f.same)
+  module _ (sup : Bool) (old : AreOld units) (low : (i : ℕ) (u : FileUnit EntryName) → Nth 0 units i u → suc (depth (kept_unit m units i u).below) ≤ 256) (file : ℕ) (f : Forms EntryName)
+      (same : IsSame f.same)
       (from : From) (carried : Each (λ u. CarriedUnit from (f.origin u.at) u) (out_units m units file)) (none : sup ≡ false → f.shared ≡ [])
-      (refs : sup ≡ false → (e : Seen EntryName) (a : Named EntryName) (k : EntryName) → In e (all_seen (out_units m units file)) → In a e.attrs → In k a.value.refs → In k (units_keys (out_units m units file))) where
+      (refs : sup ≡ false → (e : Seen EntryName) (a : Named EntryName) (k : EntryName) → In e (all_seen (out_units m units file)) → In a e.attrs → In k a.value.refs
+      → In k (units_keys (out_units m units file))) where
     abbrev own_forms : KeyedForms EntryName
     own_forms = with_keys f (units_keys (out_units m units file))
 
@@ -197,11 +206,13 @@ module _ (units : List (FileUnit EntryName)) (rule : Rule) (files : List ℕ)
       | inl a ↦
           let o = parts_from m (Local file) 0 m.parts u a in
           subst (λ (w : DwUnit EntryName). UnitStandsSo (IsFormOfBack sup) (fit_unit own_forms w)) o.is
-          (part_stands o.number o.part o.nth (subst (λ (w : DwUnit EntryName). Each IsKept w.root.attrs) (sym o.is) (roots u there)) (subst (λ (w : DwUnit EntryName). EachAttr IsKept w.below) (sym o.is) (belows u there)))
+          (part_stands o.number o.part o.nth (subst (λ (w : DwUnit EntryName). Each IsKept w.root.attrs) (sym o.is) (roots u there))
+          (subst (λ (w : DwUnit EntryName). EachAttr IsKept w.below) (sym o.is) (belows u there)))
       | inr b ↦
           let o = kept_from m units file 0 units u b in
           subst (λ (w : DwUnit EntryName). UnitStandsSo (IsFormOfBack sup) (fit_unit own_forms w)) o.is
-          (kept_stands o.number o.unit o.nth (subst (λ (w : DwUnit EntryName). Each IsKept w.root.attrs) (sym o.is) (roots u there)) (subst (λ (w : DwUnit EntryName). EachAttr IsKept w.below) (sym o.is) (belows u there)))
+          (kept_stands o.number o.unit o.nth (subst (λ (w : DwUnit EntryName). Each IsKept w.root.attrs) (sym o.is) (roots u there))
+          (subst (λ (w : DwUnit EntryName). EachAttr IsKept w.below) (sym o.is) (belows u there)))
     ]
 
     pub own_stand : Each (UnitStandsSo (IsFormOfBack sup)) (fit_units f (out_units m units file))

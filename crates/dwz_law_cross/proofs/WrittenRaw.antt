@@ -31,7 +31,8 @@ use Rattle.dwz_def_encoding.proofs.SameLemmas.{spots_same}
 use Rattle.dwz_def_encoding.proofs.UnitsSpelled.{units_len}
 use Rattle.dwz_def_encoding.proofs.WriteLaws.{fits, is_roomy, spelled}
 use Rattle.dwz_def_readback.specs.Back.{CanWrite, SaysUnits}
-use Rattle.dwz_def_readback.specs.Files.{HasCommon, HasSections, OffsetsIf, Run, common_fitted, common_forms, common_out, common_sections, file_forms, file_out, files_out, fitted, fitted_by, fitted_if, formed, formed_by, paths, places, sections_of, shared, shared_if, sources, strs_if, tells, tells_common, texts, uses, uses_by}
+use Rattle.dwz_def_readback.specs.Files.{HasCommon, HasSections, OffsetsIf, Run, common_fitted, common_forms, common_out, common_sections, file_forms, file_out, files_out, fitted, fitted_by}
+use Rattle.dwz_def_readback.specs.Files.{fitted_if, formed, formed_by, paths, places, sections_of, shared, shared_if, sources, strs_if, tells, tells_common, texts, uses, uses_by}
 use Rattle.dwz_def_readback.specs.Files.{imports_common}
 use Rattle.dwz_def_readback.proofs.NameLemmas.{common_names, common_there, file_once, file_there, fitted_entries, fitted_fixed, fitted_names, not_common, run_once}
 use Rattle.dwz_def_readback.proofs.PathLemmas.{paths_carried}
@@ -51,7 +52,8 @@ module _ {K : Type 0} (n : Numbering K) (t : Tells K) (units : List (DwUnit K)) 
         depth = each_more (λ u. suc (depth u.below) ≤ (mode_for units).depth) (λ u. suc (depth u.below) ≤ m.depth + (mode_for units).depth) units (λ u low. omega (arith, low)) own.depth;
       }
 
-  pub stored_so : (common : Option (Common Place)) (number : ℕ) (bytes : List ℕ) (raw : List RawUnit) (said : List (DwUnit Place)) → SaysUnits common number bytes raw said → debug_info bytes ≡ (sections n units).info
+  pub stored_so : (common : Option (Common Place)) (number : ℕ) (bytes : List ℕ) (raw : List RawUnit) (said : List (DwUnit Place)) → SaysUnits common number bytes raw said
+      → debug_info bytes ≡ (sections n units).info
       → debug_abbrev bytes ≡ (sections n units).abbrevs → raw ≡ raw_units n (tables_of [] units) units
   stored_so common number bytes raw said h info abbrevs =
       let m = h.mode in
@@ -112,8 +114,9 @@ module _ (r : Run) (can : CanWrite r) where
       (said : List (DwUnit Place)) → SaysUnits common number out raw said → raw ≡ raw_units n (tables_of [] (common_fitted r)) (common_fitted r)
   common_raw out has small common number raw said says =
       let good = common_good (subst (λ (w : Sources). length w.strs < 2 ^ 32) has.sources has.small) (subst (λ (w : Sources). length w.line < too_large) has.sources has.few) in
-      stored_so n (tells_common r) (common_fitted r) refl (record { sound = good.0; stands = common_stands; room = common_room; fits = small; common_fits = λ k is. absurd is }) good.1 common number out raw said says
-      has.info has.abbrevs
+      stored_so n (tells_common r) (common_fitted r) refl
+      (record { sound = good.0; stands = common_stands; room = common_room; fits = small; common_fits = λ k is. absurd is })
+      good.1 common number out raw said says has.info has.abbrevs
 
   -- ---- a file
 
@@ -158,7 +161,8 @@ module _ (r : Run) (can : CanWrite r) where
 
   -- its texts are few, and places of the common file are small
   pub file_raw : length (texts_bytes (texts r)) < 2 ^ 32 → ((k : EntryName) → In k (all_entry_keys (common_fitted r)) → n.place k < 2 ^ 32) → (out : List ℕ) (file : ℕ) → In file r.files
-      → changes r.move r.units file ≡ true → HasSections r file out → FitsSections (sections_of r file) → (common : Option (Common Place)) (number : ℕ) (raw : List RawUnit) (said : List (DwUnit Place))
+      → changes r.move r.units file ≡ true → HasSections r file out → FitsSections (sections_of r file)
+      → (common : Option (Common Place)) (number : ℕ) (raw : List RawUnit) (said : List (DwUnit Place))
       → SaysUnits common number out raw said → raw ≡ raw_units n (tables_of [] (fitted r file)) (fitted r file)
   unfolding texts_bytes
   file_raw few low out file there changed has small common number raw said says =

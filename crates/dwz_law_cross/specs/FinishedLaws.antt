@@ -12,8 +12,8 @@ use Rattle.dwz_def_readback.specs.Files.{imports_common}
 use Rattle.dwz_def_output.specs.FilesAfter.{bytes_after, common_bytes}
 use Rattle.dwz_def_output.specs.Written.{CanBeWritten, common_under, run_under}
 use Rattle.dwz_def_cross.specs.CrossSame.{CrossSame}
+use Rattle.dwz_def_limits.specs.Within.{AreWithinLimits}
 use Rattle.dwz_law_cross.specs.PairLaws.{with_common}
-use Rattle.dwz_law_cross.specs.Within.{AreWithinLimits}
 
 -- what two files say, beside what the common file says, means the same
 pub record SaidSame (said : FinishedDocs) : Type 0 where

@@ -4,5 +4,4 @@ pub mod CheckLaws
 pub mod ReadLaws
 pub mod SupLaws
 pub mod StandLaws
-pub mod Within
 pub mod FinishedLaws

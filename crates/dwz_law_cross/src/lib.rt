@@ -6,7 +6,8 @@
 //! may have been written (`read_laws`), since the entries of the latter may stand as they do (`stand_laws`) and nothing is wrong with their
 //! `.debug_sup` (`sup_laws`); so both are read one behind the other, and mean the same (`finished_laws`).
 //!
-//! No code is here. Read first: `CrossSame` of `dwz_def_cross`, then `specs/CheckLaws.antt`, `specs/ReadLaws.antt`, `specs/FinishedLaws.antt`.
+//! No code is here. Read first: `CrossSame` of `dwz_def_cross`, then `specs/CheckLaws.antt`, `specs/ReadLaws.antt`,
+//! `specs/FinishedLaws.antt`.
 #![tactic(auto)]
 
 mod beside;

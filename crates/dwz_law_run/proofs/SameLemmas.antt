@@ -6,16 +6,17 @@ use Rattle.dwz_def_reading.specs.Finished.{FinishedDocs}
 use Rattle.dwz_def_reading.specs.Texts.{NoZero}
 use Rattle.dwz_def_reading.specs.Values.{AreBytes}
 use Rattle.dwz_def_readback.specs.Files.{Run, imports_common}
+use Rattle.dwz_def_limits.specs.Within.{AreWithinLimits}
 use Rattle.dwz_def_check.specs.Answer.{IsSameOf}
 use Rattle.dwz_def_check.specs.declared.same.Same.TheVariants.{Yes}
 use Rattle.dwz_def_run.specs.Compares.{ComparesTwo, answer_on, common_in, two_in}
 use Rattle.dwz_def_run.specs.Out.{IsWritten, run_for, sup_name, top_scope_of}
 use Rattle.dwz_law_cross.specs.FinishedLaws.{SaidSame, SaidSameAlone}
-use Rattle.dwz_law_cross.specs.Within.{AreWithinLimits}
-use Rattle.dwz_law_cross.proofs.FinishedLemmas.{finished, finished_alone, names_sup}
+use Rattle.dwz_law_cross.proofs.FinishedLemmas.{finished, finished_alone}
 use Rattle.dwz_law_run.specs.SameLaws.{NamesCommon, SameLaw, compared_of}
 use Rattle.dwz_run_course.specs.Outcome.{writes}
 use Rattle.dwz_words.specs.declared.options.Options.{Options}
+pub use Rattle.dwz_law_cross.proofs.FinishedLemmas.{names_sup}
 
 same_of : (said : FinishedDocs) → SaidSame said → IsSameOf said Yes
 same_of said s = subst (λ (d : FinishedDocs). IsSameOf d Yes) (sym s.are) s.same
@@ -23,8 +24,8 @@ same_of said s = subst (λ (d : FinishedDocs). IsSameOf d Yes) (sym s.are) s.sam
 alone_of : (said : FinishedDocs) → SaidSameAlone said → IsSameOf said Yes
 alone_of said s = subst (λ (d : FinishedDocs). IsSameOf d Yes) (sym s.are) s.same
 
-module _ (o : Options) (contents : List (List ℕ)) (docs : List (Doc ℕ)) (prunes : List Bool) (bytes : Each AreBytes contents) (written : IsWritten o contents docs prunes) (no_zero : NoZero (sup_name o))
-    (file : ℕ) (doc : Doc ℕ) (nth : Nth 0 docs file doc) where
+module _ (o : Options) (contents : List (List ℕ)) (docs : List (Doc ℕ)) (prunes : List Bool) (bytes : Each AreBytes contents) (written : IsWritten o contents docs prunes)
+    (no_zero : NoZero (sup_name o)) (file : ℕ) (doc : Doc ℕ) (nth : Nth 0 docs file doc) where
   abbrev r : Run
   r = run_for o contents docs prunes
 

@@ -7,10 +7,10 @@ use Rattle.dwz_def_reading.specs.Texts.{NoZero}
 use Rattle.dwz_def_reading.specs.Values.{AreBytes}
 use Rattle.dwz_def_readback.specs.Files.{Run}
 use Rattle.dwz_def_output.specs.FilesAfter.{bytes_after, common_bytes}
+use Rattle.dwz_def_limits.specs.Within.{AreWithinLimits}
 use Rattle.dwz_def_check.specs.declared.same.Same.TheVariants.{Yes}
 use Rattle.dwz_def_run.specs.Compares.{Compares, answer_on}
 use Rattle.dwz_def_run.specs.Out.{IsWritten, common_of, run_for, sup_name}
-use Rattle.dwz_law_cross.specs.Within.{AreWithinLimits}
 use Rattle.dwz_run_course.specs.Outcome.{writes}
 use Rattle.dwz_words.specs.declared.options.Options.{Options}
 
@@ -35,8 +35,8 @@ abbrev pub NamesCommon : Options → Run → ℕ → Option (List ℕ) → Type 
 NamesCommon o r file None = (has_sup (before r file) ≡ false) × (has_sup (after o r file) ≡ false)
 NamesCommon o r file (Some name) = common_of o.common r ≡ Some (common_bytes r)
 
--- Where files are written, and a file before and after is compared, the common file being named as it has to be, it is said that the two mean the
--- same, if limits leave room for what is read.
+-- Where files are written, and a file before and after is compared, the common file being named as it has to be, it is said that the two
+-- mean the same, if limits leave room for what is read.
 abbrev pub SameLaw : Type 0
 SameLaw =
     (o check : Options) (contents : List (List ℕ)) (docs : List (Doc ℕ)) (prunes : List Bool) → Each AreBytes contents

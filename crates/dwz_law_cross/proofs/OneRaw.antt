@@ -1,13 +1,15 @@
 -- What is written is stored in one way.
-use Rattle.std.proofs.Common.{◌≡◌, ℕ, ◌+◌, ◌<◌, ◌≤◌, Bool, true, false, List, [], ◌∷◌, ◌==◌, length, refl, sym, ap, subst, arith}
+use Rattle.std.proofs.Common.{◌≡◌, ℕ, ◌+◌, ◌<◌, ◌≤◌, Bool, true, false, List, [], ◌∷◌, ◌==◌, length, refl, sym, ap, subst, ◌∙◌, arith}
 use Rattle.dwz_codes.specs.Rows.{RowView, shape_of}
 use Rattle.dwz_model.specs.Lists.{Each}
 use Rattle.dwz_def_reading.specs.Entries.{Mode, RawAttr, RawEntry, SpellsEntry, SpellsFront, UnitContext, root_position}
+use Rattle.dwz_def_reading.specs.Files.{debug_abbrev, debug_info}
 use Rattle.dwz_def_reading.specs.Trees.{EachEntry, End, Entry, Forest, IfChildren, Position, SpellsForest, behind, first_below}
 use Rattle.dwz_def_reading.specs.Units.{CompileUnit, PartialUnit, RawKind, RawUnit, SpellsUnit, SpellsUnits, TypeUnit, entry_count, root_tag}
 use Rattle.dwz_def_reading.proofs.UnitListLemmas.{units_one}
 use Rattle.dwz_def_encoding.specs.Fitting.{all_forms}
 use Rattle.dwz_def_expand.proofs.AgainLemmas.{EntryMay, KindMay, UnitMay, UnitsMay, units_again}
+use Rattle.dwz_law_cross.specs.StoredLaws.{StoredLaw}
 
 -- a mode of all units and all forms
 pub record IsOfAll (m : Mode) : Type 0 where
@@ -81,3 +83,20 @@ pub one_raw : (abbrevs : List ℕ) (m k : Mode) → IsOfAll m → (units others 
     → SpellsUnits abbrevs (with_room m k) 0 others 0 bytes
     → units ≡ others
 one_raw abbrevs m k is units others bytes h more = units_one abbrevs (with_room m k) 0 0 units others bytes (roomier abbrevs m k is units bytes h) more
+
+-- whichever is given more room by the other
+with_either : (m k : Mode) → with_room k m ≡ with_room m k
+with_either m k =
+    let entries : k.entries + m.entries ≡ m.entries + k.entries = omega arith in
+    let depth : k.depth + m.depth ≡ m.depth + k.depth = omega arith in
+    ap (λ (n : ℕ). record { entries = n; depth = k.depth + m.depth; whole = true; partial = true; forms = all_forms }) entries
+    ∙ ap (λ (n : ℕ). record { entries = m.entries + k.entries; depth = n; whole = true; partial = true; forms = all_forms }) depth
+
+-- so two such modes spell the same units
+pub stored_once : StoredLaw
+stored_once bytes units others h more =
+    let own : IsOfAll h.mode = record { whole = h.whole; partial = h.partial; forms = h.forms } in
+    let other : IsOfAll more.mode = record { whole = more.whole; partial = more.partial; forms = more.forms } in
+    one_raw (debug_abbrev bytes) h.mode more.mode own units others (debug_info bytes) h.spelled
+    (subst (λ (m : Mode). SpellsUnits (debug_abbrev bytes) m 0 others 0 (debug_info bytes)) (with_either h.mode more.mode)
+    (roomier (debug_abbrev bytes) more.mode h.mode other others (debug_info bytes) more.spelled))

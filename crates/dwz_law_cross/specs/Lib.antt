@@ -4,4 +4,5 @@ pub mod CheckLaws
 pub mod ReadLaws
 pub mod SupLaws
 pub mod StandLaws
+pub mod StoredLaws
 pub mod FinishedLaws

@@ -4,7 +4,8 @@
 //! things are written (`beside_laws`). So the old file and the file after mean the same where both are read back, beside the common file
 //! and each with a number of its own (`check_laws`). Files that were given, and files that were written, are read by the rule of files that
 //! may have been written (`read_laws`), since the entries of the latter may stand as they do (`stand_laws`) and nothing is wrong with their
-//! `.debug_sup` (`sup_laws`); so both are read one behind the other, and mean the same (`finished_laws`).
+//! `.debug_sup` (`sup_laws`); so both are read one behind the other, and mean the same (`finished_laws`), where limits leave room for the
+//! units that they store, of which there is one list (`stored_laws`).
 //!
 //! No code is here. Read first: `CrossSame` of `dwz_def_cross`, then `specs/CheckLaws.antt`, `specs/ReadLaws.antt`,
 //! `specs/FinishedLaws.antt`.
@@ -16,6 +17,7 @@ mod finished;
 mod pairs;
 mod read;
 mod stand;
+mod stored;
 mod sup;
 
 pub use beside::beside_laws;
@@ -24,4 +26,5 @@ pub use finished::finished_laws;
 pub use pairs::pair_laws;
 pub use read::read_laws;
 pub use stand::stand_laws;
+pub use stored::stored_laws;
 pub use sup::sup_laws;

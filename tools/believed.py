@@ -19,7 +19,7 @@ TOP = os.path.normpath(os.path.join(os.path.dirname(os.path.abspath(__file__)), 
 # Crate, file, and the functions whose contracts are read.
 ROOTS = [
     ("dwz_run", "src/running.rt", ["run"]),
-    ("dwz_run", "src/laws.rt", ["done_laws", "cause_laws", "answer_laws", "stop_laws", "demo_laws"]),
+    ("dwz_run", "src/laws.rt", ["done_laws", "cause_laws", "answer_laws", "second_call_laws", "stop_laws", "demo_laws"]),
     ("dwz_def_output", "src/written.rt", ["written_laws"]),
     ("dwz_def_run", "src/outcome.rt", ["out_laws"]),
     ("dwz_def_reading", "src/finished.rt", ["finished_laws", "beside_laws"]),

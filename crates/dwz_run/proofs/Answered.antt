@@ -66,7 +66,7 @@ module _ (words : List (List ℕ)) (old : FilesSeen) (store : Store) (told : old
   held_by o contents no_demo got = subst (λ (d : Option ℕ). AreHeld demo_files d old (names_got o) contents) (sym no_demo) (store, told, got)
 
   -- what comes of what is asked for is asked for
-  asked_for : (a : Asks words store) (outcome : Outcome) → Out (work_options a) (work_contents a) outcome
+  pub asked_for : (a : Asks words store) (outcome : Outcome) → Out (work_options a) (work_contents a) outcome
       → AsksFor demo_files Out words old outcome
   asked_for (for_files a) outcome given = record {
     options = a.options;

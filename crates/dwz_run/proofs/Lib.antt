@@ -13,3 +13,4 @@ pub mod SameWorkers
 pub mod Causes
 pub mod Answered
 pub mod Demonstrated
+pub mod ComparedAgain

@@ -6,7 +6,8 @@
 //! are explained; or, for two files that are compared, `Graph::read_back` and `check`. Its clauses: `ends` (each status with its cause),
 //! `complete` and `refuses` (what comes where nothing outside fails), `demo`, `reads`.
 //!
-//! The laws say what follows: `done_laws` (what is put reads back as what was read), `cause_laws`, `answer_laws`, `stop_laws`, `demo_laws`.
+//! The laws say what follows: `done_laws` (what is put reads back as what was read), `cause_laws`, `answer_laws`, `stop_laws`, `demo_laws`,
+//! and `second_call_laws` of two calls: that `--check` says of what a first one made that it means the same.
 //!
 //! Read first: `specs/Laws.antt`; then `Ends` (`Ends.antt` of `dwz_run_course`), `Out`, `TellsWhy` and `Compares` (`Out.antt`, `Tells.antt`
 //! and `Compares.antt` of `dwz_def_run`).
@@ -19,5 +20,5 @@ mod work;
 mod written;
 
 pub use dwz_run_course::Status;
-pub use laws::{answer_laws, cause_laws, demo_laws, done_laws, stop_laws};
+pub use laws::{answer_laws, cause_laws, demo_laws, done_laws, second_call_laws, stop_laws};
 pub use running::run;

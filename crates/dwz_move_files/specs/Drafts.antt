@@ -21,6 +21,7 @@ use Rattle.dwz_graph.specs.declared.file.File.{File}
 use Rattle.dwz_graph.specs.declared.index.TopEntry.{TopEntry}
 use Rattle.dwz_graph.specs.Index.{Index}
 use Rattle.dwz_move_files.specs.declared.draft.Draft.{Draft}
+use Rattle.dwz_move_files.specs.declared.draft.KnownFile.{KnownFile}
 
 -- the row shows where the top stands, its unit, its weight, and whether it is pinned; that it may move isn't said yet
 pub record IsRowOf (docs : List (Doc ℕ)) (row : TopRow) (t : Top) : Type 0 where
@@ -49,6 +50,12 @@ abbrev pub AreInto : (contents : List (List ℕ)) (number : ℕ) (bytes : List �
     → List (Option ℕ) → Type 0
 AreInto contents number bytes f x is into = into ≡ tops_of_refs (name_at x.starts is.kept.read.doc) (raw_units f.units)
     f.resolved.refs.items
+
+-- that and what its entries weigh is known of a file
+pub record IsKnown (f : File) (x : Index) (known : KnownFile) : Type 0 where
+  pub weights : known.weights ≡ f.units
+  pub into : (contents : List (List ℕ)) (number : ℕ) (bytes : List ℕ) (is : IsFileAmong contents number bytes f x)
+      → AreInto contents number bytes f x is known.into.items
 
 -- each list of targets under its top; the first top has that number
 unfoldable pub pairs_from : ℕ → List (List ℕ) → List Edge

@@ -1,6 +1,6 @@
 //! What is gathered of tops, file by file.
 
-ghost use Rattle.std.specs.Prelude.{◌≡◌, ℕ, ◌+◌, ◌<◌, ◌≤◌, ◌++◌, ◌^◌, false, true, List, Some, length, map, slice_get, slice_index};
+ghost use Rattle.std.specs.Prelude.{◌≡◌, ℕ, ◌+◌, ◌-◌, ◌<◌, ◌≤◌, ◌++◌, ◌^◌, false, true, List, Some, length, map, slice_get, slice_index};
 ghost use Rattle.std.specs.Prelude.{slice_index_or, slice_range, IfOk, OnOk};
 ghost use Rattle.dwz_law_files.specs.Across.{IsFileAmong, IsTopOf};
 ghost use Rattle.dwz_def_tops.specs.Alike.{binds_itself};
@@ -10,12 +10,12 @@ ghost use Rattle.dwz_graph.specs.Files.{docs_of};
 ghost use Rattle.dwz_graph.specs.Index.{Index};
 ghost use Rattle.dwz_move_files.specs.Named.{AreNamed};
 ghost use Rattle.dwz_def_reading.specs.Documents.{Doc};
-ghost use Rattle.dwz_move_files.specs.Drafts.{AreInto, AreWithin, IsDraft, IsRowOf};
+ghost use Rattle.dwz_move_files.specs.Drafts.{AreInto, AreWithin, IsDraft, IsKnown, IsRowOf};
 ghost use Rattle.dwz_move.specs.Bound.{HasTops, somes, target_of};
 ghost use Rattle.dwz_unit.specs.declared.rows.RawEntry.{RawEntry};
 ghost use Rattle.dwz_unit.specs.Rows.{shown_entries, units_of as raw_units};
 
-use crate::ranges::range_at;
+use crate::ranges::{range_at, range_before};
 use dwz_expr::Operand;
 use dwz_graph::{File, Graph, Index, TopEntry};
 use dwz_groups::{Edge, TopRow};
@@ -187,6 +187,70 @@ fn put_top(
     )
 }
 
+/// What is found once of a file, before its tops are gathered: for each reference the top that it goes into, and what its entries weigh.
+#[derive(Drop)]
+pub(crate) struct KnownFile<'f, 'a> {
+    into: Vec<Option<u32>>,
+    weights: EntryWeights<'f, 'a>,
+}
+
+/// Finds that.
+pub(crate) fn known_of<'f, 'a>(
+    alloc: Global,
+    file: &'f File<'a>,
+    index: &Index,
+) -> Result<KnownFile<'f, 'a>, NoMemory>
+    requires { length index.now.steps < 2 ^ 32 }
+    ensures { IfOk result (IsKnown file.now index.now) }
+{
+    let into = tops_of(alloc, index, file.resolved.refs.as_slice())?;
+    let weights = EntryWeights::new(alloc, &file.units)?;
+    Ok(KnownFile { into, weights })
+}
+
+/// Adds the tops of a file from the one at a place among them to before another.
+pub(crate) fn put_tops(
+    draft: &mut Draft,
+    file: &File,
+    index: &Index,
+    number: u32,
+    known: &KnownFile,
+    start: usize,
+    end: usize,
+    named: &Named,
+    operands: &mut Vec<Operand>,
+) -> Result<(), NoMemory>
+    requires room { index.now.starts.top + length index.now.tops < 2 ^ 32 }
+    requires tops { AreWithin (raw_units file.now.units) index.now.tops }
+    requires known { IsKnown file.now index.now known.now }
+    requires within { (start ≤ end) × (end ≤ length index.now.tops) }
+    ensures { (contents : List (List ℕ)) (bytes : List ℕ) (is : IsFileAmong contents number bytes file.now index.now)
+        → AreNamed (units_of (docs_of contents)) named.now → (from count : ℕ) → from + count ≡ index.now.starts.top + start
+        → IsDraft (docs_of contents) from count draft.old
+        → OnOk result (IsDraft (docs_of contents) from (count + (end - start)) draft.new) }
+{
+    let first = index.starts().top;
+    let tops = index.tops();
+    let mut own = range_before(tops, start, first);
+    for i in start..end {
+        own = range_at(own, tops, i, first);
+        let n = first + i as u32;
+        put_top(
+            draft,
+            file,
+            &known.weights,
+            number,
+            &own,
+            known.into.as_slice(),
+            n,
+            tops[i],
+            named,
+            operands,
+        )?;
+    }
+    Ok(())
+}
+
 /// Adds the tops of a file.
 pub(crate) fn put_file(
     alloc: Global,
@@ -205,28 +269,9 @@ pub(crate) fn put_file(
         → IsDraft (docs_of contents) from count draft.old
         → OnOk result (IsDraft (docs_of contents) from (count + length index.now.tops) draft.new) }
 {
-    let into = tops_of(alloc, index, file.resolved.refs.as_slice())?;
-    let weights = EntryWeights::new(alloc, &file.units)?;
-    let first = index.starts().top;
-    let tops = index.tops();
-    let mut own = TopRange { first: 0, end: 0 };
-    for (i, top) in tops.iter().enumerate() {
-        own = range_at(own, tops, i, first);
-        let n = first + i as u32;
-        put_top(
-            draft,
-            file,
-            &weights,
-            number,
-            &own,
-            into.as_slice(),
-            n,
-            *top,
-            named,
-            operands,
-        )?;
-    }
-    Ok(())
+    let known = known_of(alloc, file, index)?;
+    let end = index.tops().len();
+    put_tops(draft, file, index, number, &known, 0, end, named, operands)
 }
 
 /// What is gathered of the tops of all files.

@@ -42,7 +42,7 @@ use Rattle.dwz_move_files.proofs.TargetLemmas.{starts_end, starts_rise, targets_
 
 -- ---- one more item
 
-pushed : {X : Type 0} (xs : List X) (y : X) (m : ℕ) (z : X) → slice_get (xs ++ y ∷ []) m ≡ Some z → ((slice_get xs m ≡ Some z) × (m < length xs)) ⊎ ((m ≡ length xs) × (y ≡ z))
+pub pushed : {X : Type 0} (xs : List X) (y : X) (m : ℕ) (z : X) → slice_get (xs ++ y ∷ []) m ≡ Some z → ((slice_get xs m ≡ Some z) × (m < length xs)) ⊎ ((m ≡ length xs) × (y ≡ z))
 pushed xs y m z e = ⊎_elim
     (λ a. inl (a, got_below xs m z a))
     (λ b. inr (last b.0 b.1 b.2))

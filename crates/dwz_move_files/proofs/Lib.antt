@@ -16,4 +16,5 @@ pub mod OutlineLemmas
 pub mod FlagSteps
 pub mod OutlineFileSteps
 pub mod PartSteps
+pub mod StretchSteps
 pub mod FilesLow

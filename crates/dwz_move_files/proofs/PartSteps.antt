@@ -1,6 +1,6 @@
 -- What is gathered of files by themselves is put together, one behind the other.
 use Rattle.std.proofs.Common.{◌≡◌, ℕ, suc, ◌+◌, ◌-◌, ◌<◌, Bool, List, [], ◌∷◌, ◌++◌, length, Option, Some, None, Result, Ok, Err, slice_get, sym, ap, subst, ◌∙◌, ⊎_elim, arith}
-use Rattle.std.specs.Prelude.{IfSome, OnOk, is_ok, slice_index_or, if◌then◌else◌}
+use Rattle.std.specs.Prelude.{IfOk, IfSome, OnOk, is_ok, slice_index_or, if◌then◌else◌}
 use Rattle.std.proofs.lemmas.Bool.{cases_lt}
 use Rattle.std.proofs.lemmas.List.{length-append}
 use Rattle.dwz_def_reading.proofs.ListFacts.{got_below}
@@ -59,45 +59,47 @@ pub on_appended : {X E : Type 0} (r : Result (Unit {0}) E) (xs ys zs : List X) (
 on_appended (Ok u) xs ys zs G e f = f e
 on_appended (Err x) xs ys zs G e f = tt
 
+-- what holds holds of whatever is answered
+pub always : {T E Q : Type 0} (r : Result T E) → Q → IfOk r (λ x. Q)
+always (Ok x) q = q
+always (Err e) q = tt
+
+-- ---- parts
+
+-- So many tops are put together, and what is left are the parts of those behind them, up to that number.
+pub record PartsLeft (docs : List (Doc ℕ)) (to : ℕ) (left : List (Option Draft)) (draft : Draft) : Type 0 where
+  pub count : ℕ
+  pub is : IsDraft docs 0 count draft
+  pub are : AreParts docs count to left
+
+module _ (docs : List (Doc ℕ)) (to : ℕ) where
+  pub parts_begin : (parts : List (Option Draft)) (draft : Draft) → AreParts docs 0 to parts → IsDraft docs 0 0 draft → PartsLeft docs to parts draft
+  parts_begin parts draft are d = record { count = 0; is = d; are = are }
+
+  pub parts_more : (part : Draft) (left : List (Option Draft)) (old new : Draft)
+      → ((count more : ℕ) → IsDraft docs 0 count old → IsDraft docs count more part → IsDraft docs 0 (count + more) new)
+      → PartsLeft docs to (Some part ∷ left) old → PartsLeft docs to left new
+  parts_more part left old new put h = record { count = h.count + h.are.0; is = put h.count h.are.0 h.is h.are.1; are = h.are.2 }
+
+  pub parts_end : (draft : Draft) → PartsLeft docs to [] draft → IsDraft docs 0 to draft
+  parts_end draft h = subst (λ (n : ℕ). IsDraft docs 0 n draft) h.are h.is
+
 -- ---- the parts of files
 
--- So many files are put together, and what is left are the parts of those behind them; there are so many in all.
-pub record PartsLeft (docs : List (Doc ℕ)) (indexes : List Index) (left : List (Option Draft)) (all : ℕ) (draft : Draft) : Type 0 where
-  pub k : ℕ
-  pub many : k + length left ≡ all
-  pub are : AreParts docs indexes k left
-  pub is : IsDraft docs 0 (starts_at docs indexes k).top draft
-
 module _ (docs : List (Doc ℕ)) (indexes : List Index) where
-  pub parts_begin : (parts : List (Option Draft)) (all : ℕ) (draft : Draft) → length parts ≡ all → AreParts docs indexes 0 parts → IsDraft docs 0 0 draft → PartsLeft docs indexes parts all draft
-  parts_begin parts all draft many are d = record {
-    k = 0;
-    many = omega arith;
-    are = are;
-    is = subst (λ (s : Starts). IsDraft docs 0 s.top draft) (sym (starts_zero docs indexes)) d;
-  }
+  each_part : (parts : List (Option Draft)) (k end : ℕ) → k + length parts ≡ end → ((i n : ℕ) → i < length parts → k + i ≡ n → IfSome (slice_index_or parts i None) (IsFileDraft docs indexes n))
+      → AreParts docs (starts_at docs indexes k).top (starts_at docs indexes end).top parts
+  each_part [] k end many h = (let same : k ≡ end = omega arith in ap (λ (n : ℕ). (starts_at docs indexes n).top) same)
+  each_part (None ∷ parts) k end many h = tt
+  each_part (Some part ∷ parts) k end many h =
+      let here = h 0 k (omega arith) (omega arith) in
+      let rest = each_part parts (k + 1) end (omega arith) (λ i n lt e. h (suc i) n (omega arith) (omega arith)) in
+      (here.count, here.is, subst (λ (n : ℕ). AreParts docs n (starts_at docs indexes end).top parts) (sym here.to) rest)
 
-  pub parts_more : (part : Draft) (left : List (Option Draft)) (all : ℕ) (old new : Draft)
-      → ((count more : ℕ) → IsDraft docs 0 count old → IsDraft docs count more part → IsDraft docs 0 (count + more) new)
-      → PartsLeft docs indexes (Some part ∷ left) all old → PartsLeft docs indexes left all new
-  parts_more part left all old new put h =
-      let here = h.are.0 in
-      let many = h.many in
-      record {
-        k = h.k + 1;
-        many = omega arith;
-        are = h.are.1;
-        is = subst (λ (n : ℕ). IsDraft docs 0 n new) here.to (put (starts_at docs indexes h.k).top here.count h.is here.is);
-      }
-
-  pub parts_end : (all : ℕ) (draft : Draft) → PartsLeft docs indexes [] all draft → IsDraft docs 0 (starts_at docs indexes all).top draft
-  parts_end all draft h =
-      let at : h.k ≡ all = (let many = h.many in omega arith) in
-      subst (λ (n : ℕ). IsDraft docs 0 (starts_at docs indexes n).top draft) at h.is
-
-  pub each_part : (parts : List (Option Draft)) (k : ℕ) → ((i n : ℕ) → i < length parts → k + i ≡ n → IfSome (slice_index_or parts i None) (IsFileDraft docs indexes n)) → AreParts docs indexes k parts
-  each_part [] k h = tt
-  each_part (part ∷ parts) k h = (
-    h 0 k (omega arith) (omega arith),
-    each_part parts (k + 1) (λ i n lt e. h (suc i) n (omega arith) (omega arith)),
-  )
+  -- those of all files
+  pub file_parts : (parts : List (Option Draft)) (all : ℕ) → (starts_at docs indexes (length parts)).top ≡ all
+      → ((i n : ℕ) → i < length parts → 0 + i ≡ n → IfSome (slice_index_or parts i None) (IsFileDraft docs indexes n)) → AreParts docs 0 all parts
+  file_parts parts all ends h =
+      let zero : (starts_at docs indexes 0).top ≡ 0 = ap (λ (s : Starts). s.top) (starts_zero docs indexes) in
+      subst (λ (n : ℕ). AreParts docs n all parts) zero
+      (subst (λ (n : ℕ). AreParts docs (starts_at docs indexes 0).top n parts) ends (each_part parts 0 (length parts) (omega arith) h))

@@ -1,6 +1,6 @@
 -- What is gathered of tops, one after the other.
-use Rattle.std.specs.Prelude.{◌≡◌, ℕ, suc, ◌+◌, ◌<◌, ◌≤◌, Bool, true, false, All, List, [], ◌∷◌, ◌++◌, length, map, Option, Some, slice_get}
-use Rattle.std.specs.Prelude.{IfSome}
+use Rattle.std.specs.Prelude.{◌≡◌, ℕ, suc, ◌+◌, ◌<◌, ◌≤◌, Bool, true, false, All, List, [], ◌∷◌, ◌++◌, length, map, Option, None}
+use Rattle.std.specs.Prelude.{Some, slice_get}
 use Rattle.dwz_def_tops.specs.Alike.{binds_itself}
 use Rattle.dwz_def_tops.specs.Spots.{Top, Within, tops_of, units_of}
 use Rattle.dwz_def_tops.specs.Targets.{targets_of}
@@ -79,7 +79,8 @@ pub record IsFileDraft (docs : List (Doc ℕ)) (indexes : List Index) (k : ℕ) 
   pub is : IsDraft docs (starts_at docs indexes k).top count draft
   pub to : (starts_at docs indexes k).top + count ≡ (starts_at docs indexes (k + 1)).top
 
--- each part, where there is one, is what is gathered of a file; the first file has that number
-abbrev pub AreParts : List (Doc ℕ) → List Index → ℕ → List (Option Draft) → Type 0
-AreParts docs indexes k [] = Unit {0}
-AreParts docs indexes k (part ∷ parts) = IfSome part (IsFileDraft docs indexes k) × AreParts docs indexes (k + 1) parts
+-- each part is what is gathered of tops, from the one with that number on to before the other; nothing is said behind one that isn't there
+abbrev pub AreParts : List (Doc ℕ) → ℕ → ℕ → List (Option Draft) → Type 0
+AreParts docs from to [] = from ≡ to
+AreParts docs from to (None ∷ parts) = Unit {0}
+AreParts docs from to (Some part ∷ parts) = (count : ℕ) × IsDraft docs from count part × AreParts docs (from + count) to parts

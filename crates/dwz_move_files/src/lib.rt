@@ -14,6 +14,7 @@ mod marks;
 mod outline;
 mod parts;
 mod ranges;
+mod stretches;
 
 pub use marks::named_tops;
 pub use outline::{Outline, movable, outline_files, tops, tops_by};

@@ -1,7 +1,6 @@
 //! What is gathered of the tops of each file by itself, by several workers, and put together in the order of the files.
 
 ghost use Rattle.std.specs.Prelude.{◌≡◌, ℕ, ◌+◌, ◌<◌, ◌^◌, List, length, slice_index_or, vec_len, IfOk, IfSome, OnOk};
-ghost use Rattle.dwz_law_files.specs.Across.{starts_at};
 ghost use Rattle.dwz_def_tops.specs.Spots.{tops_of, units_of};
 ghost use Rattle.dwz_graph.specs.Files.{docs_of};
 ghost use Rattle.dwz_graph.specs.Index.{Index};
@@ -11,6 +10,7 @@ ghost use Rattle.dwz_def_reading.specs.Documents.{Doc};
 ghost use Rattle.dwz_move_files.specs.Drafts.{AreParts, IsDraft, IsFileDraft};
 
 use crate::draft::{Draft, gather, nothing, put_file};
+use crate::stretches::gather_stretches;
 use dwz_graph::Graph;
 use dwz_model::NoMemory;
 use dwz_move::Named;
@@ -74,8 +74,8 @@ fn fill_slots<R: Threads + Sync>(
     thread::for_each_mut(rt, slots, workers as usize, &each);
 }
 
-// So many slots with nothing in them.
-fn empty_slots(alloc: Global, count: usize) -> Result<Vec<Option<Draft>>, NoMemory>
+/// So many slots with nothing in them.
+pub(crate) fn empty_slots(alloc: Global, count: usize) -> Result<Vec<Option<Draft>>, NoMemory>
     ensures { IfOk result (λ slots. vec_len slots ≡ count) }
 {
     let mut slots = Vec::new(alloc);
@@ -95,9 +95,8 @@ fn parts_of<R: Threads + Sync>(
 ) -> Result<Vec<Option<Draft>>, NoMemory>
     requires few { length graph.now.given < 2 ^ 32 }
     requires workers { 0 < workers }
-    ensures len { IfOk result (λ parts. vec_len parts ≡ length graph.now.given) }
-    ensures are { (indexes : List Index) → AreIndexes (docs_of graph.now.given) indexes → AreNamed (units_of (docs_of graph.now.given)) named.now
-        → IfOk result (λ parts. AreParts (docs_of graph.now.given) indexes 0 parts.items) }
+    ensures { AreNamed (units_of (docs_of graph.now.given)) named.now
+        → IfOk result (λ parts. AreParts (docs_of graph.now.given) 0 (length (tops_of (units_of (docs_of graph.now.given)))) parts.items) }
 {
     let mut slots = empty_slots(alloc, graph.files().len())?;
     fill_slots(rt, alloc, graph, named, workers, slots.as_mut_slice());
@@ -114,10 +113,9 @@ fn put_part(draft: &mut Draft, mut part: Draft) -> Result<(), NoMemory>
     draft.pairs.append(&mut part.pairs)
 }
 
-// The parts of all files together; one that isn't there is for want of memory.
-fn join_parts(alloc: Global, parts: Vec<Option<Draft>>) -> Result<Draft, NoMemory>
-    ensures { (docs : List (Doc ℕ)) (indexes : List Index) → AreParts docs indexes 0 parts.items
-        → IfOk result (IsDraft docs 0 (starts_at docs indexes (vec_len parts)).top) }
+/// All parts together; one that isn't there is for want of memory.
+pub(crate) fn join_parts(alloc: Global, parts: Vec<Option<Draft>>) -> Result<Draft, NoMemory>
+    ensures { (docs : List (Doc ℕ)) (to : ℕ) → AreParts docs 0 to parts.items → IfOk result (IsDraft docs 0 to) }
 {
     let mut draft = nothing(alloc);
     for part in parts {
@@ -129,7 +127,8 @@ fn join_parts(alloc: Global, parts: Vec<Option<Draft>>) -> Result<Draft, NoMemor
     Ok(draft)
 }
 
-/// What is gathered of the tops of all files, by at most so many workers. How many there are makes no difference.
+/// What is gathered of the tops of all files, by at most so many workers. How many there are makes no difference: where there are fewer
+/// files, each takes stretches of them.
 pub(crate) fn gather_by<R: Threads + Sync>(
     rt: &R,
     alloc: Global,
@@ -143,8 +142,11 @@ pub(crate) fn gather_by<R: Threads + Sync>(
         → IfOk result (IsDraft (docs_of graph.now.given) 0 (length (tops_of (units_of (docs_of graph.now.given))))) }
     ensures few { IfOk result (λ draft. length (tops_of (units_of (docs_of graph.now.given))) < 2 ^ 32) }
 {
-    if workers == 1 || graph.files().len() < 2 {
+    if workers == 1 {
         return gather(alloc, graph, named);
+    }
+    if graph.files().len() < workers as usize {
+        return gather_stretches(rt, alloc, graph, named, workers);
     }
     let parts = parts_of(rt, alloc, graph, named, workers)?;
     join_parts(alloc, parts)

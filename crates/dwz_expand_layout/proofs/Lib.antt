@@ -1,0 +1,10 @@
+pub mod ByteLemmas
+pub mod PartLemmas
+pub mod ValueLemmas
+pub mod PassLemmas
+pub mod ShownLemmas
+pub mod DepthLemmas
+pub mod UnitLemmas
+pub mod SectionLemmas
+pub mod FormLemmas
+pub mod LawLemmas

@@ -1,1 +1,6 @@
 pub mod Entries
+pub mod Laid
+pub mod Written
+pub mod Shown
+pub mod Depths
+pub mod Laws

@@ -76,6 +76,14 @@ ended l =
 abbrev pub with_unit : Laying → UnitLines → Laying
 with_unit l u = ended (fold with_line (begun l u.kind) u.lines)
 
+-- these units are laid, and none is at hand
+abbrev pub laying_of : List UnitLines → Laying
+laying_of units = fold with_unit nothing_laid units
+
+-- these units are laid, and of one of that kind these entries
+abbrev pub laying_in : List UnitLines → NewKind → List NewLine → Laying
+laying_in units kind lines = fold with_line (begun (laying_of units) kind) lines
+
 -- all new units
 abbrev pub laid : List UnitLines → Made
-laid units = (fold with_unit nothing_laid units).made
+laid units = (laying_of units).made

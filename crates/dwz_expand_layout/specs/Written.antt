@@ -77,6 +77,14 @@ with_entry w e = record {
 abbrev pub with_written : Writing → UnitLines → Writing
 with_written w u = fold with_entry (with_header w u.kind) u.lines
 
+-- these units are written
+abbrev pub writing_of : Made → List UnitLines → Writing
+writing_of made units = fold with_written (nothing_written made) units
+
+-- these units are written, and of one of that kind these entries
+abbrev pub writing_in : Made → List UnitLines → NewKind → List NewLine → Writing
+writing_in made units kind lines = fold with_entry (with_header (writing_of made units) kind) lines
+
 -- all new units
 abbrev pub written : Made → List UnitLines → List ℕ
-written made units = (fold with_written (nothing_written made) units).out
+written made units = (writing_of made units).out

@@ -1,6 +1,7 @@
 pub mod ByteLemmas
 pub mod PartLemmas
 pub mod ValueLemmas
+pub mod StoreLemmas
 pub mod AddedLemmas
 pub mod PassLemmas
 pub mod ShownLemmas

@@ -1,13 +1,14 @@
 -- The values of an entry, one after the other: how many bytes they have, their names and forms, and what is appended.
-use Rattle.std.proofs.Common.{◌≡◌, ℕ, ◌+◌, ◌<◌, ◌≤◌, List, [], ◌∷◌, ◌++◌, get_or, length, map, pos, slice_get, take, Some, sym, ap, subst, ◌∙◌, append_assoc, append-nil, arith}
-use Rattle.std.specs.Prelude.{All}
-use Rattle.std.proofs.lemmas.List.{map_more, take_all}
+use Rattle.std.proofs.Common.{◌≡◌, ℕ, ◌+◌, ◌<◌, ◌≤◌, List, [], ◌∷◌, ◌++◌, get_or, length, map, pos, slice_get, refl, take, Some, sym, ap, subst, ◌∙◌, append_assoc, append-nil, arith}
+use Rattle.std.specs.Prelude.{All, ℤ}
+use Rattle.std.proofs.lemmas.List.{length-append, map_more, take_all}
 use Rattle.std.proofs.lemmas.List.Elements.{All-nil}
 use Rattle.std.proofs.lemmas.Option.{slice_get-get_or}
 use Rattle.dwz_bytes.specs.Spelling.{le_bytes}
 use Rattle.dwz_def_reading.specs.Abbrevs.{IsPlainPair}
 use Rattle.dwz_def_reading.specs.Lists.{Each}
-use Rattle.dwz_def_reading.specs.Values.{Number, value_bytes}
+use Rattle.dwz_def_reading.specs.Forms.{form_rows}
+use Rattle.dwz_def_reading.specs.Values.{Bytes, Number, Raw, value_bytes}
 use Rattle.dwz_def_encoding.specs.Placing.{Reach, ref_form}
 use Rattle.dwz_forms.specs.declared.raw.Raw.TheVariants as code
 use Rattle.dwz_layout.proofs.LeftLemmas.{length_more, no_values, one_value, pairs_more, values_more}
@@ -39,6 +40,25 @@ entry_len n form copy h = subst (λ (f : ℕ). 4 ≡ length (value_bytes f (raw_
 pub entry_bytes : (n : Numbers) (form copy number : ℕ) → (r : Reach) × (form ≡ ref_form r) → raw_of n form (OfEntry copy) ≡ Number (pos number)
     → le_bytes 4 number ≡ value_bytes form (raw_of n form (OfEntry copy))
 entry_bytes n form copy number h is = sym (ap (value_bytes form) is ∙ ap (λ (f : ℕ). value_bytes f (Number (pos number))) h.1 ∙ ref_bytes h.0 number)
+
+-- ---- a value in DW_FORM_string (08)
+
+string_bytes : (text : List ℕ) → value_bytes 0x08 (Bytes text) ≡ text ++ 0 ∷ []
+unfolding value_bytes form_rows
+string_bytes text = refl
+
+string_none : (z : ℤ) → value_bytes 0x08 (Number z) ≡ []
+unfolding value_bytes form_rows
+string_none z = refl
+
+pub text_bytes : (form : ℕ) (raw : Raw) (text : List ℕ) → form ≡ 0x08 → raw ≡ Bytes text → value_bytes form raw ≡ text ++ 0 ∷ []
+text_bytes form raw text is same = (λ i. value_bytes (is i) (same i)) ∙ string_bytes text
+
+pub text_none : (form : ℕ) (raw : Raw) (z : ℤ) → form ≡ 0x08 → raw ≡ Number z → value_bytes form raw ≡ []
+text_none form raw z is same = (λ i. value_bytes (is i) (same i)) ∙ string_none z
+
+pub text_long : (form : ℕ) (raw : Raw) (text : List ℕ) → form ≡ 0x08 → raw ≡ Bytes text → length text + 1 ≡ length (value_bytes form raw)
+text_long form raw text is same = sym (ap (λ (w : List ℕ). length w) (text_bytes form raw text is same) ∙ length-append text (0 ∷ []))
 
 -- ---- a loop over attributes
 

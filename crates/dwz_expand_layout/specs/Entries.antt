@@ -1,6 +1,6 @@
 -- What is written of new units, entry by entry. Copies are the entries of all new units, numbered from 0, unit by unit, and in each from its
 -- root on, in preorder.
-use Rattle.std.specs.Prelude.{◌≡◌, ◌<◌, ℕ, Bool, List, length, map, slice_range}
+use Rattle.std.specs.Prelude.{◌≡◌, ◌≢◌, ◌<◌, ℕ, Bool, List, length, map, slice_range}
 use Rattle.std.specs.List.{sum_by}
 use Rattle.dwz_def_encoding.specs.Placing.{Reach, ref_form}
 use Rattle.dwz_def_reading.specs.Abbrevs.{IsPlainPair}
@@ -38,9 +38,9 @@ content_view operands (Expression e) = parts_in e.start e.bytes.now (slice_range
 abbrev pub attr_view : List NewOperand → NewAttr → OutAttr
 attr_view operands a = record { pair = a.pair; content = content_view operands a.content }
 
--- the form can store it: that of a reference an entry, DW_FORM_exprloc (18) an expression
+-- the form can store it: that of a reference an entry, DW_FORM_exprloc (18) an expression, and DW_FORM_string (08) any bytes
 abbrev pub FitsForm : ℕ → ContentOfCode → Type 0
-FitsForm form (Stored raw) = HasSpelling form (raw_view raw)
+FitsForm form (Stored raw) = form ≢ 0x08 → HasSpelling form (raw_view raw)
 FitsForm form (OfCopy copy) = (r : Reach) × (form ≡ ref_form r)
 FitsForm form (Expression e) = form ≡ 0x18
 

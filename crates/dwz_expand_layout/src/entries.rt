@@ -28,10 +28,9 @@ pub struct NewExpression<'a> {
 /// What an attribute stores.
 #[derive(Clone, Copy)]
 pub enum Content<'a> {
-    /// What was read, or what was chosen in its place: no entry, and no expression.
+    /// What was read, or what was chosen in its place: no entry, and no expression. In `DW_FORM_string` a text, whatever its bytes are.
     Stored(Raw<'a>),
-    /// The number of an entry, in `DW_FORM_ref4` or `DW_FORM_ref_addr`: of the copy that has this number among the entries of all new
-    /// units.
+    /// The number of an entry, in a form of references: of the copy that has this number among the entries of all new units.
     OfCopy(u64),
     /// An expression, in `DW_FORM_exprloc`.
     Expression(NewExpression<'a>),

@@ -1,8 +1,9 @@
 //! What the attributes of an entry store.
 
-ghost use Rattle.std.specs.Prelude.{◌≡◌, ◌++◌, OnOk, map};
+ghost use Rattle.std.specs.Prelude.{◌≡◌, ◌≢◌, ◌++◌, OnOk, map};
 ghost use Rattle.dwz_def_reading.specs.Lists.{Each};
-ghost use Rattle.dwz_def_reading.specs.Values.{value_bytes};
+ghost use Rattle.dwz_def_reading.specs.Values.{HasSpelling, value_bytes};
+ghost use Rattle.dwz_forms.specs.RawValues.{raw_view};
 ghost use Rattle.dwz_expand_layout.specs.Entries.{CanStore, FitsForm, attr_view, content_view};
 ghost use Rattle.dwz_expand_layout.specs.Written.{numbers_view};
 ghost use Rattle.dwz_layout.specs.Attributes.{raw_of, stored_all};
@@ -11,8 +12,28 @@ ghost use Rattle.dwz_layout.specs.Stored.{values_bytes};
 use crate::entries::{Content, NewAttr, NewOperand};
 use crate::numbers::{Numbers, number_by_form, put_four};
 use crate::parts::put_expression;
-use dwz_forms::write_value;
+use dwz_codes::DW_FORM_STRING;
+use dwz_forms::{Raw, write_value};
 use dwz_model::NoMemory;
+
+// Appends a value that isn't a number of an entry, and no expression. A text is written as it is, and a zero byte behind it (7.5.5).
+#[inline(always)]
+fn put_stored(out: &mut Vec<u8>, form: u64, raw: &Raw) -> Result<(), NoMemory>
+    requires { form ≢ 0x08 → HasSpelling form (raw_view raw.now) }
+    ensures { OnOk result (out.new.items ≡ out.old.items ++ value_bytes form (raw_view raw.now)) }
+{
+    if form != DW_FORM_STRING {
+        return write_value(form as u16, raw, out);
+    }
+    match raw {
+        Raw::Bytes(text) => {
+            out.extend_from_slice(text)?;
+            out.push(0)?;
+            Ok(())
+        }
+        Raw::Number(_) => Ok(()),
+    }
+}
 
 // Appends what an attribute stores, where these are the operands of its entry.
 #[inline(always)]
@@ -27,7 +48,7 @@ fn put_value(
         (raw_of (numbers_view numbers.entry) attr.now.pair.form (content_view operands.now attr.now.content))) }
 {
     match &attr.content {
-        Content::Stored(raw) => write_value(attr.pair.form as u16, raw, out),
+        Content::Stored(raw) => put_stored(out, attr.pair.form, raw),
         Content::OfCopy(copy) => put_four(out, number_by_form(numbers, attr.pair.form, *copy)),
         Content::Expression(expression) => put_expression(out, numbers, expression, operands),
     }

@@ -1,15 +1,8 @@
-use Rattle.std.proofs.Common.{◌∙◌, ap, length, rules, subst, sym}
-use Rattle.dwz_forms.specs.RawValues.{raw_view}
-use Rattle.dwz_layout.proofs.NumberLemmas.{form_small}
+use Rattle.std.proofs.Common.{◌∙◌, ap, length, subst, sym}
 use Rattle.dwz_layout.specs.Attributes.{no_numbers}
 use Rattle.dwz_expand_layout.specs.Entries.{FitsForm}
 use Rattle.dwz_expand_layout.proofs.ValueLemmas.{entry_len, in_content}
 use Rattle.dwz_expand_layout.proofs.sizes.attr_len.Goals as goal
-
-pub overflow_cast-attr : goal.overflow_cast-attr
-overflow_cast-attr c =
-    let small = form_small c.args.attr.now.pair.form (raw_view c.in-Stored.raw) (subst (FitsForm c.args.attr.now.pair.form) c.in-Stored.is c.requires) in
-    search (rules, small)
 
 pub returns-in-OfCopy : goal.returns-in-OfCopy
 returns-in-OfCopy c =

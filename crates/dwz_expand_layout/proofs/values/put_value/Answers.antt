@@ -1,17 +1,10 @@
-use Rattle.std.proofs.Common.{◌∙◌, ap, pos, rules, subst, sym}
+use Rattle.std.proofs.Common.{◌∙◌, ap, pos, subst, sym}
 use Rattle.dwz_def_reading.specs.Values.{Number}
 use Rattle.dwz_encode.proofs.ValueLemmas.{put_changed}
-use Rattle.dwz_forms.specs.RawValues.{raw_view}
-use Rattle.dwz_layout.proofs.NumberLemmas.{form_small}
 use Rattle.dwz_expand_layout.specs.Entries.{FitsForm}
 use Rattle.dwz_expand_layout.specs.Written.{numbers_view}
 use Rattle.dwz_expand_layout.proofs.ValueLemmas.{entry_bytes, in_content}
 use Rattle.dwz_expand_layout.proofs.values.put_value.Goals as goal
-
-pub overflow_cast-attr : goal.overflow_cast-attr
-overflow_cast-attr c =
-    let small = form_small c.args.attr.now.pair.form (raw_view c.in-Stored.raw) (subst (FitsForm c.args.attr.now.pair.form) c.in-Stored.is c.requires) in
-    search (rules, small)
 
 pub returns-in-OfCopy : goal.returns-in-OfCopy
 returns-in-OfCopy c =

@@ -7,7 +7,8 @@ use Rattle.dwz_def_expand.specs.Chosen.{Choice, chosen_as, chosen_attr, chosen_e
 use Rattle.dwz_def_expand.specs.Source.{Copy, expanded}
 use Rattle.dwz_def_expand.specs.Written.{written}
 use Rattle.dwz_def_cross.specs.Tops.{WithCommon}
-use Rattle.dwz_def_reading.specs.Classes.{Class, OfCommonEntry, OfCommonText, OfConstant, OfInfoEntry, OfTextBySlot, OfTextInLineStr, OfTextInStr, OfUnitEntry, class_in, class_of, class_rows, names_file}
+use Rattle.dwz_def_reading.specs.Classes.{Class, OfCommonEntry, OfCommonText, OfConstant, OfInfoEntry, OfTextBySlot, OfTextInLineStr, OfTextInStr, OfUnitEntry, class_in, class_of}
+use Rattle.dwz_def_reading.specs.Classes.{class_rows, names_file}
 use Rattle.dwz_def_reading.specs.Documents.{Attr, DwUnit, Entries}
 use Rattle.dwz_def_reading.specs.Lists.{Each}
 use Rattle.dwz_def_reading.specs.Trees.{End, Entry}

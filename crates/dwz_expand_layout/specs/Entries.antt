@@ -1,5 +1,5 @@
--- What is written of new units, entry by entry. Copies are the entries of all new units, numbered from 0, unit by unit, and in each from its
--- root on, in preorder.
+-- What is written of new units, entry by entry. Copies are the entries of all new units, numbered from 0, unit by unit, and in each from
+-- its root on, in preorder.
 use Rattle.std.specs.Prelude.{◌≡◌, ◌≢◌, ◌<◌, ℕ, Bool, List, length, map, slice_range}
 use Rattle.std.specs.List.{sum_by}
 use Rattle.dwz_def_encoding.specs.Placing.{Reach, ref_form}

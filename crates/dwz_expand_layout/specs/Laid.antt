@@ -11,8 +11,8 @@ use Rattle.dwz_expand_layout.specs.declared.layout.LaidUnit.{LaidUnit}
 use Rattle.dwz_expand_layout.specs.declared.layout.NewLayout.{NewLayout}
 use Rattle.dwz_expand_layout.specs.Entries.{NewLine, UnitLines, line_call}
 
--- the units so far: where each begins and ends, and the offset of its table; the tables, each once; where each copy stands, and its code; and
--- the place behind all
+-- the units so far: where each begins and ends, and the offset of its table; the tables, each once; where each copy stands, and its
+-- code; and the place behind all
 pub record Made : Type 0 where
   pub units : List LaidUnit
   pub tables : List (List ℕ)

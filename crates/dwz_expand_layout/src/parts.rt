@@ -85,7 +85,8 @@ pub(crate) fn expression_len(
     expression: &NewExpression,
     operands: &[NewOperand],
 ) -> Result<u64, NoMemory>
-    ensures { IfOk result (λ len. len ≡ length (value_bytes 0x18 (raw_of no_numbers 0x18 (content_view operands.now (Expression expression.now))))) }
+    ensures { IfOk result (λ len. len
+        ≡ length (value_bytes 0x18 (raw_of no_numbers 0x18 (content_view operands.now (Expression expression.now))))) }
 {
     let own = own_operands(operands, expression.first, expression.end);
     let len = parts_len(expression.start, expression.bytes, own)?;

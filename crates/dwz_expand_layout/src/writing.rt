@@ -4,7 +4,8 @@ ghost use Rattle.std.specs.Prelude.{◌≡◌, ◌++◌, IfOk, OnOk, replicate};
 ghost use Rattle.dwz_encode.specs.Pages.{entry_page};
 ghost use Rattle.dwz_expand_layout.specs.Entries.{CanWrite, line_call, line_view};
 ghost use Rattle.dwz_expand_layout.specs.Laid.{layout_view};
-ghost use Rattle.dwz_expand_layout.specs.Written.{header_page, kind_byte, kind_page, nothing_written, numbers_view, with_entry, with_header};
+ghost use Rattle.dwz_expand_layout.specs.Written.{header_page, kind_byte, kind_page, nothing_written, numbers_view, with_entry};
+ghost use Rattle.dwz_expand_layout.specs.Written.{with_header};
 
 use crate::entries::{NewEntry, NewKind};
 use crate::layout::{LaidUnit, NewLayout};
@@ -35,7 +36,8 @@ impl<'l> Model for Writing<'l> {
 
     ghost Value = { Writing };
 
-    ghost view = { λ w. record { made = layout_view w.layout.now; out = w.out.items; units = w.units; copies = w.copies; begin = w.begin } };
+    ghost view = { λ w.
+        record { made = layout_view w.layout.now; out = w.out.items; units = w.units; copies = w.copies; begin = w.begin } };
 }
 
 // The byte for the type of a unit.
@@ -94,7 +96,8 @@ fn put_entry(
     code: u32,
 ) -> Result<(), NoMemory>
     requires { CanWrite entry.now }
-    ensures { OnOk result (out.new.items ≡ out.old.items ++ entry_page code (line_call (numbers_view numbers.entry) (line_view entry.now))) }
+    ensures { OnOk result (out.new.items ≡ out.old.items
+        ++ entry_page code (line_call (numbers_view numbers.entry) (line_view entry.now))) }
 {
     put_uleb(out, code as u64)?;
     put_values(out, numbers, entry.attrs, entry.operands)?;

@@ -25,4 +25,5 @@ returns c =
     let all = length (parts_page no_numbers c.args.start c.args.bytes.now c.args.operands.now) in
     let sum = c.loop-operand.len + length c.loop-operand.left.now in
     ok_same c.more-2.result sum all
-    (len_done c.args.operands.now c.loop-operand.operand-index c.loop-operand.at c.loop-operand.left.now c.loop-operand.len sum all c.loop-operand-test.false refl c.loop-operand.invariant) c.more-2.ensures
+    (len_done c.args.operands.now c.loop-operand.operand-index c.loop-operand.at c.loop-operand.left.now c.loop-operand.len sum all c.loop-operand-test.false refl
+    c.loop-operand.invariant) c.more-2.ensures

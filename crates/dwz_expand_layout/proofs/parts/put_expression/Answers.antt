@@ -12,5 +12,6 @@ returns c =
     let n = numbers_view c.args.numbers in
     let old = c.args.out.now.items in
     put_mapped c.put_parts.result
-    (λ (put : _). expression_put n e.start e.bytes.now c.own_operands-own.result.now c.in_ok-len.len old c.put_uleb.new.out.items c.put_parts.new.out.items c.in_ok-len.ensures c.in_ok-put_uleb.ensures.ok put
+    (λ (put : _). expression_put n e.start e.bytes.now c.own_operands-own.result.now c.in_ok-len.len old c.put_uleb.new.out.items c.put_parts.new.out.items c.in_ok-len.ensures
+    c.in_ok-put_uleb.ensures.ok put
     ∙ ap (λ (os : _). old ++ value_bytes 0x18 (Bytes (parts_page n e.start e.bytes.now os))) c.own_operands-own.ensures) c.put_parts.ensures

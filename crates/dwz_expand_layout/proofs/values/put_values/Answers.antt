@@ -7,7 +7,8 @@ loop-attr-init c = put_none (numbers_view c.args.numbers) c.args.operands.now c.
 
 pub loop-attr-preserved : goal.loop-attr-preserved
 loop-attr-preserved c =
-    put_more (numbers_view c.args.numbers) c.args.operands.now c.args.attrs.now c.loop-attr.attr-index no_attr c.args.out.now.items c.loop-attr.out.items c.put_value.new.out.items c.loop-attr.invariant
+    put_more (numbers_view c.args.numbers) c.args.operands.now c.args.attrs.now c.loop-attr.attr-index no_attr c.args.out.now.items c.loop-attr.out.items c.put_value.new.out.items
+    c.loop-attr.invariant
     c.loop-attr-test.true c.in_ok-put_value.ensures
 
 pub returns : goal.returns

@@ -52,6 +52,9 @@ module _ {P : Type 0} where
   line_keys depth (Entry e c n) =
       ap (λ (ks : List P). e.at ∷ ks) (map-append key_of (lines (suc depth) c) (lines depth n) ∙ (λ i. line_keys (suc depth) c i ++ line_keys depth n i))
 
+  pub unit_line_keys : (u : DwUnit P) → map key_of (unit_lines u) ≡ entry_keys u
+  unit_line_keys u = ap (λ (ks : List P). u.root.at ∷ ks) (line_keys 2 u.below)
+
   all_keys : (u : DwUnit P) (units : List (DwUnit P)) → map key_of (units_lines (u ∷ units)) ≡ entry_keys u ++ map key_of (units_lines units)
   unfolding units_lines
   all_keys u units =

@@ -73,7 +73,7 @@ module _ (w : WithCommon ℕ) (s : Sources) (test : IsTest same) (apart : NoneTw
   all_stand (x ∷ xs) [] into news = absurd news
   all_stand (x ∷ xs) (u ∷ us) into news = (stands_as x u (into u (inl refl)) news.0, all_stand xs us (λ v is. into v (inr is)) news.1)
 
-same_test : IsTest same
+pub same_test : IsTest same
 same_test = record { yes = λ p q e. eqb-true p q e; no = λ p. eq-eqb p p refl }
 
 pub lines_law : LinesLaw

@@ -1,4 +1,6 @@
 pub mod ListLemmas
 pub mod LineLemmas
 pub mod StandLemmas
+pub mod NumberLemmas
+pub mod ReferLemmas
 pub mod CopiedLemmas

@@ -10,6 +10,11 @@ use Rattle.dwz_def_reading.specs.Lists.{Each}
 use Rattle.dwz_encode.specs.Shown.{HeldAttr, Key, Parts, attr_held, content_held, expr_held, first_held, held_as, held_of}
 use Rattle.dwz_expand_layout.specs.declared.entries.NewKind.{NewKind}
 use Rattle.dwz_expand_layout.specs.declared.entries.NewKind.TheVariants.{Compile, OfType}
+use Rattle.dwz_expand_layout.specs.declared.entries.Content.{Content as ContentOfCode}
+use Rattle.dwz_expand_layout.specs.declared.entries.Content.TheVariants.{Expression, OfCopy, Stored}
+use Rattle.dwz_expand_layout.specs.declared.entries.NewAttr.{NewAttr}
+use Rattle.dwz_expand_layout.specs.declared.entries.NewOperand.{NewOperand}
+use Rattle.dwz_expand_layout.specs.Entries.{attr_view, content_view}
 use Rattle.dwz_expand_layout.specs.Depths.{DeepLine, with_ends}
 use Rattle.dwz_expand_layout.specs.Shown.{AttrRefers, ContentRefers, KindRefers, KindShows, LineRefers, keys_of}
 use Rattle.dwz_imports.specs.Imports.{same}
@@ -112,3 +117,16 @@ pub lines_refer : (count : ℕ) (deep : List DeepLine) → Each (λ d. Each (Att
 unfolding with_ends
 lines_refer count [] refer = tt
 lines_refer count (d ∷ deep) refer = (refer.0, lines_refer count deep refer.1)
+
+-- ---- what the layout sees of attributes names no root
+
+no_root : (operands : List NewOperand) (a : NewAttr) → NamesNoRoot (attr_view operands a)
+no_root operands a = by a.content where
+  by : (content : ContentOfCode) → (unit : ℕ) → content_view operands content ≡ OfRoot unit → ⊥
+  by (Stored raw) unit e = cc
+  by (OfCopy number) unit e = cc
+  by (Expression x) unit e = cc
+
+pub no_roots : (operands : List NewOperand) (attrs : List NewAttr) → Each NamesNoRoot (map (attr_view operands) attrs)
+no_roots operands [] = tt
+no_roots operands (a ∷ attrs) = (no_root operands a, no_roots operands attrs)

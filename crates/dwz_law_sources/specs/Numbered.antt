@@ -16,4 +16,6 @@ key_in w number = get_or (copies_from 0 (source_places same w)) number (copy (le
 
 -- numbers that count so are those of these copies
 abbrev pub NumbersLaw : Type 0
-NumbersLaw = (w : WithCommon ℕ) (unit source number : ℕ) → IsCopyNumber (source_places same w) unit source number → key_in w number ≡ copy unit source
+NumbersLaw =
+    (w : WithCommon ℕ) (unit source number : ℕ) → IsCopyNumber (source_places same w) unit source number
+    → key_in w number ≡ copy unit source

@@ -1,0 +1,4 @@
+pub mod SourceMaps
+pub mod UnitMaps
+pub mod ByteMaps
+pub mod RenamedLemmas

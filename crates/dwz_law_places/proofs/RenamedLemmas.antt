@@ -1,8 +1,9 @@
 -- What is written along a function of places.
-use Rattle.std.proofs.Common.{◌≡◌, Bool, List, [], ◌∷◌, ◌==◌, ◌&&◌, map, sym, ap, ◌∙◌, append-nil}
+use Rattle.std.proofs.Common.{false, true, refl, ◌≡◌, Bool, List, [], ◌∷◌, ◌==◌, ◌&&◌, map, sym, ap, ◌∙◌, append-nil}
 use Rattle.dwz_def_cross.specs.Tops.{WithCommon}
 use Rattle.dwz_def_encoding.specs.Placing.{files_placed, number_of_key, sections, units_placed}
 use Rattle.dwz_def_expand.specs.Chosen.{Choice}
+use Rattle.dwz_def_expand.specs.ExpandLaws.{IsTest}
 use Rattle.dwz_def_expand.specs.Source.{Copy}
 use Rattle.dwz_def_expand.specs.Written.{expanded_places, expanded_sections, same_copy, written}
 use Rattle.dwz_def_reading.specs.Documents.{DwUnit, unit_map}
@@ -42,3 +43,12 @@ renamed_law P Q f same other c d w alike choice = record {
   sections = all_sections f same other c d w alike choice;
   places = place_mapped f same other c d w alike choice;
 }
+
+-- tests agree along a function that takes no two together
+pub tests_agree : {P Q : Type 0} (f : P → Q) (same : P → P → Bool) (other : Q → Q → Bool) → IsTest same → IsTest other → ((p q : P) → f p ≡ f q → p ≡ q) → (p q : P)
+    → other (f p) (f q) ≡ same p q
+tests_agree f same other one two apart p q = by (same p q) (other (f p) (f q)) refl refl where
+  by : (a b : Bool) → same p q ≡ a → other (f p) (f q) ≡ b → other (f p) (f q) ≡ same p q
+  by true b x y = (let is : f p ≡ f q = ap f (one.yes p q x) in ap (λ (z : _). other z (f q)) is ∙ two.no (f q) ∙ sym x)
+  by false true x y = (let is : p ≡ q = apart p q (two.yes (f p) (f q) y) in let yes : same p q ≡ true = ap (λ (z : _). same z q) is ∙ one.no q in absurd cc)
+  by false false x y = y ∙ sym x

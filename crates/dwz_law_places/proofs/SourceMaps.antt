@@ -105,7 +105,7 @@ module _ {P Q : Type 0} (f : P → Q) (same : P → P → Bool) (other : Q → Q
   unit_mapped : (units : List (DwUnit P)) (u : DwUnit P) → source_unit other (map (unit_map f) units) (unit_map f u) ≡ unit_map f (source_unit same units u)
   unit_mapped units u = (λ i. record { at = f u.at; kind = kind_map f u.kind; root = node_map f u.root; below = below_mapped units u.kind u.below i })
 
-  whole_mapped : (units : List (DwUnit P)) → whole_units (map (unit_map f) units) ≡ map (unit_map f) (whole_units units)
+  pub whole_mapped : (units : List (DwUnit P)) → whole_units (map (unit_map f) units) ≡ map (unit_map f) (whole_units units)
   unfolding whole_units
   whole_mapped [] = refl
   whole_mapped (u ∷ units) = ap (unless_partial (kind_map f u.kind) (unit_map f u)) (whole_mapped units) ∙ by u.kind where

@@ -4,3 +4,4 @@ pub mod StandLemmas
 pub mod NumberLemmas
 pub mod ReferLemmas
 pub mod CopiedLemmas
+pub mod FileLemmas

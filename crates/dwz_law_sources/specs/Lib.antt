@@ -1,3 +1,4 @@
 pub mod Lined
 pub mod Numbered
 pub mod Copied
+pub mod OfFile

@@ -3,12 +3,13 @@
 //! Each entry of a new unit stands as deep as its source did in its own unit: so the numbers of sources and the depths that were read tell
 //! where lists of children end (`depth_laws`). The number that is counted of a copy is its index among all copies; and new units that have
 //! the copies of these sources, each with what it stores, show the units of the file that is written without its partial ones
-//! (`copy_laws`), which is what the layout asks for (`layout_laws` of `dwz_expand_layout`).
+//! (`copy_laws`), which is what the layout asks for (`layout_laws` of `dwz_expand_layout`). So what is laid and written of them are the new
+//! sections of the file (`file_laws`).
 //!
-//! No code is here. Read first: `specs/Lined.antt`, `specs/Numbered.antt`, `specs/Copied.antt`; and `specs/Sources.antt` of
-//! `dwz_expand_sources`.
+//! No code is here. Read first: `specs/Lined.antt`, `specs/Numbered.antt`, `specs/Copied.antt`, `specs/OfFile.antt`; and
+//! `specs/Sources.antt` of `dwz_expand_sources`.
 #![tactic(auto)]
 
 mod laws;
 
-pub use laws::{copy_laws, depth_laws};
+pub use laws::{copy_laws, depth_laws, file_laws};

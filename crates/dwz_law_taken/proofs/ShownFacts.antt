@@ -3,7 +3,7 @@ use Rattle.std.proofs.Common.{◌≡◌, ℕ, zero, suc, ◌<◌, List, length, 
 use Rattle.dwz_def_reading.specs.Lists.{In}
 use Rattle.dwz_def_tops.specs.Spots.{Top}
 use Rattle.dwz_def_taken.specs.Beside.{CommonAlike, Reused}
-use Rattle.dwz_def_taken.specs.Takes.{CanTake, CanTakeAlong, HasSpace, InPart, IsImage, IsTaken, IsTakenAs, Takes}
+use Rattle.dwz_def_taken.specs.Takes.{CanTake, CanTakeAlong, HasLike, HasSpace, InPart, IsImage, IsTaken, IsTakenAs, Takes}
 use Rattle.dwz_takes.specs.declared.rows.Rows.{Rows}
 use Rattle.dwz_takes.specs.Images.{IsImageOf, StandsFor}
 use Rattle.dwz_takes.specs.Takes.{AreTakes, FitsAlong, FitsIn, TakesPart, class_of, list_at}
@@ -23,7 +23,8 @@ module _ (r : Reused) (name : ℕ → List (List ℕ)) (rows : Rows) (s : ShowRe
         let n = s.named p names h in
         let P : List (List ℕ) → Type 0 = λ ns. HasSpace r.units u ns in
         let Q : List (List ℕ) → Type 0 = λ ns. HasSpace r.commons p ns in
-        subst P n.1 ((s.unit_names u n.0).0 (f.spaces n.0 ((s.part_names p n.0).1 (subst Q (sym n.1) h))));
+        let l = f.tops f.some.0 f.some.1 in
+        subst P n.1 ((s.unit_names u l.0 n.0 l.1).0 (f.spaces n.0 ((s.part_names p n.0).1 (subst Q (sym n.1) h))));
     tops = λ c h.
         let here : In c.number (list_at rows.part_tops p) = (s.part_tops p c.number).1 (c, h, refl) in
         let l = f.tops c.number here in
@@ -32,15 +33,21 @@ module _ (r : Reused) (name : ℕ → List (List ℕ)) (rows : Rows) (s : ShowRe
         record { top = top.0; there = top.1.0; unit_is = top.1.1; alike = subst (λ (m : ℕ). CommonAlike r m c.number) (sym top.1.2) alike };
   }
 
+  -- what is alike to a top of a partial unit is in the unit's list
+  listed : (u c : ℕ) → (l : HasLike r u c) → In l.top.number (list_at rows.unit_tops u)
+  listed u c l = subst (λ (m : ℕ). In l.top.number (list_at rows.unit_tops m)) l.unit_is (s.alike_tops l.top l.there c l.alike)
+
   pub fits_in : (u p : ℕ) → CanTake r u p → FitsIn rows u p
   fits_in u p f = record {
     some = (f.some.0.number, (s.part_tops p f.some.0.number).1 (f.some.0, f.some.1, refl));
-    spaces = λ n i. (s.unit_names u n).1 (f.spaces (name n) ((s.part_names p n).0 i));
+    spaces = λ n i. (
+        let l = f.tops f.some.0 f.some.1 in
+        (s.unit_names u l.top.number n (listed u f.some.0.number l)).1 (f.spaces (name n) ((s.part_names p n).0 i)));
     tops = λ c i.
         let o = part_top p c i in
         let l = f.tops o.0 o.1 in
         let alike : CommonAlike r l.top.number c = subst (λ (m : ℕ). CommonAlike r l.top.number m) o.2 l.alike in
-        let here : In l.top.number (list_at rows.unit_tops u) = subst (λ (m : ℕ). In l.top.number (list_at rows.unit_tops m)) l.unit_is (s.alike_tops l.top l.there c alike) in
+        let here = listed u o.0.number l in
         (l.top.number, here, (s.classes u l.top.number p c here i).1 alike);
   }
 

@@ -15,8 +15,8 @@ abbrev pub StandsIn : Reused → ℕ → ℕ → Top → Type 0
 StandsIn r u t top = In top (tops_of r.units) × (top.unit ≡ u) × (top.number ≡ t)
 
 -- Of each unit the rows have tops that stand in it, among them each that is alike to some top of the common file; of each partial unit just
--- its tops. Of these tops the class tells which are alike. They have the name lists of spaces, each under one number, and what partial units
--- refer to. Units behind those of the files have nothing.
+-- its tops. Of these tops the class tells which are alike. They have the name lists of spaces, each under one number, of units that have such
+-- a top and of partial units, and what partial units refer to. Units behind those of the files have nothing.
 pub record ShowReused (r : Reused) (name : ℕ → List (List ℕ)) (rows : Rows) : Type 0 where
   pub parts : length rows.part_tops ≡ length r.commons
   pub unit_tops : (u t : ℕ) → In t (list_at rows.unit_tops u) → (top : Top) × StandsIn r u t top
@@ -24,7 +24,7 @@ pub record ShowReused (r : Reused) (name : ℕ → List (List ℕ)) (rows : Rows
   pub units : (top : Top) → In top (tops_of r.units) → top.unit < length r.units
   pub part_tops : (p c : ℕ) → In c (list_at rows.part_tops p) ↔ ((top : Top) × InPart r p top × (top.number ≡ c))
   pub classes : (u t p c : ℕ) → In t (list_at rows.unit_tops u) → In c (list_at rows.part_tops p) → (class_of rows t ≡ class_of rows c) ↔ CommonAlike r t c
-  pub unit_names : (u n : ℕ) → In n (list_at rows.unit_names u) ↔ HasSpace r.units u (name n)
+  pub unit_names : (u t n : ℕ) → In t (list_at rows.unit_tops u) → In n (list_at rows.unit_names u) ↔ HasSpace r.units u (name n)
   pub part_names : (p n : ℕ) → In n (list_at rows.part_names p) ↔ HasSpace r.commons p (name n)
   pub named : (p : ℕ) (names : List (List ℕ)) → HasSpace r.commons p names → (n : ℕ) × (name n ≡ names)
   pub part_targets : (p q : ℕ) → In q (list_at rows.part_targets p) ↔ PartRefers r p q

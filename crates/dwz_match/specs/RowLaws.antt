@@ -16,9 +16,10 @@ use Rattle.dwz_takes.specs.declared.rows.Rows.{Rows}
 use Rattle.dwz_takes.specs.Images.{AreApart}
 use Rattle.dwz_takes.specs.Takes.{list_at}
 
--- Rows have the name lists of spaces, each under one number, and what partial units refer to.
+-- Rows have the name lists of spaces, each under one number, of units with tops that may move and of partial units; and what partial units
+-- refer to.
 pub record ShowSpaces (r : Reused) (name : ℕ → List (List ℕ)) (rows : Rows) : Type 0 where
-  pub unit_names : (u n : ℕ) → In n (list_at rows.unit_names u) ↔ HasSpace r.units u (name n)
+  pub unit_names : (u t n : ℕ) → In t (list_at rows.unit_tops u) → In n (list_at rows.unit_names u) ↔ HasSpace r.units u (name n)
   pub part_names : (p n : ℕ) → In n (list_at rows.part_names p) ↔ HasSpace r.commons p (name n)
   pub named : (p : ℕ) (names : List (List ℕ)) → HasSpace r.commons p names → (n : ℕ) × (name n ≡ names)
   pub part_targets : (p q : ℕ) → In q (list_at rows.part_targets p) ↔ PartRefers r p q

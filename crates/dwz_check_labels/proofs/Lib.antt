@@ -22,3 +22,4 @@ pub mod StepLemmas
 pub mod BothLemmas
 pub mod IndexLemmas
 pub mod ReadyLemmas
+pub mod TopsAlone

@@ -14,7 +14,7 @@ use Rattle.dwz_graph.specs.Parts.{AreParted, HaveLines}
 use Rattle.dwz_graph.specs.Resolved.{sources_view}
 use Rattle.dwz_graph.specs.Surroundings.{AreAmong, behind_own}
 use Rattle.dwz_unit.specs.Rows.{units_of}
-use Rattle.dwz_check_labels.specs.Both.{Named, all_labels, all_targets}
+use Rattle.dwz_check_labels.specs.Both.{Named, all_labels, all_targets, top_labels, top_targets}
 
 -- what a common file gives to the others
 abbrev pub given_by : Option File → Option (Common ℕ)
@@ -78,3 +78,18 @@ pub record AreNamed {old new : File} {common : Option File} {x : CrossIndexes} (
 abbrev pub AreLabelsFor : File → File → Option File → CrossIndexes → List (List ℕ) → List (List ℕ) → Type 0
 AreLabelsFor old new common x labels targets =
     (s : AreFilesSaid old new common x) (a b c : Named) → AreNamed s a b c → (labels ≡ all_labels a b c) × (targets ≡ all_targets a b c)
+
+-- ---- a file by itself
+
+-- it says something by itself, and the index is that of it
+pub record IsIndexed (f : File) (x : CrossIndex) : Type 0 where
+  pub said : List (DwUnit ℕ)
+  pub top : ℕ
+  pub is : IsFileSaid f None said
+  pub index : IsCrossIndex (from_top top) said x
+
+-- whatever function names the places, these are the labels of its tops, and the tops that each leads into
+abbrev pub AreTopLabels : File → CrossIndex → List (List ℕ) → List (List ℕ) → Type 0
+AreTopLabels f x labels targets =
+    (n : Named) (top : ℕ) → IsFileSaid f None n.said → IsCrossIndex (from_top top) n.said x → IsNamed top (λ p. p) n
+    → (labels ≡ top_labels n.name n.said) × (targets ≡ top_targets n.name n.said)

@@ -16,8 +16,8 @@ use dwz_graph::{File, Graph, Here, placed_laws};
 use dwz_model::NoMemory;
 use std::alloc::Global;
 
-// A file with its names, beside a common one with those texts.
-fn named_file<'s, 'a>(
+/// A file with its names, beside a common one with those texts.
+pub(crate) fn named_file<'s, 'a>(
     file: &'s File<'a>,
     common_strs: &'a [u8],
     index: &'s CrossIndex,
@@ -38,8 +38,8 @@ fn named_file<'s, 'a>(
     }
 }
 
-// What its labels are written from.
-fn source_of<'s, 'a>(
+/// What its labels are written from.
+pub(crate) fn source_of<'s, 'a>(
     alloc: Global,
     file: &'s File<'a>,
     own: NamedFile<'s, 'a>,

@@ -1,0 +1,2 @@
+pub mod UnitEntries
+pub mod SpaceEdges

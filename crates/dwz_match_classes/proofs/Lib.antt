@@ -1,0 +1,4 @@
+pub mod JoinedLists
+pub mod JoinedFacts
+pub mod TopFiles
+pub mod LeastLow

@@ -1,0 +1,13 @@
+//! What the tops of files refer into, also by operands of expressions and of location lists.
+//!
+//! Labels of looks across files lead into tops (`labels_by_itself` of `dwz_check_labels`); there the root of a type unit is a top too, so
+//! `own_numbers` gives each such top the number that it has among those of the files, if it has one. `put_refers` adds an edge for each
+//! top and each one that it refers into.
+//!
+//! Read first: `specs/Refers.antt`.
+#![tactic(auto)]
+
+mod file_refers;
+mod own;
+
+pub use file_refers::put_refers;

@@ -31,7 +31,7 @@ use Rattle.dwz_match_refers.proofs.TreeRefs.{AttrsHave, EntriesHave, Same, top_s
 abbrev Spot : Type 0
 Spot = ℕ × EntryName
 
-some_at : (own : List (Option ℕ)) (k n : ℕ) → own_at own k ≡ Some n → slice_get own k ≡ Some (Some n)
+pub some_at : (own : List (Option ℕ)) (k n : ℕ) → own_at own k ≡ Some n → slice_get own k ≡ Some (Some n)
 some_at [] k n e = absurd cc
 some_at (o ∷ own) zero n e = ap (λ (w : Option ℕ). Some w) e
 some_at (o ∷ own) (suc k) n e = some_at own k n e

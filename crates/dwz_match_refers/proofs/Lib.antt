@@ -6,3 +6,5 @@ pub mod EdgeSteps
 pub mod NodeSteps
 pub mod PlaceNames
 pub mod RefersPut
+pub mod CrossFew
+pub mod FileSteps

@@ -98,8 +98,15 @@ pub record IsRefersEdge (tops : List Top) (e : Edge) : Type 0 where
   pub from : top.number ≡ e.key
   pub refers : refers_to e.value top ≡ true
 
--- just that was put behind others
-pub record PutsRefers (tops : List Top) (old new : List Edge) : Type 0 where
+-- just that was put behind others, where it leads to numbers below one
+pub record PutsRefers (tops : List Top) (high : ℕ) (old new : List Edge) : Type 0 where
   pub only : (e : Edge) → In e new → In e old ⊎ IsRefersEdge tops e
   pub kept : (e : Edge) → In e old → In e new
+  pub low : (e : Edge) → In e new → In e old ⊎ (e.value < high)
   pub found : (t : Top) (m : ℕ) → In t tops → refers_to m t ≡ true → In (own_edge t.number m) new
+
+-- Of the tops of units before one, where so many tops are before it, each edge is there, and others are of tops too.
+pub record AreRefers (tops : List Top) (unit top : ℕ) (edges : List Edge) : Type 0 where
+  pub only : (e : Edge) → In e edges → IsRefersEdge tops e
+  pub low : (e : Edge) → In e edges → e.value < top
+  pub found : (t : Top) (m : ℕ) → In t tops → t.unit < unit → refers_to m t ≡ true → In (own_edge t.number m) edges

@@ -5,7 +5,7 @@ ghost use Rattle.dwz_def_reading.specs.Documents.{DwUnit};
 ghost use Rattle.dwz_def_check.specs.CrossLists.{numbered_units};
 ghost use Rattle.dwz_def_check.specs.CrossNames.{cross_tops};
 ghost use Rattle.dwz_def_images.specs.After.{ArePlaced};
-ghost use Rattle.dwz_def_tops.specs.Spots.{in_file, named, tops_from};
+ghost use Rattle.dwz_def_tops.specs.Spots.{in_file, named, tops_among, tops_from};
 ghost use Rattle.dwz_check_index.specs.Both.{from_top};
 ghost use Rattle.dwz_check_index.specs.Index.{IsCrossIndex};
 ghost use Rattle.dwz_check_labels.specs.FilesSaid.{IsFileSaid};
@@ -52,7 +52,8 @@ pub fn put_refers(
 ) -> Result<(), NoMemory>
     requires { (said : List (DwUnit ℕ)) × IsFileSaid file.now None said × ArePlaced said × (first + length (cross_tops said) < 2 ^ 32) }
     ensures { (number unit : ℕ) (said : List (DwUnit ℕ)) → IsFileSaid file.now None said → ArePlaced said
-        → OnOk result (PutsRefers (tops_from unit first (map (in_file number) (named unit first said))) edges.old.items edges.new.items) }
+        → OnOk result (PutsRefers (tops_from unit first (map (in_file number) (named unit first said))) (first + tops_among said)
+        edges.old.items edges.new.items) }
 {
     let index = CrossIndex::read(alloc, &file.units, &CrossStarts { top: 0, lone: 0 })?;
     let labels = labels_by_itself(alloc, file, &index)?;

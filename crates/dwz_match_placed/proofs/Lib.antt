@@ -1,0 +1,2 @@
+pub mod CommonPlaced
+pub mod FilesPlaced

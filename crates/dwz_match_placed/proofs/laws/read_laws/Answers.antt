@@ -1,0 +1,13 @@
+use Rattle.dwz_match_placed.proofs.CommonPlaced.{partial, parts, tags}
+use Rattle.dwz_match_placed.proofs.FilesPlaced.{all_placed}
+use Rattle.dwz_match_placed.proofs.laws.read_laws.Goals as goal
+
+pub returns-clause-placed : goal.returns-clause-placed
+returns-clause-placed c = λ contents files number l bytes raw common kept says. record {
+  each = all_placed contents files kept;
+  parts = parts number l bytes raw common says;
+  tags = tags number l bytes raw common says;
+}
+
+pub returns-clause-partial : goal.returns-clause-partial
+returns-clause-partial c = λ number l bytes raw common says. partial number l bytes raw common says

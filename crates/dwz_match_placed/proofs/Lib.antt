@@ -1,2 +1,4 @@
 pub mod CommonPlaced
 pub mod FilesPlaced
+pub mod MapTwice
+pub mod BesideSaid

@@ -1,3 +1,4 @@
+use Rattle.dwz_match_placed.proofs.BesideSaid.{common_said, docs_are}
 use Rattle.dwz_match_placed.proofs.CommonPlaced.{partial, parts, tags}
 use Rattle.dwz_match_placed.proofs.FilesPlaced.{all_placed}
 use Rattle.dwz_match_placed.proofs.laws.read_laws.Goals as goal
@@ -11,3 +12,9 @@ returns-clause-placed c = λ contents files number l bytes raw common kept says.
 
 pub returns-clause-partial : goal.returns-clause-partial
 returns-clause-partial c = λ number l bytes raw common says. partial number l bytes raw common says
+
+pub returns-clause-beside : goal.returns-clause-beside
+returns-clause-beside c = λ contents files number bytes raw common said kept says e. (
+  docs_are c.placed_laws.ensures.common contents files kept number bytes raw common says said e,
+  common_said c.placed_laws.ensures.common contents files kept number bytes raw common says said e,
+)

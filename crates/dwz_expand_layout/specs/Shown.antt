@@ -4,7 +4,8 @@ use Rattle.dwz_def_reading.specs.Documents.{DwUnit, Compile as CompileUnit, Kind
 use Rattle.dwz_def_reading.specs.Lists.{Each}
 use Rattle.dwz_layout_items.specs.Lines.{Enter, Leave, Step, unit_steps}
 use Rattle.dwz_layout.specs.Attributes.{Content, OfEntry, OfParts, OfRoot, OutAttr, Read}
-use Rattle.dwz_encode.specs.Shown.{HeldAttr, Keys, attr_held, held_of}
+pub use Rattle.dwz_encode.specs.Shown.{Held, HeldAttr, Key, Keys, Parts, Value, attr_held, content_held, expr_held, first_held, held_as}
+pub use Rattle.dwz_encode.specs.Shown.{held_of}
 use Rattle.dwz_expand_layout.specs.declared.entries.NewKind.{NewKind}
 use Rattle.dwz_expand_layout.specs.declared.entries.NewKind.TheVariants.{Compile, OfType}
 use Rattle.dwz_expand_layout.specs.Entries.{NewLine, UnitLines}

@@ -15,9 +15,9 @@ use Rattle.dwz_def_reading.specs.Lists.{Each}
 use Rattle.dwz_def_reading.specs.Trees.{End, Entry}
 use Rattle.dwz_def_tops.specs.Lists.{NoneTwice}
 use Rattle.dwz_def_tops.specs.Shown.{keys, unit_keys, units_keys}
-use Rattle.dwz_encode.specs.Shown.{held_of}
+use Rattle.dwz_expand_layout.specs.Shown.{held_of}
 use Rattle.dwz_imports.specs.Imports.{same}
-use Rattle.dwz_layout_items.specs.Lines.{Line, line, lines, unit_lines}
+use Rattle.dwz_expand_layout.specs.Lines.{Line, line, lines, unit_lines}
 use Rattle.dwz_model.proofs.ListFacts.{in_map}
 use Rattle.dwz_model.proofs.Members.{each_of, nth_below}
 use Rattle.dwz_model.specs.Lists.{In, Nth}
@@ -78,7 +78,7 @@ module _ (w : WithCommon ℕ) (s : Sources) (c : Choice ℕ) where
     numbered number is i p found =
         let stands : slice_get (get_or (source_places same w) n []) i ≡ Some p =
         ap (λ (ps : List ℕ). slice_get ps i) listed ∙ sym (ap (λ (ps : List ℕ). slice_get ps i) (unit_line_keys u)) ∙ found in
-        numbers_law w n p (number + i) (record { before = i; counts = ap (λ (m : ℕ). m + i) is; stands = stands })
+        ap (λ (m : ℕ). key_in w (m + i)) is ∙ numbers_law w n p i stands
 
     show_lines : (number : ℕ) (deep : List DeepLine) (ls : List (Line ℕ)) → Each (λ l. named_copy w n l.node.at ≡ copy n l.node.at) ls → Numbered n number ls → EachTwo (IsCopyOf w c n) deep ls
         → ShowLines (key_in w) number deep (map (written_line c (named_copy w n)) ls)

@@ -9,7 +9,7 @@ use Rattle.dwz_def_expand.specs.Source.{followed_by, imported_by, imported_in, i
 use Rattle.dwz_def_reading.specs.Documents.{Compile, DwUnit, Entries, Kind, Node, OfType, Partial}
 use Rattle.dwz_def_reading.specs.Trees.{End, Entry}
 use Rattle.dwz_def_tops.specs.Shown.{keys, unit_keys, units_keys}
-use Rattle.dwz_layout_items.specs.Lines.{Line, line, lines, unit_lines}
+use Rattle.dwz_expand_layout.specs.Lines.{Line, line, lines, unit_lines}
 use Rattle.dwz_model.proofs.ListFacts.{in_cases, in_left, in_right}
 use Rattle.dwz_model.proofs.Members.{each_append, each_in, each_of, each_split}
 use Rattle.dwz_model.proofs.OnceLemmas.{none_append, none_both, none_left, none_right}

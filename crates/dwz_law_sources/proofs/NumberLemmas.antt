@@ -7,7 +7,7 @@ use Rattle.std.proofs.lemmas.List.Sums.{sum_by-cons}
 use Rattle.dwz_def_cross.specs.Tops.{WithCommon}
 use Rattle.dwz_def_expand.proofs.WholeLemmas.{unit_at}
 use Rattle.dwz_def_expand.specs.Source.{Copy, copy, source_places, unit_for}
-use Rattle.dwz_encode.proofs.ByteLemmas.{below}
+use Rattle.std.proofs.lemmas.Bool.{cases_lt}
 use Rattle.dwz_imports.specs.Imports.{same}
 use Rattle.dwz_model.proofs.ListFacts.{got_below, got_index_or}
 use Rattle.dwz_model.proofs.Members.{nth_below}
@@ -58,12 +58,9 @@ nth_copy d n (places ∷ units) (suc unit) before source found =
     ∙ ap (λ (u : ℕ). copy u source) next
 
 pub numbers_law : NumbersLaw
-numbers_law w unit source number is =
-    let d : Copy ℕ = copy (length (source_places same w)) 0 in
+numbers_law w unit source before found =
     let first : 0 + unit ≡ unit = omega arith in
-    ap (λ (i : ℕ). get_or (copies_from 0 (source_places same w)) i d) is.counts
-    ∙ nth_copy d 0 (source_places same w) unit is.before source is.stands
-    ∙ ap (λ (u : ℕ). copy u source) first
+    nth_copy (copy (length (source_places same w)) 0) 0 (source_places same w) unit before source found ∙ ap (λ (u : ℕ). copy u source) first
 
 -- ---- numbers of copies that are there
 
@@ -72,7 +69,7 @@ module _ (w : WithCommon ℕ) where
   units = source_places same w
 
   pub one_of_all : (number : ℕ) → (key_in w number).unit < length (source_places same w) → number < lengths (source_places same w)
-  one_of_all number lt = by (below number (lengths (source_places same w))) where
+  one_of_all number lt = by (cases_lt number (lengths (source_places same w))) where
     by : (number < lengths (source_places same w)) ⊎ (lengths (source_places same w) ≤ number) → number < lengths (source_places same w)
     by (inl less) = less
     by (inr le) =

@@ -7,7 +7,7 @@ use Rattle.dwz_def_reading.specs.Classes.{Class, OfCommonEntry, OfExpression, Of
 use Rattle.dwz_def_reading.specs.Documents.{Attr, Expr, Kind, Plain, attr_map, kind_map}
 use Rattle.dwz_def_reading.specs.Documents as document
 use Rattle.dwz_def_reading.specs.Lists.{Each}
-use Rattle.dwz_encode.specs.Shown.{HeldAttr, Key, Parts, attr_held, content_held, expr_held, first_held, held_as, held_of}
+use Rattle.dwz_expand_layout.specs.Shown.{HeldAttr, Key, Parts, attr_held, content_held, expr_held, first_held, held_as, held_of}
 use Rattle.dwz_expand_layout.specs.declared.entries.NewKind.{NewKind}
 use Rattle.dwz_expand_layout.specs.declared.entries.NewKind.TheVariants.{Compile, OfType}
 use Rattle.dwz_expand_layout.specs.declared.entries.Content.{Content as ContentOfCode}
@@ -18,7 +18,7 @@ use Rattle.dwz_expand_layout.specs.Entries.{attr_view, content_view}
 use Rattle.dwz_expand_layout.specs.Depths.{DeepLine, with_ends}
 use Rattle.dwz_expand_layout.specs.Shown.{AttrRefers, ContentRefers, KindRefers, KindShows, LineRefers, keys_of}
 use Rattle.dwz_imports.specs.Imports.{same}
-use Rattle.dwz_layout.specs.Attributes.{Content, OfEntry, OfParts, OfRoot, OutAttr, Read}
+use Rattle.dwz_expand_layout.specs.Attributes.{Content, OfEntry, OfParts, OfRoot, OutAttr, Read}
 use Rattle.dwz_law_sources.proofs.NumberLemmas.{lengths, named_in, one_of_all}
 use Rattle.dwz_law_sources.specs.Copied.{NamesNoRoot, copied_attrs, named_copy}
 use Rattle.dwz_law_sources.specs.Numbered.{key_in}

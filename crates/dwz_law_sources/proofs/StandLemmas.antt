@@ -12,7 +12,7 @@ use Rattle.dwz_def_expand.specs.Source.{source_unit}
 use Rattle.dwz_def_reading.specs.Documents.{DwUnit, Node}
 use Rattle.dwz_def_tops.specs.Shown.{units_keys}
 use Rattle.dwz_imports.specs.Imports.{same}
-use Rattle.dwz_layout_items.specs.Lines.{Line, line, lines}
+use Rattle.dwz_expand_layout.specs.Lines.{Line, line, lines}
 use Rattle.dwz_model.proofs.ListFacts.{got_below, got_in, got_map, got_there}
 use Rattle.dwz_model.specs.Lists.{Each, In, NoneTwice}
 use Rattle.dwz_expand_sources.specs.declared.sources.NewUnit.{NewUnit}

@@ -10,7 +10,7 @@ use Rattle.dwz_def_reading.specs.Documents.{Attr, DwUnit, attr_map, kind_map}
 use Rattle.dwz_def_reading.specs.Lists.{Each}
 use Rattle.dwz_def_tops.specs.Lists.{NoneTwice}
 use Rattle.dwz_def_tops.specs.Shown.{units_keys}
-use Rattle.dwz_encode.specs.Shown.{attr_held, held_of}
+use Rattle.dwz_expand_layout.specs.Shown.{attr_held, held_of}
 use Rattle.dwz_expand_layout.specs.Depths.{DeepLine, with_ends}
 use Rattle.dwz_expand_layout.specs.Entries.{UnitLines}
 use Rattle.dwz_expand_layout.specs.Laws.{AreUnits}
@@ -18,8 +18,8 @@ use Rattle.dwz_expand_layout.specs.Shown.{KindShows, keys_of}
 use Rattle.dwz_expand_sources.specs.declared.sources.NewUnit.{NewUnit}
 use Rattle.dwz_expand_sources.specs.Sources.{AreSources, Sources, in_range, ranges_of}
 use Rattle.dwz_imports.specs.Imports.{same}
-use Rattle.dwz_layout.specs.Attributes.{OfRoot, OutAttr}
-use Rattle.dwz_layout_items.specs.Lines.{Line}
+use Rattle.dwz_expand_layout.specs.Attributes.{OfRoot, OutAttr}
+use Rattle.dwz_expand_layout.specs.Lines.{Line}
 use Rattle.dwz_law_sources.specs.Lined.{all_lines}
 use Rattle.dwz_law_sources.specs.Numbered.{key_in}
 

@@ -8,7 +8,7 @@ use Rattle.dwz_def_expand.specs.Source.{source_unit}
 use Rattle.dwz_def_tops.specs.Lists.{NoneTwice}
 use Rattle.dwz_def_tops.specs.Shown.{units_keys}
 use Rattle.dwz_imports.specs.Imports.{same}
-use Rattle.dwz_layout_items.specs.Lines.{Line, line, lines, unit_lines}
+use Rattle.dwz_expand_layout.specs.Lines.{Line, line, lines, unit_lines}
 use Rattle.dwz_expand_sources.specs.declared.sources.NewUnit.{NewUnit}
 use Rattle.dwz_expand_sources.specs.declared.sources.SourceRange.{SourceRange}
 use Rattle.dwz_expand_sources.specs.Sources.{AreSources, Sources, in_range, ranges_of}

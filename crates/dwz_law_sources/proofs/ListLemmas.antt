@@ -1,6 +1,6 @@
 -- Ranges of lists: what is in them, and what becomes of them along a function.
-use Rattle.std.proofs.Common.{◌≡◌, ℕ, zero, suc, ◌-◌, List, [], ◌∷◌, ◌++◌, drop, inl, inr, map, take, refl, sym, ap, subst, ◌∙◌}
-use Rattle.std.specs.List.{flat_map}
+use Rattle.std.proofs.Common.{◌≡◌, ℕ, ◌-◌, List, [], ◌∷◌, ◌++◌, drop, inl, inr, map, take, refl, sym, ap, subst, ◌∙◌}
+use Rattle.std.specs.List.{drop-map, flat_map}
 use Rattle.std.proofs.lemmas.List.{map-append, take-append-drop, take-map}
 use Rattle.std.proofs.lemmas.List.Concat.{flat_map-cons}
 use Rattle.dwz_model.proofs.ListFacts.{in_left, in_map, in_right}
@@ -24,13 +24,8 @@ module _ {X : Type 0} where
       subst (Each (λ x. In x all)) (sym (flat_map-cons (in_range all) r rs)) (each_append (λ x. In x all) (in_range all r) (flat_map (in_range all) rs) first (ranges_in all rs))
 
 module _ {X Y : Type 0} (f : X → Y) where
-  drop_map : (n : ℕ) (xs : List X) → drop n (map f xs) ≡ map f (drop n xs)
-  drop_map zero xs = refl
-  drop_map (suc n) [] = refl
-  drop_map (suc n) (x ∷ xs) = drop_map n xs
-
   range_map : (xs : List X) (r : SourceRange) → in_range (map f xs) r ≡ map f (in_range xs r)
-  range_map xs r = ap (take (r.end - r.first)) (drop_map r.first xs) ∙ take-map f (r.end - r.first) (drop r.first xs)
+  range_map xs r = ap (take (r.end - r.first)) (drop-map f r.first xs) ∙ take-map f (r.end - r.first) (drop r.first xs)
 
   pub ranges_map : (xs : List X) (rs : List SourceRange) → flat_map (in_range (map f xs)) rs ≡ map f (flat_map (in_range xs) rs)
   ranges_map xs [] = refl

@@ -40,3 +40,13 @@ module _ {X : Type 0} (all : List X) where
   pub sources_got : (ranges : List SourceRange) (x : NewUnit) (root : X) → slice_get all x.root ≡ Some root → Each (IsRange (length all)) (ranges_of ranges x)
       → EachTwo IsAt (sources_of ranges x) (root ∷ flat_map (in_range all) (ranges_of ranges x))
   sources_got ranges x root is are = (is, ranges_got (ranges_of ranges x) are)
+
+  -- what is so of each number and of what stands there is so of all, one by one
+  pub each_there : {Y : Type 0} (T : Y → X → Type 0) (is : List ℕ) (ys : List Y) (xs : List X) → EachTwo IsAt is xs → EachTwo (λ i y. (x : X) → slice_get all i ≡ Some x → T y x) is ys
+      → EachTwo T ys xs
+  each_there T [] [] [] at are = tt
+  each_there T [] [] (x ∷ xs) at are = absurd at
+  each_there T [] (y ∷ ys) xs at are = absurd are
+  each_there T (i ∷ is) [] xs at are = absurd are
+  each_there T (i ∷ is) (y ∷ ys) [] at are = absurd at
+  each_there T (i ∷ is) (y ∷ ys) (x ∷ xs) at are = (are.0 x at.0, each_there T is ys xs at.1 are.1)

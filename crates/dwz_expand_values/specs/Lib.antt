@@ -1,0 +1,6 @@
+pub mod Paths
+pub mod Refusing
+pub mod Known
+pub mod Copied
+pub mod Attributes
+pub mod Files

@@ -1,6 +1,8 @@
 //! The attributes of an entry, one after the other.
 
-ghost use Rattle.std.specs.Prelude.{◌≡◌, ℕ, ◌<◌, ◌∷◌, List, IfOk, drop};
+ghost use Rattle.std.specs.Prelude.{◌≡◌, ℕ, ◌<◌, ◌∷◌, List, IfOk, OnOk, drop};
+ghost use Rattle.dwz_model.specs.Lists.{Each};
+ghost use Rattle.dwz_def_reading.specs.Abbrevs.{IsPlainPair};
 ghost use Rattle.dwz_def_reading.specs.Documents.{Attr, Node};
 ghost use Rattle.dwz_def_reading.specs.Entries.{RawAttr};
 ghost use Rattle.dwz_def_reading.specs.Units.{entries_in};
@@ -8,6 +10,7 @@ ghost use Rattle.dwz_def_reading.specs.Values.{HasSpelling};
 ghost use Rattle.dwz_forms.specs.RawValues.{raw_view};
 ghost use Rattle.dwz_graph.specs.Resolved.{stored};
 ghost use Rattle.dwz_unit.specs.Rows.{EntryRow};
+ghost use Rattle.dwz_expand_layout.specs.Entries.{CanStore};
 ghost use Rattle.dwz_expand_values.specs.Attributes.{AnswersAll, IsEntryOf, PutsAttr, Remain, RefsReady, refs_at};
 ghost use Rattle.dwz_expand_values.specs.Copied.{KeepsConstant, names_many};
 ghost use Rattle.dwz_expand_values.specs.Known.{Fits, IsReady, LeadWithin, Setting, raw_of};
@@ -68,7 +71,9 @@ fn put_attr<'r, 'a>(
     requires refs { LeadWithin x.now refs.now }
     requires constant { KeepsConstant pair.now (raw_view raw.now) }
     requires spelled { HasSpelling pair.now.form (raw_view raw.now) }
+    requires plain { IsPlainPair pair.now }
     ensures within { IfOk result (λ rest. LeadWithin x.now rest.now) }
+    ensures stores { Each CanStore attrs.old.items → OnOk result (Each CanStore attrs.new.items) }
     ensures puts { (q : Setting) (values : List RawAttr) (all : List (Attr ℕ)) → Fits x.now q
         → Remain x.now q (stored at end pair.now raw.now ∷ values) refs.now all attrs.old.items operands.old.items
         → PutsAttr x.now q values all attrs.new.items operands.new.items result }
@@ -93,8 +98,9 @@ pub(crate) fn put_values<'a>(
     requires ready { IsReady x.now }
     requires refs { RefsReady x.now }
     requires there { i < entries_in (raw_of x.now) }
-    ensures { (q : Setting) (row : EntryRow) (d : Node ℕ) → Fits x.now q → IsEntryOf x.now q i row d
+    ensures copies { (q : Setting) (row : EntryRow) (d : Node ℕ) → Fits x.now q → IsEntryOf x.now q i row d
         → AnswersAll q d.attrs attrs.new.items operands.new.items result }
+    ensures stores { OnOk result (Each CanStore attrs.new.items) }
 {
     attrs.clear();
     operands.clear();

@@ -1,13 +1,15 @@
 //! What a value stores in the new file, by its class.
 
-ghost use Rattle.std.specs.Prelude.{◌≡◌, ◌==◌, ℕ, true, if◌then◌else◌, List};
+ghost use Rattle.std.specs.Prelude.{◌≡◌, ◌==◌, ℕ, true, if◌then◌else◌, IfOk, List};
 ghost use Rattle.dwz_def_reading.specs.Classes.{OfConstant, OfExpression, OfListIndex, OfOffset, OfTextBySlot};
+ghost use Rattle.dwz_def_reading.specs.Abbrevs.{IsPlainPair};
 ghost use Rattle.dwz_def_reading.specs.Classes;
 ghost use Rattle.dwz_def_reading.specs.Documents.{Value};
 ghost use Rattle.dwz_def_reading.specs.Values.{HasSpelling};
 ghost use Rattle.dwz_forms.specs.RawValues.{raw_view};
 ghost use Rattle.dwz_graph.specs.Resolved.{stored};
 ghost use Rattle.dwz_layout.specs.Attributes.{plain_pair};
+ghost use Rattle.dwz_expand_layout.specs.Entries.{CanStore};
 ghost use Rattle.dwz_expand_layout.specs.declared.entries.Content.TheVariants.{Stored};
 ghost use Rattle.dwz_expand_layout.specs.declared.entries.NewOperand.{NewOperand as OperandAfter};
 ghost use Rattle.dwz_expand_values.specs.Copied.{Answers, Asks, IsCopyAnswer, IsTextIn, KeepsConstant, is_entry};
@@ -77,9 +79,12 @@ fn copied_entry<'a>(
 ) -> Result<NewAttr<'a>, ReadErr>
     requires ready { IsReady x.now }
     requires refs { LeadWithin x.now refs.now }
-    ensures { (q : Setting) (index end : ℕ) (v : Value ℕ) (others : List ℕ) (operands : List OperandAfter)
+    requires spelled { HasSpelling pair.now.form (raw_view raw.now) }
+    requires plain { IsPlainPair pair.now }
+    ensures copies { (q : Setting) (index end : ℕ) (v : Value ℕ) (others : List ℕ) (operands : List OperandAfter)
         → is_entry (Classes.class_of pair.now.form) ≡ true → Asks x.now q index (stored at end pair.now raw.now) v refs.now others
         → Answers q index (stored at end pair.now raw.now) v operands operands result }
+    ensures stores { IfOk result (λ new. CanStore new) }
 {
     if refs.is_empty() {
         return Ok(as_read(pair, raw));
@@ -98,9 +103,11 @@ fn copied_text<'a>(
 ) -> NewAttr<'a>
     requires constant { KeepsConstant pair.now (raw_view raw.now) }
     requires spelled { HasSpelling pair.now.form (raw_view raw.now) }
-    ensures { (q : Setting) (index at end : ℕ) (v : Value ℕ) (refs others : List ℕ) (operands : List OperandAfter)
+    requires plain { IsPlainPair pair.now }
+    ensures copies { (q : Setting) (index at end : ℕ) (v : Value ℕ) (refs others : List ℕ) (operands : List OperandAfter)
         → IsTextIn (Classes.class_of pair.now.form) x.now section.now → Asks x.now q index (stored at end pair.now raw.now) v refs others
         → IsCopyAnswer q index (stored at end pair.now raw.now) v operands result }
+    ensures stores { CanStore result }
 {
     match x.role {
         UnitRole::CommonUnit => of_form(
@@ -116,9 +123,11 @@ fn copied_text<'a>(
 fn copied_slot<'a>(x: &SourceEntry<'_, 'a>, pair: &Pair, raw: &Raw<'a>) -> NewAttr<'a>
     requires constant { KeepsConstant pair.now (raw_view raw.now) }
     requires spelled { HasSpelling pair.now.form (raw_view raw.now) }
-    ensures { (q : Setting) (index at end : ℕ) (v : Value ℕ) (refs others : List ℕ) (operands : List OperandAfter)
+    requires plain { IsPlainPair pair.now }
+    ensures copies { (q : Setting) (index at end : ℕ) (v : Value ℕ) (refs others : List ℕ) (operands : List OperandAfter)
         → Classes.class_of pair.now.form ≡ OfTextBySlot → Asks x.now q index (stored at end pair.now raw.now) v refs others
         → IsCopyAnswer q index (stored at end pair.now raw.now) v operands result }
+    ensures stores { CanStore result }
 {
     let index = offset_of(raw);
     let sections = x.file.sections;
@@ -150,10 +159,12 @@ fn copied_file<'a>(
 ) -> Result<NewAttr<'a>, ReadErr>
     requires constant { KeepsConstant pair.now (raw_view raw.now) }
     requires spelled { HasSpelling pair.now.form (raw_view raw.now) }
-    ensures { (q : Setting) (index end : ℕ) (v : Value ℕ) (refs others : List ℕ) (operands : List OperandAfter)
+    requires plain { IsPlainPair pair.now }
+    ensures copies { (q : Setting) (index end : ℕ) (v : Value ℕ) (refs others : List ℕ) (operands : List OperandAfter)
         → Classes.class_of pair.now.form ≡ OfConstant → Classes.names_file pair.now.name ≡ true
         → Asks x.now q index (stored at end pair.now raw.now) v refs others
         → Answers q index (stored at end pair.now raw.now) v operands operands result }
+    ensures stores { IfOk result (λ new. CanStore new) }
 {
     match x.role {
         UnitRole::OldUnit => Ok(as_read(pair, raw)),
@@ -186,9 +197,11 @@ fn copied_expression<'a>(
     requires refs { LeadWithin x.now refs.now }
     requires constant { KeepsConstant pair.now (raw_view raw.now) }
     requires spelled { HasSpelling pair.now.form (raw_view raw.now) }
-    ensures { (q : Setting) (index at : ℕ) (v : Value ℕ) (others : List ℕ) → Classes.class_of pair.now.form ≡ OfExpression
+    requires plain { IsPlainPair pair.now }
+    ensures copies { (q : Setting) (index at : ℕ) (v : Value ℕ) (others : List ℕ) → Classes.class_of pair.now.form ≡ OfExpression
         → Asks x.now q index (stored at end pair.now raw.now) v refs.now others
         → Answers q index (stored at end pair.now raw.now) v operands.old.items operands.new.items result }
+    ensures stores { Classes.class_of pair.now.form ≡ OfExpression → IfOk result (λ new. CanStore new) }
 {
     let bytes = bytes_of(raw);
     let start = end.saturating_sub(bytes.len() as u64);
@@ -223,9 +236,11 @@ fn copied_offset<'a>(
     requires ready { IsReady x.now }
     requires constant { KeepsConstant pair.now (raw_view raw.now) }
     requires spelled { HasSpelling pair.now.form (raw_view raw.now) }
-    ensures { (q : Setting) (index at end : ℕ) (v : Value ℕ) (refs others : List ℕ) (operands : List OperandAfter)
+    requires plain { IsPlainPair pair.now }
+    ensures copies { (q : Setting) (index at end : ℕ) (v : Value ℕ) (refs others : List ℕ) (operands : List OperandAfter)
         → Classes.class_of pair.now.form ≡ OfOffset → Asks x.now q index (stored at end pair.now raw.now) v refs others
         → Answers q index (stored at end pair.now raw.now) v operands operands result }
+    ensures stores { IfOk result (λ new. CanStore new) }
 {
     if names_list(pair.name) {
         check_list_at(x, offset_of(raw), read)?;
@@ -243,9 +258,11 @@ fn copied_list<'a>(
     requires ready { IsReady x.now }
     requires constant { KeepsConstant pair.now (raw_view raw.now) }
     requires spelled { HasSpelling pair.now.form (raw_view raw.now) }
-    ensures { (q : Setting) (index at end : ℕ) (v : Value ℕ) (refs others : List ℕ) (operands : List OperandAfter)
+    requires plain { IsPlainPair pair.now }
+    ensures copies { (q : Setting) (index at end : ℕ) (v : Value ℕ) (refs others : List ℕ) (operands : List OperandAfter)
         → Classes.class_of pair.now.form ≡ OfListIndex → Asks x.now q index (stored at end pair.now raw.now) v refs others
         → Answers q index (stored at end pair.now raw.now) v operands operands result }
+    ensures stores { IfOk result (λ new. CanStore new) }
 {
     check_list_by_slot(x, offset_of(raw), read)?;
     Ok(as_read(pair, raw))
@@ -267,9 +284,11 @@ pub(crate) fn copied_attr<'a>(
     requires refs { LeadWithin x.now refs.now }
     requires constant { KeepsConstant pair.now (raw_view raw.now) }
     requires spelled { HasSpelling pair.now.form (raw_view raw.now) }
-    ensures { (q : Setting) (index : ℕ) (v : Value ℕ) (others : List ℕ) → Asks x.now q index
+    requires plain { IsPlainPair pair.now }
+    ensures copies { (q : Setting) (index : ℕ) (v : Value ℕ) (others : List ℕ) → Asks x.now q index
         (stored at end pair.now raw.now) v refs.now others
         → Answers q index (stored at end pair.now raw.now) v operands.old.items operands.new.items result }
+    ensures stores { IfOk result (λ new. CanStore new) }
 {
     let sections = x.file.sections;
     match class_of(pair.form) {

@@ -1,6 +1,8 @@
 //! The entries of a file and of its common one.
 
-ghost use Rattle.std.specs.Prelude.{◌≡◌, ℕ, ◌<◌, ◌≤◌, List, Some, length, slice_get};
+ghost use Rattle.std.specs.Prelude.{◌≡◌, ℕ, ◌<◌, ◌≤◌, List, OnOk, Some, length, slice_get};
+ghost use Rattle.dwz_model.specs.Lists.{Each};
+ghost use Rattle.dwz_expand_layout.specs.Entries.{CanStore};
 ghost use Rattle.dwz_def_cross.specs.Tops.{WithCommon};
 ghost use Rattle.dwz_def_reading.specs.Units.{RawUnit, entries_in};
 ghost use Rattle.dwz_check_index.specs.Index.{ListedEntry};
@@ -76,8 +78,9 @@ pub fn put_attrs<'a>(
 ) -> Result<(), ReadErr>
     requires ready { IsKnownReady known.now }
     requires there { entry < entry_count known.now }
-    ensures { (w : WithCommon ℕ) (keys : Keys (Copy ℕ)) (stands : Where ℕ) (d : ListedEntry ℕ) → Knows known.now w keys stands
+    ensures copies { (w : WithCommon ℕ) (keys : Keys (Copy ℕ)) (stands : Where ℕ) (d : ListedEntry ℕ) → Knows known.now w keys stands
         → slice_get (all_entries w) entry ≡ Some d → AnswersEntry known.now w keys stands d.0 attrs.new.items operands.new.items result }
+    ensures stores { OnOk result (Each CanStore attrs.new.items) }
 {
     let own = known.own.units.entries();
     if entry < own {

@@ -21,7 +21,7 @@ returns-in_err-new-clause-puts c = λ q values all fits h. (
     let e = err_from_is_err_and c.from_residual.result c.from_residual.ensures.1 in
     rw (e.1, e.2) (put_err c.args.x.now q values_at values c.args.refs.now all c.args.attrs.now.items c.args.operands.now.items other h c.copied_attr.new.operands.items c.args.attrs.now.items
     c.in_err-new.field-0.0
-    (c.in_err-new.ensures q (length c.args.attrs.now.items) next.value (map q.place (attrs_refs next.left))
+    (c.in_err-new.ensures.copies q (length c.args.attrs.now.items) next.value (map q.place (attrs_refs next.left))
     (asks c.args.x.now q values_at values c.args.refs.now all c.args.attrs.now.items c.args.operands.now.items other h fits))))
 
 pub returns-clause-puts : goal.returns-clause-puts
@@ -29,7 +29,7 @@ returns-clause-puts c = λ q values all fits h. (
     let values_at : RawAttr = stored c.args.at c.args.end c.args.pair.now c.args.raw.now in
     let other = c.if-pair-eq-DW_AT_SIBLING.false in
     let next = n c.args.x.now q values_at values c.args.refs.now all c.args.attrs.now.items c.args.operands.now.items other h in
-    let is = c.in_ok-new.ensures q (length c.args.attrs.now.items) next.value (map q.place (attrs_refs next.left))
+    let is = c.in_ok-new.ensures.copies q (length c.args.attrs.now.items) next.value (map q.place (attrs_refs next.left))
     (asks c.args.x.now q values_at values c.args.refs.now all c.args.attrs.now.items c.args.operands.now.items other h fits) in
     let put = attr_put c.args.x.now q values_at values c.args.refs.now all c.args.attrs.now.items c.args.operands.now.items other h c.in_ok-new.new c.copied_attr.new.operands.items is.0 is.1 in
     subst (λ (w : List NewAttr). Remain c.args.x.now q values c.behind.result.now all w c.copied_attr.new.operands.items) (sym c.in_ok-push.ensures.items)

@@ -5,6 +5,9 @@ use Rattle.dwz_def_reading.specs.Entries.{RawAttr}
 use Rattle.dwz_graph.specs.Resolved.{stored}
 use Rattle.dwz_expand_values.specs.Attributes.{Remain}
 use Rattle.dwz_expand_values.proofs.AttrSteps.{all_put}
+use Rattle.dwz_model.specs.Lists.{Each}
+use Rattle.dwz_expand_layout.specs.Entries.{CanStore}
+use Rattle.dwz_expand_layout.specs.declared.entries.NewAttr.{NewAttr}
 use Rattle.dwz_forms.specs.RawValues.{raw_view}
 use Rattle.dwz_unit.proofs.ReadsLemmas.{reads_count, reads_next}
 use Rattle.dwz_graph.proofs.RowLemmas.{row_there}
@@ -17,6 +20,7 @@ use Rattle.dwz_expand_values.proofs.attributes.put_values.Goals as goal
 pub loop-pair-init : goal.loop-pair-init
 loop-pair-init c = record {
   reads = c.values-cursor.ensures.read;
+  stores = subst (λ (w : List NewAttr). Each CanStore w) (sym c.clear.ensures.items) tt;
   within = c.refs_of-rest.ensures.within;
   remain = λ q row d fits is. values_left c.args.x.now q c.args.i row d c.refs_of-rest.result.now _ _ is c.requires.there c.refs_of-rest.ensures.refs c.clear.ensures.items;
 }
@@ -42,6 +46,7 @@ loop-pair-preserved c =
     record {
       reads = λ row found. (next_read row.entry.at pairs j no_pair c.loop-pair.cursor c.known_value-raw.new.cursor value row.entry.attrs c.loop-pair-test.true (c.loop-pair.invariant.reads row found)
           c.known_value-raw.ensures.value).rest;
+      stores = c.in_ok-rest.ensures.stores c.loop-pair.invariant.stores;
       within = c.in_ok-rest.ensures.within;
       remain = λ q row d fits is. (
           let a : RawAttr = stored c.at-at.result c.at-end.result (get_or pairs j no_pair) c.known_value-raw.result in
@@ -54,8 +59,8 @@ loop-pair-preserved c =
           c.in_ok-rest.ensures.puts q (drop (j + 1) row.entry.attrs) d.attrs fits here);
     }
 
-pub returns-in_err-rest : goal.returns-in_err-rest
-returns-in_err-rest c = λ q row d fits is. (
+pub returns-in_err-rest-clause-copies : goal.returns-in_err-rest-clause-copies
+returns-in_err-rest-clause-copies c = λ q row d fits is. (
     let pairs = c.values-cursor.result.pairs.now in
     let j = c.loop-pair.pair-index in
     let value = raw_view c.known_value-raw.result in
@@ -70,8 +75,8 @@ returns-in_err-rest c = λ q row d fits is. (
     rw (e.1, e.2) (puts_err c.args.x.now q (drop (j + 1) row.entry.attrs) d.attrs c.put_attr.new.attrs.items c.put_attr.new.operands.items c.in_err-rest.field-0.0
     (c.in_err-rest.ensures.puts q (drop (j + 1) row.entry.attrs) d.attrs fits here)))
 
-pub returns : goal.returns
-returns c = λ q row d fits is. (
+pub returns-clause-copies : goal.returns-clause-copies
+returns-clause-copies c = λ q row d fits is. (
     let pairs = c.values-cursor.result.pairs.now in
     let count = reads_count row.entry.at pairs c.values-cursor.result.cursor row.entry.attrs (c.values-cursor.ensures.read row is.found) in
     all_put c.args.x.now q c.loop-pair.rest.now d.attrs c.loop-pair.attrs.items c.loop-pair.operands.items

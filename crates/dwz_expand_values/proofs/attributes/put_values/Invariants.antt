@@ -1,5 +1,7 @@
 use Rattle.std.proofs.Common.{◌≡◌, ℕ, drop, Some, slice_get}
 use Rattle.dwz_def_reading.specs.Documents.{Node}
+use Rattle.dwz_model.specs.Lists.{Each}
+use Rattle.dwz_expand_layout.specs.Entries.{CanStore}
 use Rattle.dwz_unit.specs.Rows.{EntryRow, rows_of}
 use Rattle.dwz_unit.specs.Values.{Reads}
 use Rattle.dwz_expand_values.specs.Attributes.{IsEntryOf, Remain}
@@ -9,6 +11,7 @@ use Rattle.dwz_expand_values.proofs.attributes.put_values.Given as goal
 abbrev pub invariant-loop-pair : goal.invariant-loop-pair
 invariant-loop-pair l = record {
   reads : (row : EntryRow) → slice_get (rows_of (raw_of l.x)) l.i ≡ Some row → Reads row.entry.at (drop l.pair-index l.pairs) l.cursor (drop l.pair-index row.entry.attrs);
+  stores : Each CanStore l.attrs.items;
   within : LeadWithin l.x l.rest;
   remain : (q : Setting) (row : EntryRow) (d : Node ℕ) → Fits l.x q → IsEntryOf l.x q l.i row d
       → Remain l.x q (drop l.pair-index row.entry.attrs) l.rest d.attrs l.attrs.items l.operands.items;

@@ -7,23 +7,23 @@ use Rattle.dwz_expand_values.specs.Known.{StandsAt}
 use Rattle.dwz_expand_values.proofs.EntryAnswers.{entry_copied, entry_refused, first, one}
 use Rattle.dwz_expand_values.proofs.contents.copied_entry.Goals as goal
 
-pub returns-then-is_empty : goal.returns-then-is_empty
-returns-then-is_empty c = λ q index end v others operands class asks. (
+pub returns-then-is_empty-clause-copies : goal.returns-then-is_empty-clause-copies
+returns-then-is_empty-clause-copies c = λ q index end v others operands class asks. (
     let f = first c.args.x.now q index c.args.at end c.args.pair.now c.args.raw.now v c.args.refs.now others class asks in
     let none = eqb-true (length c.args.refs.now) 0 (sym c.is_empty.ensures ∙ c.if-is_empty.true) in
     let some = ap (λ (w : List ℕ). length w) f.refs_are in
     absurd (omega (arith, none, some)))
 
-pub returns-in_err-copy : goal.returns-in_err-copy
-returns-in_err-copy c = λ q index end v others operands class asks. (
+pub returns-in_err-copy-clause-copies : goal.returns-in_err-copy-clause-copies
+returns-in_err-copy-clause-copies c = λ q index end v others operands class asks. (
     let f = first c.args.x.now q index c.args.at end c.args.pair.now c.args.raw.now v c.args.refs.now others class asks in
     let p = q.place (one c.args.x.now q index c.args.at end c.args.pair.now c.args.raw.now v c.args.refs.now others class asks).p in
     let e = err_from_is_err_and c.from_residual.result c.from_residual.ensures.1 in
     rw (e.1, e.2) (entry_refused c.args.x.now q index c.args.at end c.args.pair.now c.args.raw.now v c.args.refs.now others class asks operands c.in_err-copy.field-0.0
     (c.in_err-copy.ensures q p asks.fits (subst (λ (w : List ℕ). StandsAt q.w (c.args.x.now.first + get_or w 0 0) p) (sym f.refs_are) f.stands))))
 
-pub returns : goal.returns
-returns c = λ q index end v others operands class asks. (
+pub returns-clause-copies : goal.returns-clause-copies
+returns-clause-copies c = λ q index end v others operands class asks. (
     let f = first c.args.x.now q index c.args.at end c.args.pair.now c.args.raw.now v c.args.refs.now others class asks in
     let p = q.place (one c.args.x.now q index c.args.at end c.args.pair.now c.args.raw.now v c.args.refs.now others class asks).p in
     entry_copied c.args.x.now q index c.args.at end c.args.pair.now c.args.raw.now v c.args.refs.now others class asks operands c.in_ok-copy.copy c.of_form.result

@@ -6,14 +6,16 @@ use Rattle.dwz_def_reading.specs.Entries.{RawAttr}
 use Rattle.dwz_def_reading.specs.Meanings.{bytes_of}
 use Rattle.dwz_forms.specs.RawValues.{raw_view}
 use Rattle.dwz_graph.specs.Resolved.{stored}
+use Rattle.dwz_def_encoding.proofs.StoredClasses.{expression_form}
+use Rattle.dwz_expand_layout.proofs.StoreLemmas.{can_express}
 use Rattle.dwz_expand_values.specs.Copied.{AddsAll}
 use Rattle.dwz_expand_values.specs.Known.{scope}
 use Rattle.dwz_expand_values.proofs.ExprAnswers.{expr_err, expr_ok, expr_refused, many, means, named, places, reads_row}
 use Rattle.dwz_expand_values.proofs.NamedLemmas.{expr_read}
 use Rattle.dwz_expand_values.proofs.contents.copied_expression.Goals as goal
 
-pub returns-in_err-put_operands-in-Ok : goal.returns-in_err-put_operands-in-Ok
-returns-in_err-put_operands-in-Ok c = λ q index at v others class asks. (
+pub returns-in_err-put_operands-in-Ok-clause-copies : goal.returns-in_err-put_operands-in-Ok-clause-copies
+returns-in_err-put_operands-in-Ok-clause-copies c = λ q index at v others class asks. (
     let own = bytes_of (raw_view c.args.raw.now) in
     let a : RawAttr = stored at c.args.end c.args.pair.now c.args.raw.now in
     let reads = reads_row c.saturating_sub-start.result c.args.end c.bytes_of-bytes.result.now own c.clear.new.self.items c.read_into.new.operands.items c.read_into.new.operands.items
@@ -32,8 +34,8 @@ returns-in_err-put_operands-in-Ok c = λ q index at v others class asks. (
     (many c.args.x.now q index at c.args.end c.args.pair.now c.args.raw.now v c.args.refs.now others c.requires.constant c.requires.spelled class asks c.read_into.new.operands.items is
     ∙ ap (λ (w : List Operand). length w) (sym c.deref.ensures.value))))))
 
-pub returns-in-Err-Refused : goal.returns-in-Err-Refused
-returns-in-Err-Refused c = λ q index at v others class asks. (
+pub returns-in-Err-Refused-clause-copies : goal.returns-in-Err-Refused-clause-copies
+returns-in-Err-Refused-clause-copies c = λ q index at v others class asks. (
     let own = bytes_of (raw_view c.args.raw.now) in
     let a : RawAttr = stored at c.args.end c.args.pair.now c.args.raw.now in
     let reads = reads_row c.saturating_sub-start.result c.args.end c.bytes_of-bytes.result.now own c.clear.new.self.items c.read_into.new.operands.items c.read_into.new.operands.items (Err
@@ -42,8 +44,8 @@ returns-in-Err-Refused c = λ q index at v others class asks. (
     absurd (expr_refused (scope q) a v c.read_into.new.operands.items c.in-Err-Refused._fault
     (means c.args.x.now q index at c.args.end c.args.pair.now c.args.raw.now v c.args.refs.now others c.requires.constant c.requires.spelled class asks) reads))
 
-pub returns-in_ok-put_operands-in-Ok : goal.returns-in_ok-put_operands-in-Ok
-returns-in_ok-put_operands-in-Ok c = λ q index at v others class asks. (
+pub returns-in_ok-put_operands-in-Ok-clause-copies : goal.returns-in_ok-put_operands-in-Ok-clause-copies
+returns-in_ok-put_operands-in-Ok-clause-copies c = λ q index at v others class asks. (
     let own = bytes_of (raw_view c.args.raw.now) in
     let a : RawAttr = stored at c.args.end c.args.pair.now c.args.raw.now in
     let reads = reads_row c.saturating_sub-start.result c.args.end c.bytes_of-bytes.result.now own c.clear.new.self.items c.read_into.new.operands.items c.read_into.new.operands.items
@@ -62,3 +64,6 @@ returns-in_ok-put_operands-in-Ok c = λ q index at v others class asks. (
     (subst (λ (w : List Operand). AddsAll {Y = Unit {0}} q w ps c.args.operands.now.items c.put_operands.new.operands.items (Ok tt)) c.deref.ensures.value added)
     (c.saturating_sub-start.ensures ∙ ap (λ (w : List ℕ). c.args.end - length w) c.bytes_of-bytes.ensures) c.bytes_of-bytes.ensures (c.len-first.ensures ∙ c.args.operands.now.ok.0) (c.len.ensures
     ∙ c.put_operands.new.operands.ok.0) refl)
+
+pub returns-in_ok-put_operands-in-Ok-clause-stores : goal.returns-in_ok-put_operands-in-Ok-clause-stores
+returns-in_ok-put_operands-in-Ok-clause-stores c = λ class. can_express c.args.pair.now _ c.requires.plain (expression_form c.args.pair.now.form class)

@@ -11,8 +11,8 @@ use Rattle.dwz_expand_values.proofs.ListAnswers.{Lists, list_err, list_ok}
 use Rattle.dwz_expand_values.proofs.NamedLemmas.{at_slot_list, list_at_place, list_by_slot}
 use Rattle.dwz_expand_values.proofs.contents.copied_list.Goals as goal
 
-pub returns-in_err-check_list_by_slot : goal.returns-in_err-check_list_by_slot
-returns-in_err-check_list_by_slot c = λ q index at end v refs others operands class asks. (
+pub returns-in_err-check_list_by_slot-clause-copies : goal.returns-in_err-check_list_by_slot-clause-copies
+returns-in_err-check_list_by_slot-clause-copies c = λ q index at end v refs others operands class asks. (
     let s = scope q in
     let a : RawAttr = stored at end c.args.pair.now c.args.raw.now in
     let b = list_by_slot s a v (loclists_base s) (as_class_of s a v OfListIndex class asks.means) in
@@ -25,8 +25,8 @@ returns-in_err-check_list_by_slot c = λ q index at end v refs others operands c
     (c.in_err-check_list_by_slot.ensures q a v n.list at b.at b.offset asks.fits (asks.fits.here.lists ∙ b.base_is)
     (ap (λ (k : ℕ). slot s.around.sources.lists b.at k) c.offset_of.ensures.value ∙ b.slot_is) b.means n.read)))
 
-pub returns : goal.returns
-returns c = λ q index at end v refs others operands class asks. (
+pub returns-clause-copies : goal.returns-clause-copies
+returns-clause-copies c = λ q index at end v refs others operands class asks. (
     let s = scope q in
     let a : RawAttr = stored at end c.args.pair.now c.args.raw.now in
     let b = list_by_slot s a v (loclists_base s) (as_class_of s a v OfListIndex class asks.means) in

@@ -15,8 +15,8 @@ use Rattle.dwz_expand_values.proofs.LostLemmas.{no_constant}
 use Rattle.dwz_expand_values.proofs.contents.copied_offset.Goals.{else-names_list, then-names_list+in_ok-check_list_at}
 use Rattle.dwz_expand_values.proofs.contents.copied_offset.Goals as goal
 
-pub returns-in_err-check_list_at : goal.returns-in_err-check_list_at
-returns-in_err-check_list_at c = λ q index at end v refs others operands class asks. (
+pub returns-in_err-check_list_at-clause-copies : goal.returns-in_err-check_list_at-clause-copies
+returns-in_err-check_list_at-clause-copies c = λ q index at end v refs others operands class asks. (
     let a : RawAttr = stored at end c.args.pair.now c.args.raw.now in
     let name = sym c.names_list.ensures ∙ c.if-names_list.true in
     let means = list_means (scope q) a v name (as_class_of (scope q) a v OfOffset class asks.means) in
@@ -28,8 +28,8 @@ returns-in_err-check_list_at c = λ q index at end v refs others operands class 
     n.list h
     (rw c.offset_of.ensures.value at c.in_err-check_list_at.ensures q a v n.list at asks.fits means n.read)))
 
-pub returns : goal.returns
-returns c = λ q index at end v refs others operands class asks. (
+pub returns-clause-copies : goal.returns-clause-copies
+returns-clause-copies c = λ q index at end v refs others operands class asks. (
     let a : RawAttr = stored at end c.args.pair.now c.args.raw.now in
     elim c.if-names_list.branch [
       | then-names_list+in_ok-check_list_at w ↦ (

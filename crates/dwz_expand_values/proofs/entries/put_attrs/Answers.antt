@@ -7,13 +7,13 @@ use Rattle.dwz_expand_values.proofs.EntrySteps.{common_answer, own_answer, refs_
 use Rattle.dwz_expand_values.proofs.FitLemmas.{got_first_entry, got_second_entry}
 use Rattle.dwz_expand_values.proofs.entries.put_attrs.Goals as goal
 
-pub returns-then-entry-own : goal.returns-then-entry-own
-returns-then-entry-own c = λ w keys stands d know found. (
+pub returns-then-entry-own-clause-copies : goal.returns-then-entry-own-clause-copies
+returns-then-entry-own-clause-copies c = λ w keys stands d know found. (
     let k = c.args.known.now in
     let lt : c.args.entry < entries_in (raw_in k.own) = (let t = c.if-entry-own.true in let m = c.entries-own.ensures in omega (arith, t, m)) in
     own_answer k w keys stands know c.args.entry c.entry_of-x.result d c.put_values.new.attrs.items c.put_values.new.operands.items c.put_values.result c.entry_of-x.ensures
     (got_first_entry w.own w.common (raw_in k.own) (around_at k) know.own.means c.args.entry d lt found)
-    (λ q row e fits is. c.put_values.ensures q row e fits is))
+    (λ q row e fits is. c.put_values.ensures.copies q row e fits is))
 
 pub put_values-requires-in-Some-clause-refs : goal.put_values-requires-in-Some-clause-refs
 put_values-requires-in-Some-clause-refs c = (
@@ -25,8 +25,8 @@ put_values-requires-in-Some-clause-refs c = (
     refs_ready k f c.entries-own.result (c.args.entry - c.entries-own.result) (entries_in (raw_in f)) true c.entry_of-x-in-Some.result c.requires.ready ready.0 c.entry_of-x-in-Some.ensures
     (omega (arith, count, own)) ready.1)
 
-pub returns : goal.returns
-returns c = λ w keys stands d know found. (
+pub returns-clause-copies : goal.returns-clause-copies
+returns-clause-copies c = λ w keys stands d know found. (
     let k = c.args.known.now in
     let f = c.in-Some.common in
     let own = c.entries-own.ensures in
@@ -36,5 +36,5 @@ returns c = λ w keys stands d know found. (
     common_answer k w keys stands know f kc.0 kc.1 kc.2 kc.3 (c.args.entry - entries_in (raw_in k.own)) c.entry_of-x-in-Some.result d c.put_values-in-Some.new.attrs.items
     c.put_values-in-Some.new.operands.items c.put_values-in-Some.result is
     (got_second_entry w.own w.common (raw_in k.own) (around_at k) know.own.means c.args.entry d le found)
-    (λ q row e fits s. c.put_values-in-Some.ensures q row e fits
+    (λ q row e fits s. c.put_values-in-Some.ensures.copies q row e fits
     (subst (λ (n : ℕ). IsEntryOf c.entry_of-x-in-Some.result q (c.args.entry - n) row e) (sym own) s)))

@@ -1,2 +1,3 @@
 pub mod UnitEntries
 pub mod SpaceEdges
+pub mod SpaceFiles

@@ -1,5 +1,5 @@
 -- The numbers of entries that have one are those of the spaces of units.
-use Rattle.std.proofs.Common.{◌≡◌, ◌⊎◌, ℕ, ◌+◌, ◌*◌, ◌^◌, ◌<◌, List, [], ◌∷◌, ◌++◌, get_or, length, map, reverse, Some, slice_get, refl, sym, ap, subst, ◌∙◌, inl, inr, ⊎_elim, arith}
+use Rattle.std.proofs.Common.{◌≡◌, ℕ, ◌+◌, ◌*◌, ◌^◌, ◌<◌, List, [], ◌∷◌, ◌++◌, get_or, length, reverse, Some, slice_get, refl, sym, ap, subst, ◌∙◌, inl, inr, ⊎_elim, arith}
 use Rattle.std.proofs.lemmas.List.{length-append, length-reverse}
 use Rattle.dwz_model.proofs.ListFacts.{got_below, got_index_or, got_there, in_cases, in_left, in_right, same_got}
 use Rattle.dwz_def_reading.specs.Documents.{DwUnit}
@@ -12,8 +12,8 @@ use Rattle.dwz_unit.specs.Rows.{EntryRow, rows_of}
 use Rattle.dwz_check_index.specs.Index.{Called, names_in}
 use Rattle.dwz_check_sides.specs.declared.lists.NameLists.{NameLists}
 use Rattle.dwz_check_sides.specs.Names.{AreApart, HaveListNumbers, IsListNumber, IsNumberFrom}
-use Rattle.dwz_match_spaces.specs.Spaces.{HasNamed, IsNoType, IsRowEdge, IsSpaceEdge, PutsRows, PutsSpaces, space_edge}
-use Rattle.dwz_match_spaces.proofs.UnitEntries.{IsListed, in_unit, of_unit, space_listed, unit_space}
+use Rattle.dwz_match_spaces.specs.Spaces.{HasNamed, IsRowEdge, IsSpaceEdge, PutsRows, PutsSpaces, space_edge}
+use Rattle.dwz_match_spaces.proofs.UnitEntries.{in_unit, of_unit, space_listed, unit_space}
 
 -- ---- one row more
 

@@ -4,12 +4,11 @@ use Rattle.std.proofs.lemmas.List.{append_assoc}
 use Rattle.dwz_model.proofs.ListFacts.{got_below, got_in, in_cases}
 use Rattle.dwz_model.proofs.Members.{in_nth, nth_get}
 use Rattle.dwz_def_reading.specs.Documents.{Compile, DwUnit, Entries, Kind, Node, OfType, Partial}
-use Rattle.dwz_def_reading.specs.Entries.{RawEntry, root_position}
+use Rattle.dwz_def_reading.specs.Entries.{root_position}
 use Rattle.dwz_def_reading.specs.Lists.{In}
 use Rattle.dwz_def_reading.specs.Meanings.{Around, MeanUnits, MeansUnit, scope_of}
 use Rattle.dwz_def_reading.specs.Trees.{End, Entry, size}
 use Rattle.dwz_def_reading.specs.Units.{RawUnit, entry_count}
-use Rattle.dwz_def_tops.specs.Lists.{Nth}
 use Rattle.dwz_def_tops.specs.Spaces.{IsSpace, IsUnder, space_text, tops_under}
 use Rattle.dwz_def_check.specs.CrossNames.{AtPath, CrossName, PartSpace, WholeSpace, cross_names_below, cross_names_from, cross_names_under, cross_unit_names, next_whole, unit_tops}
 use Rattle.dwz_def_check.proofs.NameLists.{space_under}

@@ -14,7 +14,7 @@ abbrev pub HasNamed : DwUnit ℕ → List (List ℕ) → Type 0
 HasNamed u names = (e : Node ℕ) × IsSpace names e u.below
 
 -- a unit of that kind is no type unit
-abbrev pub IsNoType : Kind ℕ → Type 0
+abbrev pub IsNoType : {P : Type 0} → Kind P → Type 0
 IsNoType (OfType signature main) = ⊥
 IsNoType _ = Unit {0}
 

@@ -1,4 +1,4 @@
-use Rattle.std.proofs.Common.{Global, Vec, ◌≡◌, ℕ, ◌+◌, ◌<◌, List, length, get_or, refl, sym, ap, subst, ◌∙◌, arith}
+use Rattle.std.proofs.Common.{Global, Vec, ◌+◌, ◌<◌, length, get_or, refl, sym, ap, subst, ◌∙◌, arith}
 use Rattle.dwz_groups.specs.declared.groups.Edge.{Edge}
 use Rattle.dwz_match_spaces.specs.Spaces.{PutsRows}
 use Rattle.dwz_graph.proofs.RowLemmas.{entry_row}

@@ -1,8 +1,6 @@
-use Rattle.std.proofs.Common.{◌≡◌, ℕ, List, length, sym, ap, subst, ◌∙◌, arith}
+use Rattle.std.proofs.Common.{ℕ, List, length, ap, subst, ◌∙◌}
 use Rattle.dwz_def_reading.proofs.MeaningUnits.{units_agree}
-use Rattle.dwz_check_sides.specs.Names.{HaveListNumbers}
 use Rattle.dwz_check_sides.proofs.NameTexts.{steps_long}
-use Rattle.dwz_def_check.specs.CrossNames.{cross_names_from}
 use Rattle.dwz_unit.specs.Rows.{units_of}
 use Rattle.dwz_match_spaces.specs.Spaces.{PutsRows}
 use Rattle.dwz_match_spaces.proofs.SpaceEdges.{puts_spaces}

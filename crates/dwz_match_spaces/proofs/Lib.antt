@@ -1,3 +1,5 @@
 pub mod UnitEntries
 pub mod SpaceEdges
 pub mod SpaceFiles
+pub mod NameNumbers
+pub mod CommonSpaces

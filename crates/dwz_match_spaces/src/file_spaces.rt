@@ -31,7 +31,7 @@ pub fn file_names(alloc: Global, files: &[File]) -> Result<Vec<CrossIndex>, NoMe
 }
 
 // The side of a file that was read by itself.
-fn side_of<'f, 'a>(file: &'f File<'a>, index: &'f CrossIndex) -> Side<'f, 'a>
+pub(crate) fn side_of<'f, 'a>(file: &'f File<'a>, index: &'f CrossIndex) -> Side<'f, 'a>
     ensures { (result.file.now ≡ file.now) × (result.common ≡ None) × (result.index.now ≡ index.now) }
 {
     Side {

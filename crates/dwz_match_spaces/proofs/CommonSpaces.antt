@@ -1,5 +1,6 @@
 -- The spaces of the partial units of a finished common file.
-use Rattle.std.proofs.Common.{Bor, ◌≡◌, ℕ, ◌+◌, ◌<◌, ◌≤◌, ◌^◌, All, List, [], ◌++◌, length, map, Option, None, refl, sym, ap, subst, ◌∙◌, inl, inr, ⊎_elim, arith}
+use Rattle.std.proofs.Common.{Bor, ◌≡◌, ℕ, ◌+◌, ◌*◌, ◌<◌, ◌≤◌, ◌^◌, All, List, [], ◌∷◌, ◌++◌, length, map, Option, None, refl, sym, ap, subst, ◌∙◌, inl, inr, ⊎_elim, arith}
+use Rattle.std.specs.Prelude.{reverse}
 use Rattle.std.specs.Option.{option_map}
 use Rattle.std.proofs.lemmas.List.{length-append, length-map}
 use Rattle.dwz_model.proofs.ListFacts.{got_below, got_in, got_map, got_there, in_cases, in_left, in_right, same_got}
@@ -14,7 +15,7 @@ use Rattle.dwz_def_tops.specs.Spots.{EntryName, FileUnit, in_file, named_files, 
 use Rattle.dwz_check_index.specs.Both.{from_top}
 use Rattle.dwz_check_index.specs.Index.{CrossIndex, IsCrossIndex}
 use Rattle.dwz_check_labels.specs.FilesSaid.{IsFileSaid, around_given}
-use Rattle.dwz_check_sides.specs.Names.{AreApart, Keeps}
+use Rattle.dwz_check_sides.specs.Names.{AreApart, IsListNumber, IsNumberFrom, Keeps}
 use Rattle.dwz_check_sides.specs.Says.{FileSays, IsSide, common_of}
 use Rattle.dwz_check_sides.specs.SideLaws.{KeptNumberLaw, ListNumberLaw}
 use Rattle.dwz_check_sides.specs.declared.lists.NameLists.{NameLists}
@@ -22,16 +23,17 @@ use Rattle.dwz_check_sides.specs.declared.side.Side.{Side}
 use Rattle.dwz_graph.specs.declared.file.File.{File}
 use Rattle.dwz_groups.specs.declared.groups.Edge.{Edge}
 use Rattle.dwz_groups.specs.Groups.{grouped}
-use Rattle.dwz_groups.proofs.MarkLemmas.{each_pair}
+use Rattle.dwz_groups.proofs.MarkLemmas.{each_pair, grouped_edge}
 use Rattle.dwz_graph.proofs.IndexRoom.{units_same}
 use Rattle.dwz_def_reading.proofs.MeaningUnits.{units_agree}
 use Rattle.dwz_law_files.proofs.ListGets.{part_get}
 use Rattle.dwz_law_files.specs.Across.{IsPart}
 use Rattle.dwz_match.specs.Partial.{ArePartial}
+use Rattle.dwz_takes.specs.Takes.{AreBelow, list_at}
 use Rattle.dwz_unit.specs.Rows.{units_of as raw_units}
 use Rattle.dwz_match_spaces.specs.FileSpaces.{AreUnitSpaces}
 use Rattle.dwz_match_spaces.specs.SpaceNames.{ShowNames}
-use Rattle.dwz_match_spaces.specs.Spaces.{HasNamed, IsNoType, IsSpaceEdge, PutsSpaces}
+use Rattle.dwz_match_spaces.specs.Spaces.{HasNamed, IsNoType, IsSpaceEdge, PutsSpaces, space_edge}
 use Rattle.dwz_match_spaces.proofs.NameNumbers.{AllTell, each_named, lists_shown, name}
 use Rattle.dwz_match_spaces.proofs.SpaceFiles.{none_yet, spaces_next}
 
@@ -152,3 +154,22 @@ part_keys known said edges h count room = each_pair (λ e. e.key < count) edges 
 
 pub raw_long : (f : File) (said : List (DwUnit ℕ)) → IsFileSaid f None said → length (raw_units f.units) ≡ length said
 raw_long f said h = units_same (around_given f None) (raw_units f.units) said (((units_agree (around_given f None) (raw_units f.units)).ok said).0 h.means)
+
+-- ---- numbers of lists
+
+from_low : (known : NameLists) (bound : ℕ) → 0 < bound → AreApart known bound → (ns : List (List ℕ)) (n : ℕ) → IsNumberFrom known ns n → n < bound
+from_low known bound some apart [] n h = omega (arith, some, h)
+from_low known bound some apart (last ∷ outer) n h = (apart.lists_low (h.0 * 2 ^ 32 + h.1) n h.4).1
+
+pub lists_low : (known : NameLists) (bound : ℕ) → 0 < bound → AreApart known bound → (edges : List Edge) → ((e : Edge) → In e edges → (names : List (List ℕ)) × IsListNumber known names e.value) → (count : ℕ)
+    (lists : List (List ℕ)) → lists ≡ grouped count edges → AreBelow bound lists
+lists_low known bound some apart edges tell count lists is u n i =
+    let o = tell (space_edge u n) (grouped_edge count u n edges (subst (λ (w : List (List ℕ)). In n (list_at w u)) is i)) in
+    from_low known bound some apart (reverse o.0) n o.1
+
+pub file_tells : (known : NameLists) (units : List (FileUnit EntryName)) (high : ℕ) (edges : List Edge) → AreUnitSpaces known units high edges → (e : Edge) → In e edges
+    → (names : List (List ℕ)) × IsListNumber known names e.value
+file_tells known units high edges h e i = (let s = h.from e i in (s.names, s.number))
+
+pub part_tells : (known : NameLists) (said : List (DwUnit ℕ)) (edges : List Edge) → PutsSpaces known 0 said [] edges → (e : Edge) → In e edges → (names : List (List ℕ)) × IsListNumber known names e.value
+part_tells known said edges h e i = ⊎_elim (λ (a : In e []). absurd a) (λ (s : IsSpaceEdge known 0 said e). (s.names, s.number)) (h.from e i)

@@ -7,6 +7,7 @@ ghost use Rattle.dwz_def_tops.specs.Spots.{units_of};
 ghost use Rattle.dwz_check_labels.specs.FilesSaid.{IsFileSaid};
 ghost use Rattle.dwz_graph.specs.Files.{docs_of};
 ghost use Rattle.dwz_match.specs.Partial.{ArePartial};
+ghost use Rattle.dwz_takes.specs.Takes.{AreBelow};
 ghost use Rattle.dwz_match_spaces.specs.SpaceNames.{ShowNames};
 ghost use Rattle.dwz_unit.specs.Rows.{units_of as raw_units};
 
@@ -24,6 +25,8 @@ use std::alloc::Global;
 pub struct SpaceNames {
     pub units: Groups,
     pub parts: Groups,
+    /// More than each of the numbers.
+    pub names: u32,
 }
 
 /// The numbers of the name lists of the spaces of so many units of the files of a graph, and of so many partial units of the common file.
@@ -40,6 +43,7 @@ pub fn space_names(
     ensures names { (doc : Doc ℕ) → IsFileSaid common.now None doc.units → ArePartial doc.units
         → IfOk result (λ s. ShowNames (reused_of (docs_of graph.now.given) doc) s.units s.parts) }
     ensures len { IfOk result (λ s. (length s.units ≡ count) × (length s.parts ≡ parts)) }
+    ensures below { IfOk result (λ s. AreBelow s.names s.units × AreBelow s.names s.parts) }
 {
     list_number_laws();
     graph.indexes();
@@ -55,5 +59,6 @@ pub fn space_names(
     Ok(SpaceNames {
         units: group(alloc, count, edges.as_slice())?,
         parts: group(alloc, parts, more.as_slice())?,
+        names: next + common.units.entries(),
     })
 }

@@ -1,4 +1,4 @@
-use Rattle.std.proofs.Common.{◌<◌, ◌+◌, ℕ, All, List, None, length, sym, ap, subst, ◌∙◌, arith}
+use Rattle.std.proofs.Common.{◌≡◌, ◌<◌, ◌+◌, ℕ, All, List, None, length, sym, ap, subst, ◌∙◌, arith}
 use Rattle.dwz_def_reading.specs.Units.{entries_in}
 use Rattle.dwz_def_tops.specs.Spots.{units_of}
 use Rattle.dwz_check_index.specs.Both.{from_top}
@@ -12,8 +12,9 @@ use Rattle.dwz_groups.proofs.MarkLemmas.{grouped_length}
 use Rattle.dwz_law_files.proofs.FilesFew.{all_few}
 use Rattle.dwz_unit.proofs.ShownLemmas.{units_few}
 use Rattle.dwz_unit.specs.Rows.{units_of as raw_units}
+use Rattle.dwz_takes.specs.Takes.{AreBelow}
 use Rattle.dwz_match_spaces.specs.Spaces.{PutsSpaces}
-use Rattle.dwz_match_spaces.proofs.CommonSpaces.{common_side, common_spaces, file_keys, names_shown, part_keys, raw_long, spaces_keep}
+use Rattle.dwz_match_spaces.proofs.CommonSpaces.{common_side, common_spaces, file_keys, file_tells, lists_low, names_shown, part_keys, part_tells, raw_long, spaces_keep}
 use Rattle.dwz_match_spaces.proofs.names.space_names.Goals as goal
 
 pub put_spaces-requires-clause-said : goal.put_spaces-requires-clause-said
@@ -136,3 +137,63 @@ returns-clause-names c = λ doc said partial. (
     (common_spaces docs doc partial law.kept known more (subst (λ (w : List Edge). PutsSpaces known 0 doc.units w more) c.new-more.ensures.items put)) c.args.count c.args.parts c.requires.count
     (omega (arith, long, room)) c.in_ok-group.field-0 c.in_ok-group-2.field-0 (c.in_ok-group.ensures ∙ ap (grouped c.args.count) c.as_slice-2.ensures.value)
     (c.in_ok-group-2.ensures ∙ ap (grouped c.args.parts) c.as_slice-3.ensures.value))
+
+pub returns-clause-below : goal.returns-clause-below
+returns-clause-below c =
+    let doc = c.requires.said.0 in
+    let said = c.requires.said.1 in
+    let contents = c.args.graph.now.given in
+    let files = c.files-files.result.now in
+    let kept = c.files-files.ensures in
+    let f = c.args.common.now in
+    let s = c.side_of-side.result in
+    let e = c.side_of-side.ensures in
+    let side = common_side f doc.units said c.in_ok-index.index (c.in_ok-index.ensures.names (around_given f None) doc.units said.means) s e.0 e.1 e.2 in
+    let steps = steps_long s doc.units (from_top 0) side in
+    let same = ap (λ (w : File). entries_in (raw_units w.units)) e.0 in
+    let few = all_few contents files kept in
+    let next = c.in_ok-next.ensures.next in
+    let low = said.few in
+    let long = raw_long f doc.units said in
+    let room = c.requires.parts in
+    let docs = docs_of contents in
+    let units = units_of docs in
+    let law = c.list_number_laws.ensures in
+    let first = c.put_file_spaces.new.known in
+    let known = c.put_spaces.new.known in
+    let edges = c.put_file_spaces.new.edges.items in
+    let more = c.put_spaces.new.edges.items in
+    let apart = c.in_ok-next.ensures.apart c.new-known.ensures in
+    let put = c.in_ok-put_spaces.ensures.edges doc.units (from_top 0) side apart in
+    let spaces = c.in_ok-next.ensures.spaces contents c.indexes.result.now kept c.indexes.ensures c.new-known.ensures c.new-edges.ensures.items in
+    let many = c.entries.ensures in
+    let bound = c.in_ok-next.next + length s.index.now.steps in
+    let ends : bound ≡ c.in_ok-next.next + c.entries.result = omega (arith, steps, same, many) in
+    let all = c.in_ok-put_spaces.ensures.apart apart in
+    let some : 0 < bound = omega (arith, next) in
+    let kept_spaces = spaces_keep law.kept first known c.in_ok-put_spaces.ensures.kept units (length units) edges spaces in
+    let here = subst (λ (w : List Edge). PutsSpaces known 0 doc.units w more) c.new-more.ensures.items put in (
+      subst (λ (n : ℕ). AreBelow n c.in_ok-group.field-0) ends
+          (lists_low known bound some all edges (file_tells known units (length units) edges kept_spaces) c.args.count c.in_ok-group.field-0 (c.in_ok-group.ensures ∙ ap (grouped c.args.count) c.as_slice-2.ensures.value)),
+      subst (λ (n : ℕ). AreBelow n c.in_ok-group-2.field-0) ends
+          (lists_low known bound some all more (part_tells known doc.units more here) c.args.parts c.in_ok-group-2.field-0 (c.in_ok-group-2.ensures ∙ ap (grouped c.args.parts) c.as_slice-3.ensures.value)),
+    )
+
+pub overflow_add-result : goal.overflow_add-result
+overflow_add-result c =
+    let doc = c.requires.said.0 in
+    let said = c.requires.said.1 in
+    let contents = c.args.graph.now.given in
+    let files = c.files-files.result.now in
+    let kept = c.files-files.ensures in
+    let f = c.args.common.now in
+    let s = c.side_of-side.result in
+    let e = c.side_of-side.ensures in
+    let side = common_side f doc.units said c.in_ok-index.index (c.in_ok-index.ensures.names (around_given f None) doc.units said.means) s e.0 e.1 e.2 in
+    let steps = steps_long s doc.units (from_top 0) side in
+    let same = ap (λ (w : File). entries_in (raw_units w.units)) e.0 in
+    let few = all_few contents files kept in
+    let next = c.in_ok-next.ensures.next in
+    let low = said.few in
+    let many = c.entries.ensures in
+    omega (arith, few, next, low, many)

@@ -58,7 +58,7 @@ refs_ready k f first i count is_common x ready file is within all =
 
 -- ---- places
 
-row_place : (raw : List RawUnit) (i : ℕ) (row : EntryRow) → slice_get (rows_of raw) i ≡ Some row → place_at raw i ≡ row.entry.at
+pub row_place : (raw : List RawUnit) (i : ℕ) (row : EntryRow) → slice_get (rows_of raw) i ≡ Some row → place_at raw i ≡ row.entry.at
 row_place raw i row found = got_index_or (places raw) i row.entry.at 0 (got_map (λ (r : EntryRow). r.entry.at) (rows_of raw) i row found)
 
 same_row : (raw : List RawUnit) (i : ℕ) (a b : EntryRow) → slice_get (rows_of raw) i ≡ Some a → slice_get (rows_of raw) i ≡ Some b → a ≡ b

@@ -14,6 +14,8 @@ pub mod AttrSteps
 pub mod PlacesSaid
 pub mod FitLemmas
 pub mod EntrySteps
+pub mod FaultLemmas
+pub mod FaultSteps
 pub mod FileSteps
 pub mod ValuesSteps
 pub mod PlainClasses

@@ -113,7 +113,7 @@ got_or_default [] k d lt = absurd (omega arith)
 got_or_default (x ∷ xs) zero d lt = refl
 got_or_default (x ∷ xs) (suc k) d lt = got_or_default xs k d (omega arith)
 
-each_at : {X : Type 0} (P : X → Type 0) (xs : List X) (k : ℕ) (x : X) → Each P xs → slice_get xs k ≡ Some x → P x
+pub each_at : {X : Type 0} (P : X → Type 0) (xs : List X) (k : ℕ) (x : X) → Each P xs → slice_get xs k ≡ Some x → P x
 each_at P [] k x all e = absurd cc
 each_at P (y ∷ xs) zero x all e = (let same : y ≡ x = cc in subst P same all.0)
 each_at P (y ∷ xs) (suc k) x all e = each_at P xs k x all.1 e

@@ -4,3 +4,4 @@ pub mod Known
 pub mod Copied
 pub mod Attributes
 pub mod Files
+pub mod Faults

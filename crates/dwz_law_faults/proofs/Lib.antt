@@ -1,1 +1,2 @@
 pub mod FaultMaps
+pub mod FileNumbers

@@ -5,6 +5,8 @@
 //! Read first: `specs/Ranges.antt`; and `Output.antt` of `dwz_def_expand`.
 #![tactic(auto)]
 
+mod large;
 mod ranges;
 
+pub use large::first_large;
 pub use ranges::ranges_after;

@@ -6,7 +6,9 @@
 #![tactic(auto)]
 
 mod large;
+mod narrow;
 mod ranges;
 
 pub use large::first_large;
+pub use narrow::{first_narrow, narrow_fault, note_operand};
 pub use ranges::ranges_after;

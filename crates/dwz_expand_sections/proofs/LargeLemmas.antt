@@ -76,7 +76,8 @@ module _ (f : OneFile) (info abbrevs : ℕ) (has : HaveLengths f info abbrevs) w
   others_are : if_new 3 (new_sections f).strs
       ++ (if_new 5 (new_sections f).offsets ++ (if_new 6 (new_sections f).line ++ (if_new 7 (new_sections f).loclists ++ if_new 8 (new_sections f).aranges))) ≡ others
   unfolding new_sections
-  others_are = ap (λ (w : List NewContent). if_new 7 (if_other (sources_of f.file.bytes).lists (new_lists f)) ++ w) (sym (append-nil (if_new 8 (if_other (debug_aranges f.file.bytes) (new_ranges f)))))
+  others_are =
+      ap (λ (w : List NewContent). if_new 7 (if_other (sources_of f.file.bytes).lists (new_lists f)) ++ w) (sym (append-nil (if_new 8 (if_other (debug_aranges f.file.bytes) (new_ranges f)))))
 
   none_there : info < too_large → abbrevs < too_large → NoneLarge (changes_by (new_sections f) None).new
   none_there short less x (inl here) = info_fits short here.1

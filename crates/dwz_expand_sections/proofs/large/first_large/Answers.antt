@@ -6,7 +6,8 @@ returns-then-info-ge-TOO_LARGE c f has = info_large f c.args.info c.args.abbrevs
 
 pub returns-then-abbrevs-ge-TOO_LARGE : goal.returns-then-abbrevs-ge-TOO_LARGE
 returns-then-abbrevs-ge-TOO_LARGE c f has =
-    abbrevs_large f c.args.info c.args.abbrevs has c.too_large-then-abbrevs-ge-TOO_LARGE.result c.too_large-then-abbrevs-ge-TOO_LARGE.ensures c.if-info-ge-TOO_LARGE.false c.if-abbrevs-ge-TOO_LARGE.true
+    abbrevs_large f c.args.info c.args.abbrevs has c.too_large-then-abbrevs-ge-TOO_LARGE.result c.too_large-then-abbrevs-ge-TOO_LARGE.ensures
+    c.if-info-ge-TOO_LARGE.false c.if-abbrevs-ge-TOO_LARGE.true
 
 pub returns-else-abbrevs-ge-TOO_LARGE : goal.returns-else-abbrevs-ge-TOO_LARGE
 returns-else-abbrevs-ge-TOO_LARGE c f has = none_large f c.args.info c.args.abbrevs has c.if-info-ge-TOO_LARGE.false c.if-abbrevs-ge-TOO_LARGE.false

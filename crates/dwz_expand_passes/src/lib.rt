@@ -1,0 +1,8 @@
+//! The two passes over the new units of a file that is written without its partial units: the one lays them, and the other writes them.
+//!
+//! Read first: `specs/Passes.antt`.
+#![tactic(auto)]
+
+mod heads;
+
+pub(crate) use heads::head_of;

@@ -3,6 +3,7 @@
 //! Read first: `specs/Passes.antt`.
 #![tactic(auto)]
 
+mod copied;
 mod heads;
+mod pass;
 
-pub(crate) use heads::head_of;

@@ -1,0 +1,77 @@
+-- Inner: What was made of the sources of new units so far.
+use Rattle.std.specs.Prelude.{◌≡◌, ℕ, ◌-◌, ◌<◌, List, map, nat_lt, slice_get, Option, Some, None, Result, Ok, Err}
+use Rattle.dwz_def_cross.specs.Tops.{WithCommon}
+use Rattle.dwz_def_expand.specs.Refusals.{SiteFault, Where, sites_of}
+use Rattle.dwz_def_expand.specs.Source.{source_places}
+use Rattle.dwz_def_reading.specs.Documents.{Node}
+use Rattle.dwz_def_reading.specs.FirstOf.{OfFirst}
+use Rattle.dwz_model.specs.Lists.{Each}
+use Rattle.dwz_model.specs.declared.fault.Fault.{Fault}
+use Rattle.dwz_model.specs.declared.fault.ReadErr.{ReadErr}
+use Rattle.dwz_model.specs.declared.fault.ReadErr.TheVariants.{NoMemory, Refused}
+use Rattle.dwz_imports.specs.Imports.{same}
+use Rattle.dwz_expand_layout.specs.Depths.{DeepLine}
+use Rattle.dwz_expand_layout.specs.Entries.{CanStore, NewLine, UnitLines, attr_view}
+use Rattle.dwz_expand_layout.specs.Lines.{Line}
+use Rattle.dwz_expand_layout.specs.Shown.{keys_of}
+use Rattle.dwz_expand_layout.specs.declared.entries.NewKind.{NewKind}
+use Rattle.dwz_expand_values.specs.Files.{Knows, forms_of}
+use Rattle.dwz_expand_values.specs.declared.files.Known.{Known}
+use Rattle.dwz_expand_passes.specs.Heads.{IsHeadOf}
+use Rattle.dwz_expand_passes.specs.declared.copied.CopiedEntry.{CopiedEntry}
+use Rattle.dwz_expand_passes.specs.declared.copied.Source.{Source}
+use Rattle.dwz_law_sources.specs.Copied.{IsCopyOf}
+use Rattle.dwz_law_sources.specs.Lined.{all_lines}
+use Rattle.dwz_law_sources.specs.Numbered.{key_in}
+
+-- ---- what is known
+
+-- both files say this, and the new unit at hand is one of theirs; the numbers of copies are those that are counted
+abbrev pub KnowsHere : Known → WithCommon ℕ → Where ℕ → Type 0
+KnowsHere x w stands = Knows x w (keys_of (key_in w)) stands
+
+-- the tag and the depth of a source are those of its entry
+pub record IsSource (x : Known) (s : Source) : Type 0 where
+  pub tag : 0 < s.head.tag
+  pub is : (w : WithCommon ℕ) (stands : Where ℕ) → KnowsHere x w stands → (l : Line ℕ) → slice_get (all_lines w) s.entry ≡ Some l
+      → IsHeadOf l s.head
+
+-- behind all a root would follow
+abbrev pub depth_at : Option Source → ℕ
+depth_at None = 1
+depth_at (Some s) = s.head.depth
+
+-- ---- an entry
+
+-- as it is written, before one that stands so deep
+abbrev pub line_before : ℕ → DeepLine → NewLine
+line_before next d = record { tag = d.tag; children = nat_lt d.depth next; attrs = d.attrs; ends = d.depth - next }
+
+abbrev pub copied_line : CopiedEntry → NewLine
+copied_line e = record { tag = e.tag; children = e.children; attrs = map (attr_view e.operands.items) e.attrs.items; ends = e.ends }
+
+abbrev pub copied_deep : ℕ → CopiedEntry → DeepLine
+copied_deep depth e = record { depth = depth; tag = e.tag; attrs = map (attr_view e.operands.items) e.attrs.items }
+
+pub record CanBeWritten (e : CopiedEntry) : Type 0 where
+  pub tag : 0 < e.tag
+  pub attrs : Each CanStore e.attrs.items
+
+-- the first of its values that can't be copied has that fault
+abbrev pub RefusesLine : Known → WithCommon ℕ → Where ℕ → Node ℕ → Fault → Type 0
+RefusesLine x w stands e = OfFirst (SiteFault same (source_places same w) (forms_of x w) stands) (sites_of x.unit e.at 0 e.attrs)
+
+-- it is the copy of an entry, of which each value can be copied
+pub record IsCopied (x : Known) (w : WithCommon ℕ) (stands : Where ℕ) (d : DeepLine) (l : Line ℕ) : Type 0 where
+  pub copy : IsCopyOf w (forms_of x w) x.unit d l
+  pub free : (f : Fault) → ¬ RefusesLine x w stands l.node f
+
+abbrev pub AnswersLine : {Y : Type 0} → Known → WithCommon ℕ → Where ℕ → Line ℕ → DeepLine → Result Y ReadErr → Type 0
+AnswersLine x w stands l d (Ok y) = IsCopied x w stands d l
+AnswersLine x w stands l d (Err NoMemory) = Unit {0}
+AnswersLine x w stands l d (Err (Refused f)) = RefusesLine x w stands l.node f
+
+-- ---- a unit
+
+abbrev pub a_unit : NewKind → List NewLine → UnitLines
+a_unit kind lines = record { kind = kind; lines = lines }

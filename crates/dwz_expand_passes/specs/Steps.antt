@@ -1,7 +1,8 @@
 -- Inner: What was made of the sources of new units so far.
-use Rattle.std.specs.Prelude.{◌≡◌, ℕ, ◌-◌, ◌<◌, List, map, nat_lt, slice_get, Option, Some, None, Result, Ok, Err}
+use Rattle.std.specs.Prelude.{◌≡◌, ℕ, ◌-◌, ◌<◌, List, [], ◌∷◌, ◌++◌, map, nat_lt, slice_get, Option, Some, None, Result, Ok, Err}
+use Rattle.dwz_def_cross.specs.CrossSame.{EachTwo}
 use Rattle.dwz_def_cross.specs.Tops.{WithCommon}
-use Rattle.dwz_def_expand.specs.Refusals.{SiteFault, Where, sites_of}
+use Rattle.dwz_def_expand.specs.Refusals.{SiteFault, Where, sites_in, sites_of}
 use Rattle.dwz_def_expand.specs.Source.{source_places}
 use Rattle.dwz_def_reading.specs.Documents.{Node}
 use Rattle.dwz_def_reading.specs.FirstOf.{OfFirst}
@@ -20,7 +21,7 @@ use Rattle.dwz_expand_values.specs.declared.files.Known.{Known}
 use Rattle.dwz_expand_passes.specs.Heads.{IsHeadOf}
 use Rattle.dwz_expand_passes.specs.declared.copied.CopiedEntry.{CopiedEntry}
 use Rattle.dwz_expand_passes.specs.declared.copied.Source.{Source}
-use Rattle.dwz_law_sources.specs.Copied.{IsCopyOf}
+use Rattle.dwz_law_sources.specs.Copied.{IsCopyOf, NamesNoRoot}
 use Rattle.dwz_law_sources.specs.Lined.{all_lines}
 use Rattle.dwz_law_sources.specs.Numbered.{key_in}
 
@@ -75,3 +76,43 @@ AnswersLine x w stands l d (Err (Refused f)) = RefusesLine x w stands l.node f
 
 abbrev pub a_unit : NewKind → List NewLine → UnitLines
 a_unit kind lines = record { kind = kind; lines = lines }
+
+-- entries, before one that stands so deep
+abbrev pub deep_or : ℕ → List DeepLine → ℕ
+deep_or next [] = next
+deep_or next (d ∷ deep) = d.depth
+
+abbrev pub lines_before : ℕ → List DeepLine → List NewLine
+lines_before next [] = []
+lines_before next (d ∷ deep) = line_before (deep_or next deep) d ∷ lines_before next deep
+
+abbrev pub CopyThere : Known → WithCommon ℕ → Where ℕ → ℕ → DeepLine → Type 0
+CopyThere x w stands i d = (l : Line ℕ) → slice_get (all_lines w) i ≡ Some l → IsCopied x w stands d l
+
+-- they are the copies of the entries with these numbers
+pub record AreCopied (x : Known) (all : List ℕ) (deep : List DeepLine) : Type 0 where
+  pub copies : (w : WithCommon ℕ) (stands : Where ℕ) → KnowsHere x w stands → EachTwo (CopyThere x w stands) all deep
+  pub no_roots : Each (λ d. Each NamesNoRoot d.attrs) deep
+
+-- some of them were copied, and the others are these
+pub record PassedTo (x : Known) (all rest : List ℕ) (deep : List DeepLine) : Type 0 where
+  pub done : List ℕ
+  pub whole : all ≡ done ++ rest
+  pub copied : AreCopied x done deep
+
+-- the next one, and those behind it
+abbrev pub rest_of : Option Source → List ℕ → List ℕ
+rest_of None walk = []
+rest_of (Some s) walk = s.entry ∷ walk
+
+-- the first value of entries that can't be copied has that fault
+abbrev pub RefusesLines : Known → WithCommon ℕ → Where ℕ → List (Line ℕ) → Fault → Type 0
+RefusesLines x w stands ls =
+    OfFirst (SiteFault same (source_places same w) (forms_of x w) stands) (sites_in x.unit (map (λ (l : Line ℕ). l.node) ls))
+
+abbrev pub RefusesIn : {Y : Type 0} → Known → List ℕ → Result Y ReadErr → Type 0
+RefusesIn x all (Ok y) = Unit {0}
+RefusesIn x all (Err NoMemory) = Unit {0}
+RefusesIn x all (Err (Refused f)) =
+    (w : WithCommon ℕ) (stands : Where ℕ) → KnowsHere x w stands → (ls : List (Line ℕ))
+    → EachTwo (λ i l. slice_get (all_lines w) i ≡ Some l) all ls → RefusesLines x w stands ls f

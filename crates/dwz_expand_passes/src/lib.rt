@@ -4,6 +4,7 @@
 #![tactic(auto)]
 
 mod copied;
+mod entries;
 mod heads;
 mod pass;
 

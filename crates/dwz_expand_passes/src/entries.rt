@@ -1,0 +1,38 @@
+//! The entries of a new unit, from its root on.
+
+ghost use Rattle.std.specs.Prelude.{◌<◌, ℕ, [], List, OnOk};
+ghost use Rattle.dwz_expand_layout.specs.Depths.{DeepLine, with_ends};
+ghost use Rattle.dwz_expand_layout.specs.Entries.{UnitLines};
+ghost use Rattle.dwz_expand_layout.specs.Laid.{Made};
+ghost use Rattle.dwz_expand_layout.specs.declared.entries.NewKind.{NewKind as Kind};
+ghost use Rattle.dwz_expand_passes.specs.Steps.{AreCopied, RefusesIn};
+ghost use Rattle.dwz_expand_values.specs.Files.{IsKnownReady, entry_count};
+ghost use Rattle.dwz_model.specs.Lists.{Each};
+
+use crate::copied::{CopiedEntry, next_source};
+use crate::pass::Pass;
+use dwz_expand_values::Known;
+use dwz_expand_walk::SourceWalk;
+use dwz_model::ReadErr;
+
+/// Takes all entries of the unit at hand. Refused at the first value that can't be copied.
+pub(crate) fn pass_entries<'a, P: Pass>(
+    pass: &mut P,
+    known: &Known<'_, 'a>,
+    walk: &mut SourceWalk,
+    copied: &mut CopiedEntry<'a>,
+) -> Result<(), ReadErr>
+    requires ready { IsKnownReady known.now }
+    requires there { Each (λ i. i < entry_count known.now) walk.old }
+    ensures passed { (made : Made) (units : List UnitLines) (kind : Kind) → P.within made pass.old units kind []
+        → OnOk result ((deep : List DeepLine) × P.within made pass.new units kind (with_ends deep) × AreCopied known.now walk.old deep) }
+    ensures refused { RefusesIn known.now walk.old result }
+{
+    let mut next = next_source(known, walk);
+    while let Some(source) = next {
+        next = next_source(known, walk);
+        copied.copy(known, source, next)?;
+        pass.put(&copied.entry())?;
+    }
+    Ok(())
+}

@@ -1,3 +1,5 @@
 pub mod HeadLemmas
 pub mod LineSteps
 pub mod StepLemmas
+pub mod KindLemmas
+pub mod SaidLemmas

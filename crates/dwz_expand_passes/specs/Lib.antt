@@ -1,2 +1,4 @@
 pub mod Heads
 pub mod Steps
+pub mod Kinds
+pub mod Passes

@@ -5,6 +5,9 @@
 
 mod copied;
 mod entries;
+mod file;
 mod heads;
+mod kinds;
 mod pass;
 
+pub use file::NewFile;

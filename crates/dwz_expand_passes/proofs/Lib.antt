@@ -3,3 +3,4 @@ pub mod LineSteps
 pub mod StepLemmas
 pub mod KindLemmas
 pub mod SaidLemmas
+pub mod UnitLemmas

@@ -2,3 +2,4 @@ pub mod Heads
 pub mod Steps
 pub mod Kinds
 pub mod Passes
+pub mod Units

@@ -9,5 +9,6 @@ mod file;
 mod heads;
 mod kinds;
 mod pass;
+mod units;
 
 pub use file::NewFile;

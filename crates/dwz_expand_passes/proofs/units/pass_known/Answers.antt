@@ -1,0 +1,43 @@
+use Rattle.std.proofs.Common.{◌≡◌, ℕ, ◌+◌, ◌<◌, ◌^◌, List, [], None, Some, length, slice_get, refl, sym, ap, subst, ◌∙◌, arith}
+use Rattle.std.proofs.lemmas.Result.{err_from_is_err_and}
+use Rattle.dwz_model.specs.Lists.{Each}
+use Rattle.dwz_expand_layout.specs.Depths.{with_ends}
+use Rattle.dwz_expand_passes.specs.Passes.{entry_many}
+use Rattle.dwz_expand_passes.specs.Steps.{a_unit}
+use Rattle.dwz_expand_passes.proofs.UnitLemmas.{each_to, new_of, planned_within, refused_at}
+use Rattle.dwz_expand_passes.proofs.units.pass_known.Goals as goal
+
+pub new-walk-requires-clause-few : goal.new-walk-requires-clause-few
+new-walk-requires-clause-few g c =
+    let few = c.requires.ready.few in
+    each_to (λ x. x.root < entry_many c.args.file.now) (λ x. x.root + 1 < 2 ^ 32) c.args.file.now.sources.now.units (λ x lt. omega (arith, lt, few)) c.requires.roots
+
+pub pass_entries-requires-clause-there : goal.pass_entries-requires-clause-there
+pass_entries-requires-clause-there g c =
+    let x = c.args.file.now in
+    let k = c.args.known.now in
+    let walk = c.new-walk.ensures c.args.new c.requires.new in
+    subst (λ (m : ℕ). Each (λ i. i < m) c.new-walk.result) (sym c.requires.many)
+    (subst (λ (is : List ℕ). Each (λ i. i < entry_many x) is) (sym walk) (planned_within x c.requires.ready.planned k.unit c.args.new c.requires.new))
+
+pub returns-in_err-pass_entries-clause-refused : goal.returns-in_err-pass_entries-clause-refused
+returns-in_err-pass_entries-clause-refused g c =
+    let x = c.args.file.now in
+    let k = c.args.known.now in
+    let walk = c.new-walk.ensures c.args.new c.requires.new in
+    let e = err_from_is_err_and c.from_residual-in_err-pass_entries.result c.from_residual-in_err-pass_entries.ensures.1 in
+    rw (e.1, e.2) (refused_at x k.unit k c.new-walk.result c.args.new c.requires.new walk c.requires.own refl c.requires.knows c.in_err-pass_entries.field-0.0 c.in_err-pass_entries.ensures.refused)
+
+pub returns-clause-passed : goal.returns-clause-passed
+returns-clause-passed g c = λ made units start. (
+    let x = c.args.file.now in
+    let k = c.args.known.now in
+    let walk = c.new-walk.ensures c.args.new c.requires.new in
+    let s = c.in_ok-start.ensures made units start in
+    let p = c.in_ok-pass_entries.ensures.passed made units c.args.kind s in
+    let e = c.in_ok-close.ensures made units c.args.kind (with_ends p.0) p.1 in
+    (
+      a_unit c.args.kind (with_ends p.0),
+      e,
+      new_of x k.unit k c.new-walk.result c.args.new c.requires.new walk c.requires.own refl c.requires.knows c.args.kind p.0 c.requires.kinds p.2,
+    ))

@@ -1,15 +1,13 @@
 -- The kinds of new units, and the copies that describe types.
-use Rattle.std.proofs.Common.{◌≡◌, ℕ, ◌+◌, ◌<◌, true, false, Bool, List, [], ◌∷◌, length, map, get_or, Option, Some, None, Ok, slice_get, refl, sym, ap, subst, ◌∙◌, arith}
+use Rattle.std.proofs.Common.{◌≡◌, ℕ, ◌+◌, ◌<◌, true, false, List, [], ◌∷◌, length, map, get_or, Option, Some, None, Ok, slice_get, refl, sym, ap, subst, ◌∙◌, arith}
 use Rattle.std.specs.Prelude.{slice_index_or, unwrap_or}
-use Rattle.dwz_check_index.specs.Index.{ListedEntry, listed_units}
 use Rattle.dwz_check_labels.specs.Files.{AreHeres, IsHereOf}
 use Rattle.dwz_codes.specs.Rows.{has}
 use Rattle.dwz_def_cross.specs.Tops.{WithCommon, units_with_common, whole_units}
 use Rattle.dwz_def_encoding.proofs.ReadAgain.{keys_read}
 use Rattle.dwz_def_encoding.specs.Meant.{entry_keys}
-use Rattle.dwz_def_encoding.specs.Placing.{has_key}
 use Rattle.dwz_def_expand.proofs.WholeLemmas.{in_all, is_there}
-use Rattle.dwz_def_expand.specs.Source.{Copy, copy, first_with, is_partial, source_places, source_unit, sources_below, unit_for}
+use Rattle.dwz_def_expand.specs.Source.{copy, is_partial, source_places, source_unit, sources_below, unit_for}
 use Rattle.dwz_def_reading.proofs.HasLemmas.{in_has}
 use Rattle.dwz_def_reading.specs.Documents.{Compile, DwUnit, Entries, Kind, OfType, Partial, kind_map}
 use Rattle.dwz_def_reading.specs.Meanings.{Around, MeaningContext, MeansKind, MeansUnit, entries_for, places_of, scope_of, target_of}
@@ -26,7 +24,6 @@ use Rattle.dwz_expand_copies.specs.Copies.{IsCopyFor}
 use Rattle.dwz_expand_copies.specs.declared.copies.CopyAt.{CopyAt}
 use Rattle.dwz_expand_values.proofs.FitLemmas.{stands_first}
 use Rattle.dwz_expand_values.proofs.PlacesSaid.{entry_said, unit_said, units_mean}
-use Rattle.dwz_expand_values.specs.Files.{raw_in}
 use Rattle.dwz_expand_values.specs.Known.{StandsAt}
 use Rattle.dwz_expand_passes.specs.Kinds.{IsMain}
 use Rattle.dwz_law_sources.proofs.NumberLemmas.{numbers_law}

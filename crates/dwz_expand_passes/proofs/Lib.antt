@@ -4,3 +4,4 @@ pub mod StepLemmas
 pub mod KindLemmas
 pub mod SaidLemmas
 pub mod UnitLemmas
+pub mod OrderLemmas

@@ -1,12 +1,11 @@
 -- The sources of a unit, one after the other.
-use Rattle.std.proofs.Common.{◌≡◌, ℕ, ◌<◌, List, [], ◌∷◌, ◌++◌, length, map, Option, Some, None, Result, Ok, Err, slice_get, refl, sym, ap, subst, ◌∙◌, append_assoc, inl, inr}
+use Rattle.std.proofs.Common.{◌≡◌, ℕ, List, [], ◌∷◌, ◌++◌, map, Option, Some, None, Err, slice_get, refl, sym, ap, subst, ◌∙◌, append_assoc, inl, inr}
 use Rattle.std.specs.Prelude.{MatchOption}
 use Rattle.std.proofs.lemmas.List.{append-nil}
 use Rattle.dwz_def_cross.specs.CrossSame.{EachTwo}
 use Rattle.dwz_def_cross.specs.Tops.{WithCommon}
-use Rattle.dwz_def_expand.specs.Refusals.{Site, SiteFault, Where, sites_in, sites_of}
+use Rattle.dwz_def_expand.specs.Refusals.{SiteFault, Where, sites_in, sites_of}
 use Rattle.dwz_def_expand.specs.Source.{source_places}
-use Rattle.dwz_def_reading.specs.Documents.{Node}
 use Rattle.dwz_def_reading.specs.FirstOf.{OfFirst}
 use Rattle.dwz_imports.specs.Imports.{same}
 use Rattle.dwz_model.specs.Lists.{Each}
@@ -18,7 +17,7 @@ use Rattle.dwz_expand_layout.specs.Entries.{NewLine}
 use Rattle.dwz_expand_layout.specs.Lines.{Line}
 use Rattle.dwz_expand_values.specs.Files.{forms_of}
 use Rattle.dwz_expand_values.specs.declared.files.Known.{Known}
-use Rattle.dwz_expand_passes.specs.Steps.{AnswersLine, AreCopied, CopyThere, IsCopied, IsSource, KnowsHere, PassedTo, RefusesIn, RefusesLine, RefusesLines, deep_or, line_before, lines_before, rest_of}
+use Rattle.dwz_expand_passes.specs.Steps.{AnswersLine, AreCopied, CopyThere, IsSource, KnowsHere, PassedTo, RefusesIn, RefusesLine, RefusesLines, line_before, lines_before, rest_of}
 use Rattle.dwz_expand_passes.specs.declared.copied.Source.{Source}
 use Rattle.dwz_law_sources.specs.Copied.{NamesNoRoot}
 use Rattle.dwz_law_sources.specs.Lined.{all_lines}
@@ -86,13 +85,13 @@ all_passed x all deep p = subst (λ (is : List ℕ). AreCopied x is deep) (sym (
 
 -- ---- the first that can't be copied
 
-free_first : {X Y : Type 0} (Has : Y → X → Type 0) (ys zs : List Y) (x : X) → ((z : X) → ¬ OfFirst Has ys z) → OfFirst Has zs x → OfFirst Has (ys ++ zs) x
+pub free_first : {X Y : Type 0} (Has : Y → X → Type 0) (ys zs : List Y) (x : X) → ((z : X) → ¬ OfFirst Has ys z) → OfFirst Has zs x → OfFirst Has (ys ++ zs) x
 free_first Has [] zs x free h = h
 free_first Has (y ∷ ys) zs x free h =
     let none : (z : _) → ¬ Has y z = λ z has. free z (inl has) in
     inr (none, free_first Has ys zs x (λ z later. free z (inr (none, later))) h)
 
-first_front : {X Y : Type 0} (Has : Y → X → Type 0) (ys zs : List Y) (x : X) → OfFirst Has ys x → OfFirst Has (ys ++ zs) x
+pub first_front : {X Y : Type 0} (Has : Y → X → Type 0) (ys zs : List Y) (x : X) → OfFirst Has ys x → OfFirst Has (ys ++ zs) x
 first_front Has [] zs x h = absurd h
 first_front Has (y ∷ ys) zs x (inl has) = inl has
 first_front Has (y ∷ ys) zs x (inr later) = inr (later.0, first_front Has ys zs x later.1)

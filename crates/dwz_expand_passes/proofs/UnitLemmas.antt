@@ -1,16 +1,15 @@
 -- A new unit that is taken is the one that the plan has there.
-use Rattle.std.proofs.Common.{◌≡◌, ℕ, zero, suc, ◌+◌, ◌<◌, ◌^◌, List, [], ◌∷◌, ◌++◌, drop, length, map, take, Option, Some, Result, Ok, Err, slice_get, refl, sym, ap, subst, ◌∙◌, arith, inl, inr}
+use Rattle.std.proofs.Common.{◌≡◌, ℕ, zero, suc, ◌<◌, List, [], ◌∷◌, ◌++◌, drop, length, map, take, Option, Some, Err, slice_get, refl, sym, ap, subst, ◌∙◌, arith, inl, inr}
 use Rattle.std.specs.List.{flat_map}
 use Rattle.std.specs.Prelude.{slice_index_or}
 use Rattle.std.proofs.lemmas.List.{length-map, map-append}
-use Rattle.dwz_check_index.specs.Index.{ListedEntry}
 use Rattle.dwz_check_labels.specs.Files.{IsHereOf}
 use Rattle.dwz_def_cross.specs.CrossSame.{EachTwo}
 use Rattle.dwz_def_cross.specs.Tops.{WithCommon, units_with_common, whole_units}
 use Rattle.dwz_def_encoding.proofs.ReadAgain.{bases_read}
 use Rattle.dwz_def_encoding.specs.Bases.{Bases, bases_in}
 use Rattle.dwz_def_expand.specs.Chosen.{paths_of_unit, paths_at}
-use Rattle.dwz_def_expand.specs.Refusals.{Site, SiteFault, Where, nodes, sites_in, sites_of}
+use Rattle.dwz_def_expand.specs.Refusals.{SiteFault, Where, nodes, sites_in, sites_of}
 use Rattle.dwz_def_expand.specs.Source.{source_places, source_unit}
 use Rattle.dwz_def_reading.specs.Documents.{DwUnit, Entries, Node, kind_map}
 use Rattle.dwz_def_reading.specs.FirstOf.{OfFirst}
@@ -39,12 +38,12 @@ use Rattle.dwz_expand_values.specs.Paths.{IsPathsOf}
 use Rattle.dwz_expand_values.specs.declared.files.Known.{Known}
 use Rattle.dwz_expand_walk.proofs.GotLemmas.{each_there, sources_got}
 use Rattle.dwz_expand_walk.specs.Walk.{sources_of}
-use Rattle.dwz_expand_passes.specs.Passes.{IsPlanned, IsReady, Says, entry_many, forms_in}
-use Rattle.dwz_expand_passes.specs.Steps.{AreCopied, CopyThere, IsCopied, KnowsHere, RefusesIn, RefusesLines, a_unit}
+use Rattle.dwz_expand_passes.specs.Passes.{IsPlanned, Says, entry_many, forms_in}
+use Rattle.dwz_expand_passes.specs.Steps.{AreCopied, IsCopied, KnowsHere, RefusesIn, RefusesLines, a_unit}
 use Rattle.dwz_expand_passes.specs.Units.{IsNewOf, RefusesAt, RefusesUnit}
 use Rattle.dwz_model.specs.declared.fault.ReadErr.{ReadErr}
 use Rattle.dwz_model.specs.declared.fault.ReadErr.TheVariants.{NoMemory, Refused}
-use Rattle.dwz_def_expand.specs.Chosen.{Choice, choice}
+use Rattle.dwz_def_expand.specs.Chosen.{choice}
 use Rattle.dwz_expand_passes.specs.declared.file.NewFile.{NewFile}
 use Rattle.dwz_expand_passes.proofs.KindLemmas.{raw_unit}
 use Rattle.dwz_law_sources.proofs.LineLemmas.{all_nodes, listed_node, node_of}
@@ -135,7 +134,7 @@ copies_of k w stands [] (l ∷ ls) h = absurd h
 copies_of k w stands (d ∷ deep) [] h = absurd h
 copies_of k w stands (d ∷ deep) (l ∷ ls) h = (h.0.copy, copies_of k w stands deep ls h.1)
 
-no_first : {X Y : Type 0} (Has : Y → X → Type 0) (ys zs : List Y) → ((x : X) → ¬ OfFirst Has ys x) → ((x : X) → ¬ OfFirst Has zs x) → (x : X) → ¬ OfFirst Has (ys ++ zs) x
+pub no_first : {X Y : Type 0} (Has : Y → X → Type 0) (ys zs : List Y) → ((x : X) → ¬ OfFirst Has ys x) → ((x : X) → ¬ OfFirst Has zs x) → (x : X) → ¬ OfFirst Has (ys ++ zs) x
 no_first Has [] zs a b x h = b x h
 no_first Has (y ∷ ys) zs a b x (inl has) = a x (inl has)
 no_first Has (y ∷ ys) zs a b x (inr later) = no_first Has ys zs (λ z first. a z (inr (later.0, first))) b x later.1

@@ -1,5 +1,5 @@
 -- What is known of a file whose new units are laid and written, and what these are.
-use Rattle.std.specs.Prelude.{◌≡◌, ℕ, ◌+◌, ◌<◌, ◌^◌, List, [], length, Result, Ok, Err}
+use Rattle.std.specs.Prelude.{◌≡◌, ℕ, ◌+◌, ◌<◌, ◌^◌, List, length, Result, Ok, Err}
 use Rattle.dwz_def_cross.specs.Tops.{WithCommon, units_with_common, whole_units}
 use Rattle.dwz_def_expand.specs.Chosen.{Choice, choice}
 use Rattle.dwz_def_expand.specs.Refusals.{SiteFault, Where, sites}
@@ -11,6 +11,8 @@ use Rattle.dwz_imports.specs.Imports.{same}
 use Rattle.dwz_graph.specs.Resolved.{sources_view}
 use Rattle.dwz_model.specs.Lists.{Each, NoneTwice}
 use Rattle.dwz_model.specs.declared.fault.Fault.{Fault}
+use Rattle.dwz_model.specs.declared.fault.ReadErr.{ReadErr}
+use Rattle.dwz_model.specs.declared.fault.ReadErr.TheVariants.{NoMemory, Refused}
 use Rattle.dwz_expand_layout.specs.Entries.{UnitLines}
 use Rattle.dwz_expand_sources.specs.Numbers.{copy_count}
 use Rattle.dwz_expand_sources.specs.Sources.{AreSources, all_entries}
@@ -59,3 +61,9 @@ pub record AreNew (x : NewFile) (order : List UnitLines) : Type 0 where
   pub copies : (w : WithCommon ℕ) (stands : Where ℕ) → Says x w stands
       → HaveCopies w x.sources.now (forms_in x w) 0 x.sources.now.units (whole_units w.own) order
   pub free : (w : WithCommon ℕ) (stands : Where ℕ) → Says x w stands → (f : Fault) → ¬ RefusesFile x w stands f
+
+-- it is refused with the fault of that value
+abbrev pub IsRefused : {Y : Type 0} → NewFile → Result Y ReadErr → Type 0
+IsRefused x (Ok y) = Unit {0}
+IsRefused x (Err NoMemory) = Unit {0}
+IsRefused x (Err (Refused f)) = (w : WithCommon ℕ) (stands : Where ℕ) → Says x w stands → RefusesFile x w stands f

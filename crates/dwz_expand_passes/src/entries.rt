@@ -24,8 +24,8 @@ pub(crate) fn pass_entries<'a, P: Pass>(
 ) -> Result<(), ReadErr>
     requires ready { IsKnownReady known.now }
     requires there { Each (λ i. i < entry_count known.now) walk.old }
-    ensures passed { (made : Made) (units : List UnitLines) (kind : Kind) → P.within made pass.old units kind []
-        → OnOk result ((deep : List DeepLine) × P.within made pass.new units kind (with_ends deep) × AreCopied known.now walk.old deep) }
+    ensures passed { OnOk result ((deep : List DeepLine) × AreCopied known.now walk.old deep
+        × ((made : Made) (units : List UnitLines) (kind : Kind) → P.within made pass.old units kind [] → P.within made pass.new units kind (with_ends deep))) }
     ensures refused { RefusesIn known.now walk.old result }
 {
     let mut next = next_source(known, walk);

@@ -9,6 +9,8 @@ mod file;
 mod heads;
 mod kinds;
 mod pass;
+mod passes;
 mod units;
 
 pub use file::NewFile;
+pub use passes::{lay, write};

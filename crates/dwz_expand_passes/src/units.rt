@@ -1,6 +1,6 @@
 //! The new units, one after the other.
 
-ghost use Rattle.std.specs.Prelude.{◌≡◌, ◌++◌, ◌∷◌, ◌<◌, ℕ, [], List, OnOk, Some, length, slice_get};
+ghost use Rattle.std.specs.Prelude.{◌≡◌, ◌++◌, ◌∷◌, ◌<◌, ℕ, [], List, IfOk, OnOk, Some, length, slice_get};
 ghost use Rattle.dwz_def_cross.specs.Tops.{WithCommon, whole_units};
 ghost use Rattle.dwz_def_expand.specs.Refusals.{Where};
 ghost use Rattle.dwz_def_reading.specs.Documents.{DwUnit, kind_map};
@@ -8,11 +8,11 @@ ghost use Rattle.dwz_expand_copies.specs.Rows.{AreCopies};
 ghost use Rattle.dwz_expand_layout.specs.Entries.{UnitLines};
 ghost use Rattle.dwz_expand_layout.specs.Laid.{Made};
 ghost use Rattle.dwz_expand_layout.specs.Shown.{KindShows};
-ghost use Rattle.dwz_expand_passes.specs.Passes.{IsReady, Says, entry_many};
+ghost use Rattle.dwz_expand_passes.specs.Passes.{AreNew, IsReady, IsRefused, Says, entry_many};
 ghost use Rattle.dwz_expand_passes.specs.Steps.{KnowsHere};
 ghost use Rattle.dwz_expand_passes.specs.Units.{IsNewOf, RefusesAt};
-ghost use Rattle.dwz_expand_sources.specs.Numbers.{HasRanges};
-ghost use Rattle.dwz_expand_values.specs.Files.{IsKnownReady, entry_count};
+ghost use Rattle.dwz_expand_sources.specs.Numbers.{HasRanges, root_numbers};
+ghost use Rattle.dwz_expand_values.specs.Files.{IsKnownReady, common_count, entry_count};
 ghost use Rattle.dwz_law_sources.specs.Copied.{named_copy};
 ghost use Rattle.dwz_law_sources.specs.Numbered.{key_in};
 ghost use Rattle.dwz_model.specs.Lists.{Each};
@@ -24,10 +24,10 @@ use crate::kinds::kind_of;
 use crate::pass::Pass;
 use dwz_expand_copies::Copies;
 use dwz_expand_layout::NewKind;
-use dwz_expand_sources::NewUnit;
-use dwz_expand_values::{Known, TablePaths};
+use dwz_expand_sources::{CopyNumbers, NewUnit};
+use dwz_expand_values::{Known, SourceFile, TablePaths};
 use dwz_expand_walk::SourceWalk;
-use dwz_model::ReadErr;
+use dwz_model::{NoMemory, ReadErr};
 
 // Takes a new unit, of a kind, where that is known of both files.
 fn pass_known<'a, P: Pass>(
@@ -49,8 +49,8 @@ fn pass_known<'a, P: Pass>(
     requires kinds { (w : WithCommon ℕ) (stands : Where ℕ) (u : DwUnit ℕ) → Says file.now w stands → slice_get w.own new.unit ≡ Some u
         → slice_get (whole_units w.own) known.now.unit ≡ Some u
         → KindShows (key_in w) kind (kind_map (named_copy w known.now.unit) u.kind) }
-    ensures passed { (made : Made) (units : List UnitLines) → P.done made pass.old units
-        → OnOk result ((o : UnitLines) × P.done made pass.new (units ++ o ∷ []) × IsNewOf file.now known.now.unit o) }
+    ensures passed { OnOk result ((o : UnitLines) × IsNewOf file.now known.now.unit o
+        × ((made : Made) (units : List UnitLines) → P.done made pass.old units → P.done made pass.new (units ++ o ∷ []))) }
     ensures refused { RefusesAt file.now known.now.unit result }
 {
     let mut walk = SourceWalk::new(file.sources, known.unit);
@@ -73,8 +73,8 @@ fn pass_here<'a, P: Pass>(
     requires many { length copies.now.first ≡ entry_many file.now }
     requires copies { (roots : List ℕ) × AreCopies file.now.sources.now roots copies.now }
     requires here { copies.now.unit ≡ n }
-    ensures passed { (made : Made) (units : List UnitLines) → P.done made pass.old units
-        → OnOk result ((o : UnitLines) × P.done made pass.new (units ++ o ∷ []) × IsNewOf file.now n o) }
+    ensures passed { OnOk result ((o : UnitLines) × IsNewOf file.now n o
+        × ((made : Made) (units : List UnitLines) → P.done made pass.old units → P.done made pass.new (units ++ o ∷ []))) }
     ensures refused { RefusesAt file.now n result }
 {
     let new = file.sources.units()[n];
@@ -90,4 +90,59 @@ fn pass_here<'a, P: Pass>(
     };
     let kind = kind_of(file, copies, new.unit);
     pass_known(pass, file, &known, new, kind, copied)
+}
+
+// How many entries the common file has.
+fn common_entries(common: &Option<SourceFile>) -> usize
+    ensures { result ≡ common_count common.now }
+{
+    match common {
+        Some(common) => common.units.entries() as usize,
+        None => 0,
+    }
+}
+
+// The copies of all entries; no unit is at hand.
+fn copies_of(file: &NewFile, numbers: &CopyNumbers) -> Result<Copies, NoMemory>
+    requires ready { IsReady file.now }
+    requires numbers { numbers.now.roots ≡ root_numbers file.now.sources.now.ranges 0 file.now.sources.now.units }
+    ensures copies { IfOk result (λ c. AreCopies file.now.sources.now numbers.now.roots c) }
+    ensures many { IfOk result (λ c. length c.first ≡ entry_many file.now) }
+{
+    let entries = file.own.units.entries() as usize + common_entries(&file.common);
+    Copies::of(file.alloc, file.sources, numbers, entries)
+}
+
+// Takes all new units in order, by the copies of their sources.
+fn pass_all<P: Pass>(
+    pass: &mut P,
+    file: &NewFile,
+    numbers: &CopyNumbers,
+    copies: &mut Copies,
+) -> Result<(), ReadErr>
+    requires ready { IsReady file.now }
+    requires many { length copies.old.first ≡ entry_many file.now }
+    requires copies { AreCopies file.now.sources.now numbers.now.roots copies.old }
+    ensures passed { OnOk result ((order : List UnitLines) × AreNew file.now order
+        × ((made : Made) → P.done made pass.old [] → P.done made pass.new order)) }
+    ensures refused { IsRefused file.now result }
+{
+    let mut copied = CopiedEntry::new(file.alloc);
+    for n in 0..file.sources.units().len() {
+        copies.enter(file.sources, numbers, n);
+        pass_here(pass, file, copies, n, &mut copied)?;
+    }
+    Ok(())
+}
+
+/// Takes all new units in order.
+pub(crate) fn pass_units<P: Pass>(pass: &mut P, file: &NewFile) -> Result<(), ReadErr>
+    requires { IsReady file.now }
+    ensures passed { OnOk result ((order : List UnitLines) × AreNew file.now order
+        × ((made : Made) → P.done made pass.old [] → P.done made pass.new order)) }
+    ensures refused { IsRefused file.now result }
+{
+    let numbers = CopyNumbers::of(file.alloc, file.sources)?;
+    let mut copies = copies_of(file, &numbers)?;
+    pass_all(pass, file, &numbers, &mut copies)
 }

@@ -68,12 +68,11 @@ loop-next-preserved g c =
     }
 
 pub returns-clause-passed : goal.returns-clause-passed
-returns-clause-passed g c = λ made units kind start. (
+returns-clause-passed g c =
     let i = c.loop-next.invariant in
     let depth : depth_at c.loop-next.next ≡ 1 = ap depth_at c.in_default.is in
-    let lines : lines_before (depth_at c.loop-next.next) i.deep ≡ with_ends i.deep = ap (λ (k : ℕ). lines_before k i.deep) depth ∙ lines_are i.deep in
-    (
+    let lines : lines_before (depth_at c.loop-next.next) i.deep ≡ with_ends i.deep = ap (λ (k : ℕ). lines_before k i.deep) depth ∙ lines_are i.deep in (
       i.deep,
-      subst (λ (ls : List NewLine). g.P.Pass.within made c.loop-next.pass units kind ls) lines (i.state made units kind start),
       at_none c.args.known.now c.args.walk.now c.loop-next.next c.loop-next.walk i.deep c.in_default.is i.passed,
-    ))
+      λ made units kind start. subst (λ (ls : List NewLine). g.P.Pass.within made c.loop-next.pass units kind ls) lines (i.state made units kind start),
+    )

@@ -1,4 +1,4 @@
-use Rattle.std.proofs.Common.{ℕ, List, [], length}
+use Rattle.std.proofs.Common.{List, [], length}
 use Rattle.std.specs.Prelude.{MatchOption}
 use Rattle.dwz_expand_layout.specs.Depths.{DeepLine}
 use Rattle.dwz_expand_layout.specs.Entries.{UnitLines}

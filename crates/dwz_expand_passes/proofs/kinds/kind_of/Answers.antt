@@ -1,4 +1,4 @@
-use Rattle.std.proofs.Common.{◌≡◌, ℕ, refl}
+use Rattle.std.proofs.Common.{refl}
 use Rattle.dwz_expand_passes.proofs.KindLemmas.{compile_shows, raw_unit, type_shows}
 use Rattle.dwz_expand_passes.proofs.kinds.kind_of.Goals as goal
 use Rattle.dwz_expand_values.specs.Files.{common_of, around_beside, raw_in}

@@ -1,8 +1,6 @@
-use Rattle.std.proofs.Common.{◌≡◌, ℕ, Option, None, Some, refl, sym, ap, subst, ◌∙◌}
+use Rattle.std.proofs.Common.{ℕ, None, Some, refl, sym, subst, ◌∙◌}
 use Rattle.dwz_expand_copies.specs.Copies.{IsCopyFor}
-use Rattle.dwz_expand_copies.specs.declared.copies.CopyAt.{CopyAt}
 use Rattle.dwz_expand_values.specs.Files.{around_beside, common_of, raw_in}
-use Rattle.dwz_expand_passes.specs.Kinds.{IsMain}
 use Rattle.dwz_expand_passes.proofs.KindLemmas.{copy_named, main_stands, main_there, raw_unit}
 use Rattle.dwz_expand_passes.proofs.SaidLemmas.{all_many}
 use Rattle.dwz_expand_passes.proofs.kinds.main_copy.Goals as goal

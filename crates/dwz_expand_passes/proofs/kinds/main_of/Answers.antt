@@ -2,7 +2,7 @@ use Rattle.std.specs.Prelude.{slice_index_or}
 use Rattle.dwz_def_reading.specs.Units.{RawUnit}
 use Rattle.dwz_def_reading.specs.declared.exprs.Operand.{Operand}
 use Rattle.dwz_model.specs.declared.place.Base.TheVariants as Base
-use Rattle.std.proofs.Common.{false, ◌≡◌, ℕ, ◌+◌, None, refl, ap, subst, sym}
+use Rattle.std.proofs.Common.{false, ◌+◌, None, refl, ap, subst, sym}
 use Rattle.dwz_graph.proofs.UnitBuilding.{kind_is}
 use Rattle.dwz_graph.specs.Here.{Here}
 use Rattle.dwz_unit.specs.declared.rows.RawUnit.{RawUnit as UnitOfCode}

@@ -1,4 +1,4 @@
-use Rattle.std.proofs.Common.{◌≡◌, ℕ, ◌+◌, ◌<◌, ◌^◌, List, [], None, Some, length, slice_get, refl, sym, ap, subst, ◌∙◌, arith}
+use Rattle.std.proofs.Common.{ℕ, ◌+◌, ◌<◌, ◌^◌, List, refl, sym, subst, arith}
 use Rattle.std.proofs.lemmas.Result.{err_from_is_err_and}
 use Rattle.dwz_model.specs.Lists.{Each}
 use Rattle.dwz_expand_layout.specs.Depths.{with_ends}
@@ -29,15 +29,12 @@ returns-in_err-pass_entries-clause-refused g c =
     rw (e.1, e.2) (refused_at x k.unit k c.new-walk.result c.args.new c.requires.new walk c.requires.own refl c.requires.knows c.in_err-pass_entries.field-0.0 c.in_err-pass_entries.ensures.refused)
 
 pub returns-clause-passed : goal.returns-clause-passed
-returns-clause-passed g c = λ made units start. (
+returns-clause-passed g c =
     let x = c.args.file.now in
     let k = c.args.known.now in
     let walk = c.new-walk.ensures c.args.new c.requires.new in
-    let s = c.in_ok-start.ensures made units start in
-    let p = c.in_ok-pass_entries.ensures.passed made units c.args.kind s in
-    let e = c.in_ok-close.ensures made units c.args.kind (with_ends p.0) p.1 in
-    (
+    let p = c.in_ok-pass_entries.ensures.passed in (
       a_unit c.args.kind (with_ends p.0),
-      e,
-      new_of x k.unit k c.new-walk.result c.args.new c.requires.new walk c.requires.own refl c.requires.knows c.args.kind p.0 c.requires.kinds p.2,
-    ))
+      new_of x k.unit k c.new-walk.result c.args.new c.requires.new walk c.requires.own refl c.requires.knows c.args.kind p.0 c.requires.kinds p.1,
+      λ made units start. c.in_ok-close.ensures made units c.args.kind (with_ends p.0) (p.2 made units c.args.kind (c.in_ok-start.ensures made units start)),
+    )

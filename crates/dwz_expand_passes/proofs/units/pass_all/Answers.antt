@@ -1,0 +1,35 @@
+use Rattle.std.proofs.Common.{[], ◌∷◌, ◌++◌, length, ap, ◌∙◌, arith}
+use Rattle.std.proofs.lemmas.Result.{err_from_is_err_and}
+use Rattle.dwz_expand_passes.proofs.OrderLemmas.{all_done, none_done, one_done, refused_all}
+use Rattle.dwz_expand_passes.proofs.units.pass_all.Goals as goal
+
+pub loop-n-init : goal.loop-n-init
+loop-n-init g c = record { copies = c.requires.copies; many = c.requires.many; order = []; done = none_done c.args.file.now; state = λ made start. start }
+
+pub returns-in_err-pass_here-clause-refused : goal.returns-in_err-pass_here-clause-refused
+returns-in_err-pass_here-clause-refused g c =
+    let e = err_from_is_err_and c.from_residual.result c.from_residual.ensures.1 in
+    let i = c.loop-n.invariant in
+    let h = c.loop-n-test.true in
+    let many = ap length c.units-n-end.ensures in
+    rw (e.1, e.2) (refused_all c.args.file.now c.loop-n.n i.order c.in_err-pass_here.field-0.0 (omega (arith, h, many)) i.done c.in_err-pass_here.ensures.refused)
+
+pub loop-n-preserved : goal.loop-n-preserved
+loop-n-preserved g c =
+    let i = c.loop-n.invariant in
+    let p = c.in_ok-pass_here.ensures.passed in
+    record {
+      copies = c.enter.ensures.copies;
+      many = c.enter.ensures.entries ∙ i.many;
+      order = i.order ++ p.0 ∷ [];
+      done = one_done c.args.file.now c.loop-n.n i.order p.0 i.done p.1;
+      state = λ made start. p.2 made i.order (i.state made start);
+    }
+
+pub returns-clause-passed : goal.returns-clause-passed
+returns-clause-passed g c =
+    let i = c.loop-n.invariant in
+    let h = c.loop-n-test.false in
+    let many = ap length c.units-n-end.ensures in
+    let end = c.loop-n.auto.n-end in
+    (i.order, all_done c.args.file.now c.loop-n.n i.order (omega (arith, h, many, end)) i.done, λ made start. i.state made start)

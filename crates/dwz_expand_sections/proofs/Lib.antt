@@ -4,3 +4,4 @@ pub mod NarrowLemmas
 pub mod MemberLemmas
 pub mod ListLemmas
 pub mod ListedLemmas
+pub mod StartLemmas

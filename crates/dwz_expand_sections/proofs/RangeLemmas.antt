@@ -5,7 +5,7 @@ use Rattle.std.proofs.lemmas.Bool.{eq-eqb, ne_eqb}
 use Rattle.std.proofs.lemmas.List.{ext_get_or, get_or-map, length-map}
 use Rattle.std.proofs.lemmas.List.Kept.{AllPairs-from_increasing}
 use Rattle.dwz_def_cross.specs.Tops.{unless_partial, whole_units}
-use Rattle.dwz_def_expand.specs.OneFile.{FileRead, OneFile, around}
+use Rattle.dwz_def_expand.specs.OneFile.{FileRead, OneFile, ReadsOne, around}
 use Rattle.dwz_def_expand.specs.Output.{new_ranges, new_start, number_of_unit, sets, unit_number, wholes}
 use Rattle.dwz_def_output.specs.Contents.{sets_in}
 use Rattle.dwz_def_reading.specs.Documents.{DwUnit, Kind}
@@ -26,7 +26,7 @@ use Rattle.dwz_expand_sections.specs.Ranges.{HasStarts}
 
 -- ---- numbers of units
 
-abbrev places_of : List (DwUnit Place) → List ℕ
+abbrev pub places_of : List (DwUnit Place) → List ℕ
 places_of units = map (λ (u : DwUnit Place). u.at.at) units
 
 -- where none before it begins there, a unit has its own number
@@ -64,6 +64,9 @@ own_place : (file : FileRead) (common : Option FileRead) (n : ℕ) → ((around 
 own_place file None n = refl
 own_place file (Some c) n = refl
 
+pub places_in_file : (f : OneFile) → ReadsOne f → unit_places f.file.raw ≡ places_of (wholes f)
+places_in_file f read = places_are (around f 0) (own_place f.file f.common) f.file.raw f.file.doc.units read.file.means
+
 -- ---- the places after
 
 module _ (f : OneFile) (section units : List ℕ) (laid : List LaidUnit) (has : HasStarts f section units laid) (rises : IsStrictlyIncreasing units) (many : length laid ≡ length units) where
@@ -74,7 +77,7 @@ module _ (f : OneFile) (section units : List ℕ) (laid : List LaidUnit) (has : 
   starts = map (λ (u : LaidUnit). u.at) laid
 
   began : units ≡ places_of (wholes f)
-  began = has.began ∙ places_are (around f 0) (own_place f.file f.common) f.file.raw f.file.doc.units has.read.file.means
+  began = has.began ∙ places_in_file f has.read
 
   count : length units ≡ length (wholes f)
   count = ap length began ∙ length-map (wholes f) (λ (u : DwUnit Place). u.at.at)

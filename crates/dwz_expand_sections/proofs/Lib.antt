@@ -5,3 +5,5 @@ pub mod MemberLemmas
 pub mod ListLemmas
 pub mod ListedLemmas
 pub mod StartLemmas
+pub mod StoredLemmas
+pub mod NamingLemmas

@@ -1,8 +1,15 @@
 //! What holds of files whose other sections are written.
 
+ghost use Rattle.dwz_expand_sections.specs.ListLaws.{ListsLaw};
 ghost use Rattle.dwz_expand_sections.specs.StartLaws.{StartsLaw};
 
 /// Where a file reads, so does its `.debug_aranges`, and its units that aren't partial ascend: what `ranges_after` asks for.
 pub fn start_laws()
     ensures { StartsLaw }
+{}
+
+/// Where a file reads, the operands of its location lists end within `.debug_loclists` and stand apart; and each operand of a list that a
+/// value of the new file names is one of them, and leads to the entry that it named.
+pub fn list_laws()
+    ensures { ListsLaw }
 {}

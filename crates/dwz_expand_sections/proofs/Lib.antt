@@ -7,3 +7,4 @@ pub mod ListedLemmas
 pub mod StartLemmas
 pub mod StoredLemmas
 pub mod NamingLemmas
+pub mod GivenLemmas

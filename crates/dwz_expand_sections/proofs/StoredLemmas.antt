@@ -1,6 +1,7 @@
 -- What is found of an attribute by a place is an attribute of an entry that is stored in one of the units.
 use Rattle.std.proofs.Common.{◌≡◌, ℕ, Bool, true, false, List, [], ◌∷◌, Option, Some, None, slice_get, refl, sym, ap, subst, ◌∙◌, inl, inr}
 use Rattle.std.proofs.lemmas.Bool.{eqb-true}
+use Rattle.std.proofs.lemmas.Option.{same_Some}
 use Rattle.dwz_model.specs.Lists.{In}
 use Rattle.dwz_model.proofs.ListFacts.{got_in, in_cases}
 use Rattle.dwz_model.proofs.Members.{in_map_from}
@@ -19,9 +20,6 @@ use Rattle.std.specs.Prelude.{if◌then◌else◌, ◌==◌}
 
 -- ---- an entry
 
-one_some : {X : Type 0} (x y : X) → Some x ≡ Some y → x ≡ y
-one_some x y e = cc
-
 among_from : (at : ℕ) (f : Forest RawEntry) (e : RawEntry) → stored_among at f ≡ Some e → IsStoredAmong e f
 unfolding stored_among
 among_from at End e is = absurd (let z : None ≡ Some e = is in cc)
@@ -29,14 +27,14 @@ among_from at (Entry d children next) e is =
     by (d.at == at) (stored_among at children) refl (λ h. among_from at children e h) (λ h. among_from at next e h) is where
       by : (b : Bool) (c : Option RawEntry) → stored_among at children ≡ c → (stored_among at children ≡ Some e → IsStoredAmong e children)
           → (stored_among at next ≡ Some e → IsStoredAmong e next) → (entry_if b d or (c or stored_among at next)) ≡ Some e → IsStoredAmong e (Entry d children next)
-      by true c was below beside found = inl (one_some d e found)
+      by true c was below beside found = inl (same_Some d e found)
       by false (Some x) was below beside found = inr (inl (below (was ∙ found)))
       by false None was below beside found = inr (inr (beside found))
 
 in_from : (at : ℕ) (u : RawUnit) (e : RawEntry) → stored_in at u ≡ Some e → IsStoredIn e u
 in_from at u e is = by (u.root.at == at) is where
   by : (b : Bool) → (entry_if b u.root or stored_among at u.below) ≡ Some e → IsStoredIn e u
-  by true found = inl (one_some u.root e found)
+  by true found = inl (same_Some u.root e found)
   by false found = inr (among_from at u.below e found)
 
 -- ---- an attribute
@@ -62,7 +60,7 @@ attr_from s index (Some e) v is = by (slice_get (without_siblings e.attrs) index
   by None got found = absurd (let z : None ≡ Some v = found in cc)
   by (Some a) got found =
       let made : StoredAttr = record { scope = s; attr = a } in
-      let same : made ≡ v = one_some made v found in
+      let same : made ≡ v = same_Some made v found in
       record {
         entry = e;
         is = refl;

@@ -6,7 +6,7 @@
 //! `first_listed` among those of the location lists; `narrow_fault` is the fault. `first_large` tells from the lengths of the units and of
 //! their tables, before any byte is written, whether a section is too large.
 //!
-//! Laws: `start_laws`, `list_laws`.
+//! Laws: `start_laws`, `list_laws`, `number_laws`.
 //!
 //! Read first: `specs/Narrow.antt`, `specs/Lists.antt`, `specs/Ranges.antt`, `specs/Large.antt`; and `Output.antt` of `dwz_def_expand`.
 #![tactic(auto)]
@@ -19,7 +19,7 @@ mod narrow;
 mod ranges;
 
 pub use large::first_large;
-pub use laws::{list_laws, start_laws};
+pub use laws::{list_laws, number_laws, start_laws};
 pub use listed::first_listed;
 pub use lists::lists_after;
 pub use narrow::{first_narrow, narrow_fault, note_operand};

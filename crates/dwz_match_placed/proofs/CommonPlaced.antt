@@ -24,7 +24,7 @@ use Rattle.dwz_match_placed.specs.Placed.{SaysCommon}
 
 -- ---- units of another kind
 
-compile_keys : (units : List (DwUnit ℕ)) → units_keys (map as_compile units) ≡ units_keys units
+pub compile_keys : (units : List (DwUnit ℕ)) → units_keys (map as_compile units) ≡ units_keys units
 unfolding units_keys unit_keys
 compile_keys [] = refl
 compile_keys (u ∷ units) = ap (λ (w : List ℕ). unit_keys u ++ w) (compile_keys units)
@@ -39,7 +39,7 @@ unfolding seen_below
 compile_below [] = refl
 compile_below (u ∷ units) = ap (λ (w : List (Seen ℕ)). seen u.below ++ w) (compile_below units)
 
-compile_seen : (units : List (DwUnit ℕ)) → all_seen (map as_compile units) ≡ all_seen units
+pub compile_seen : (units : List (DwUnit ℕ)) → all_seen (map as_compile units) ≡ all_seen units
 compile_seen units = λ i. compile_roots units i ++ compile_below units i
 
 -- ---- the tags of roots

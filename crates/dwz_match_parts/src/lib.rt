@@ -1,0 +1,13 @@
+//! Which partial units of a finished common file refer into which others.
+//!
+//! `put_units` adds an edge from each unit of a file to each one that a reference of it goes into. Operands of expressions are no
+//! references.
+//!
+//! Read first: `specs/Puts.antt`.
+#![tactic(auto)]
+
+mod entry;
+mod units;
+mod values;
+
+pub use units::put_units;

@@ -1,3 +1,6 @@
 mod PutSteps
 mod ValueUnits
 mod UnitPuts
+mod UnitPlaces
+mod SpotUnits
+mod PartRefs

@@ -1,0 +1,6 @@
+pub mod ChoiceMapped
+pub mod SameScope
+pub mod FileKept
+pub mod ValuesStand
+pub mod FileKeys
+pub mod OneGraph

@@ -1,0 +1,95 @@
+-- What is kept of the one file of a graph and of its common file, and the file with places that they are.
+use Rattle.std.specs.Prelude.{◌≡◌, ℕ, ◌+◌, ◌<◌, ◌^◌, List, [], ◌∷◌, get_or, length, Option, Some, None}
+use Rattle.std.specs.Option.{option_map}
+use Rattle.dwz_model.specs.Lists.{Each, NoneTwice}
+use Rattle.dwz_def_reading.specs.Places.{Place}
+use Rattle.dwz_def_tops.specs.Shown.{units_keys}
+use Rattle.dwz_def_cross.specs.Tops.{WithCommon, units_with_common}
+use Rattle.dwz_def_expand.specs.Chosen.{choice}
+use Rattle.dwz_def_expand.specs.OneFile.{OneFile, ReadsOne, stored_where}
+use Rattle.dwz_def_expand.specs.Refusals.{Where}
+use Rattle.dwz_def_expand.specs.Source.{Copy}
+use Rattle.dwz_encode.specs.Shown.{Keys}
+use Rattle.dwz_unit.specs.Rows.{units_of}
+use Rattle.dwz_graph.specs.declared.file.File.{File}
+use Rattle.dwz_graph.specs.Files.{AreBack, FilesRead, HasCommon}
+use Rattle.dwz_graph.specs.Here.{Here}
+use Rattle.dwz_graph.specs.Surroundings.{sources_view}
+use Rattle.dwz_check_labels.specs.Files.{AreHeres}
+use Rattle.dwz_imports.specs.Imports.{same}
+use Rattle.dwz_expand_values.specs.declared.files.SourceFile.{SourceFile}
+use Rattle.dwz_expand_values.specs.Faults.{KnowsBoth, count_in}
+use Rattle.dwz_expand_values.specs.Files.{IsCommonReady, IsFileReady}
+use Rattle.dwz_expand_values.specs.Known.{KnowsKeys}
+use Rattle.dwz_law_faults.specs.Refused.{InFiles, StandForPlaces}
+use Rattle.dwz_expand_known.specs.declared.files.SourceFiles.{SourceFiles}
+
+-- ---- what is kept
+
+-- the texts of the common file; none, where there is no such file
+abbrev pub strs_beside : Option File → List ℕ
+strs_beside None = []
+strs_beside (Some c) = c.sections.strs.bytes.now
+
+-- what the values of the units of the common file stand in, if there is one
+abbrev pub AreHeresBeside : Option File → List Here → Type 0
+AreHeresBeside None heres = Unit {0}
+AreHeresBeside (Some c) heres = AreHeres (units_of c.units) heres
+
+-- it is that file, beside a common one with those texts
+pub record IsSourceOf (f : File) (strs : List ℕ) (s : SourceFile) : Type 0 where
+  pub units : s.units.now ≡ f.units
+  pub sections : s.sections.now ≡ f.sections
+  pub texts_are : s.common_strs.now ≡ strs
+  pub heres : AreHeres (units_of f.units) s.heres.now
+  pub refs : s.refs.now ≡ f.resolved.refs.items
+  pub starts : s.starts.now ≡ f.resolved.starts.items
+  pub tables : s.tables.now ≡ f.resolved.tables.items
+  pub lines : s.lines.now ≡ f.resolved.lines.items
+
+abbrev pub IsCommonOf : Option File → Option SourceFile → Type 0
+IsCommonOf None None = Unit {0}
+IsCommonOf (Some c) (Some s) = IsSourceOf c [] s
+IsCommonOf _ _ = ⊥
+
+pub record AreSourceFiles (own : File) (common : Option File) (s : SourceFiles) : Type 0 where
+  pub own_is : IsSourceOf own (strs_beside common) s.own
+  pub common_is : IsCommonOf common s.common
+
+-- what is kept of both can be looked up
+pub record CanBeLookedUp (s : SourceFiles) : Type 0 where
+  pub own : IsFileReady s.own
+  pub refs : Each (λ j. j < count_in s.own s.common) s.own.refs.now
+  pub common : IsCommonReady s.common
+  pub few : count_in s.own s.common < 2 ^ 32
+
+-- ---- the file with places
+
+-- values stand where they do in the file with places
+abbrev pub stands_of : OneFile → (ℕ → Place) → Where ℕ
+stands_of f place = record {
+  value = λ p index. (stored_where f).value (place p) index;
+  named = λ p index number. (stored_where f).named (place p) index number;
+}
+
+-- Files that a graph has read are that file with places. Both say the units of `w`, where numbers stand for places, no two for one.
+pub record IsOneKnown (r : FilesRead) (s : SourceFiles) : Type 0 where
+  pub f : OneFile
+  pub reads : ReadsOne f
+  pub content : r.back ≡ f.file.bytes ∷ []
+  pub common : r.common ≡ option_map (λ c. c.bytes) f.common
+  pub w : WithCommon ℕ
+  pub place : ℕ → Place
+  pub stand : StandForPlaces f place same (choice same w (sources_view s.own.sections.now)) (stands_of f place) w
+  pub apart : (p q : ℕ) → place p ≡ place q → p ≡ q
+  pub once : NoneTwice (units_keys (units_with_common w))
+  pub files : InFiles place w
+  pub ready : CanBeLookedUp s
+  pub knows : (keys : Keys (Copy ℕ)) → KnowsKeys w keys → KnowsBoth s.own s.common w keys (stands_of f place)
+
+-- so it is of the one file of a graph that was read back, and of its common file
+abbrev pub OneKnownLaw : Type 0
+OneKnownLaw =
+    (r : FilesRead) (files : List File) (own : File) (common : Option File) (s : SourceFiles) → length r.back ≡ 1
+    → HasCommon (length r.given + length r.back) r.common common → AreBack r.common r.back files → own ≡ get_or files 0 own
+    → AreSourceFiles own common s → IsOneKnown r s

@@ -1,0 +1,13 @@
+//! One file that was read back, beside its common file or without one, as it is written without its partial units (DWARF 5, 3.2.5).
+//!
+//! `SourceFiles` is what is kept of both, whose entries are copied. `known_laws` says that a graph of one file is the file that the
+//! definition speaks of, with places: there numbers stand for these.
+//!
+//! Read first: `specs/OneKnown.antt`.
+#![tactic(auto)]
+
+mod files;
+mod laws;
+
+pub use files::{SourceFiles, UnitHeres};
+pub use laws::known_laws;

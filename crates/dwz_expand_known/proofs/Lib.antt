@@ -4,3 +4,4 @@ pub mod FileKept
 pub mod ValuesStand
 pub mod FileKeys
 pub mod OneGraph
+pub mod PlanLemmas

@@ -1,5 +1,5 @@
 -- The one file of a graph, and its common file: with places, and where numbers stand for these.
-use Rattle.std.proofs.Common.{◌≡◌, ℕ, ◌+◌, ◌-◌, ◌^◌, ◌<◌, nat_lt, false, true, List, [], ◌∷◌, ◌++◌, get_or, length, map, Option, Some, None, Ok, refl, sym, ap, subst, ◌∙◌, arith, inl}
+use Rattle.std.proofs.Common.{◌≡◌, ℕ, ◌+◌, ◌-◌, ◌^◌, ◌<◌, ◌≤◌, nat_lt, false, true, List, [], ◌∷◌, ◌++◌, get_or, length, map, Option, Some, None, Ok, refl, sym, ap, subst, ◌∙◌, arith, inl}
 use Rattle.std.proofs.lemmas.Bool.{cond-true, lt-ltb}
 use Rattle.std.proofs.lemmas.List.{length-append, length-map}
 use Rattle.dwz_model.specs.Lists.{Each, NoneTwice}
@@ -38,7 +38,7 @@ use Rattle.dwz_imports.specs.Imports.{same}
 use Rattle.dwz_expand_copies.proofs.ForLemmas.{tests}
 use Rattle.dwz_expand_values.specs.declared.files.SourceFile.{SourceFile}
 use Rattle.dwz_expand_values.specs.Files.{around_beside, common_of, raw_in}
-use Rattle.dwz_expand_values.proofs.PlacesSaid.{said_many, units_joined, units_mapped}
+use Rattle.dwz_expand_values.proofs.PlacesSaid.{said_many, units_joined, units_mapped, units_mean}
 use Rattle.dwz_law_faults.specs.Refused.{StandForPlaces}
 use Rattle.dwz_law_places.specs.Renamed.{SameChoice, renamed}
 use Rattle.dwz_law_places.proofs.RenamedLemmas.{tests_agree}
@@ -46,6 +46,7 @@ use Rattle.dwz_expand_known.specs.OneKnown.{IsCommonOf, IsOneKnown, IsSourceOf, 
 use Rattle.dwz_expand_known.proofs.ChoiceMapped.{choice_mapped}
 use Rattle.dwz_expand_known.proofs.FileKept.{KeptSays, KeptStand, kept_in, kept_of, kept_says, source_knows, source_ready, source_says, source_stands}
 use Rattle.dwz_expand_known.proofs.FileKeys.{keys_in}
+use Rattle.dwz_expand_known.proofs.PlanLemmas.{has_units, mean_many, none_mean, none_place, some_place}
 use Rattle.dwz_expand_known.proofs.ValuesStand.{values_stand}
 
 reads : {P : Type 0} (rule : ReadingRule P) (l : Limits) (bytes : List ℕ) (raw : List RawUnit) (doc : Doc P) → file_meaning_by rule l bytes ≡ Ok (raw, doc) → ReadsBy rule l bytes raw doc
@@ -88,6 +89,10 @@ no_keys : (P : ℕ → Type 0) → Each P (units_keys {K = ℕ} [])
 unfolding units_keys
 no_keys P = tt
 
+none_few : entries_in [] ≤ 2 ^ 28
+unfolding entries_in
+none_few = omega arith
+
 none_many : length (listed_units {P = ℕ} []) ≡ 0
 unfolding listed_units
 none_many = refl
@@ -96,7 +101,7 @@ none_many = refl
 
 module _ (placed : ArePlaced) (given : List (List ℕ)) (first : List ℕ) (own : File) (k : FileKind) (is : IsReadBy (numbered_rule (rule_of_back None 0)) k no_files_before 0 first own) (so : SourceFile)
     (src : IsSourceOf own [] so) where
-  alone_known : IsOneKnown (record { common = None; given = given; back = first ∷ [] }) (record { own = so; common = None })
+  alone_known : IsOneKnown (record { common = None; given = given; back = first ∷ [] }) own None (record { own = so; common = None })
   alone_known =
       let rule = rule_of_back None 0 in
       let raw = units_of own.units in
@@ -118,6 +123,7 @@ module _ (placed : ArePlaced) (given : List (List ℕ)) (first : List ℕ) (own 
       let mine : KeptSays (kept_in so None) a.units = source_says own [] so src None a.units kept in
       let stand : KeptStand (kept_of own None) (λ n. n) (stands_of f (at_file 0)) = values_stand f f_reads 0 (kept_of own None) refl is.sections refl lie (at_file 0) (λ n. n) (λ n lt. refl) in
       let few = mine.few in
+      let units_many : length a.units ≡ length (raw_in so) = mean_many (around_beside so None) (raw_in so) a.units (units_mean (around_beside so None) (raw_in so) a.units mine.means) in
       let one = once f w (at_file 0) said (own_apart 0) (sources_view so.sections.now) sources well in
       record {
         f = f;
@@ -136,6 +142,24 @@ module _ (placed : ArePlaced) (given : List (List ℕ)) (first : List ℕ) (own 
           common = tt;
           few = omega (arith, few);
         };
+        planned = record {
+          own_few = kept.few;
+          common_few = none_few;
+          says = record {
+            around = around_given own None;
+            place = refl;
+            all = refl;
+            common_place = none_place;
+            means = kept.means;
+            beside = around_given own None;
+            beside_place = refl;
+            said = [];
+            common_means = none_mean (around_given own None);
+            common_are = refl;
+          };
+        };
+        many = units_many;
+        plans = has_units (record { own = so; common = None }) w units_many;
         knows = λ keys are. record {
           own_says = source_knows own [] so src None a.units refl mine;
           own_stands = source_stands own [] so src None (λ n. n) (stands_of f (at_file 0)) stand;
@@ -156,7 +180,7 @@ module _ (placed : ArePlaced) (given : List (List ℕ)) (bytes first : List ℕ)
     (is : IsReadBy (numbered_rule (rule_of_back (Some (common_read (first ∷ []) bytes (units_of shared_file.units))) 0)) k
     (limits_after no_files_before bytes (units_of shared_file.units)) 0 first own)
     (so t : SourceFile) (src : IsSourceOf own shared_file.sections.strs.bytes.now so) (beside : IsSourceOf shared_file [] t) where
-  beside_known : IsOneKnown (record { common = Some bytes; given = given; back = first ∷ [] }) (record { own = so; common = Some t })
+  beside_known : IsOneKnown (record { common = Some bytes; given = given; back = first ∷ [] }) own (Some shared_file) (record { own = so; common = Some t })
   beside_known =
       let shared = units_of shared_file.units in
       let raw = units_of own.units in
@@ -198,8 +222,9 @@ module _ (placed : ArePlaced) (given : List (List ℕ)) (bytes first : List ℕ)
       λ i. record { sources = sym of_common.sections i; all = all_places shared; place = λ m. m; common = None } in
       let kept : KeptSays (kept_of own gives) a.units = kept_says (numbered_rule rule) k l 0 first own is gives here in
       let mine : KeptSays (kept_in so gives) a.units = source_says own shared_file.sections.strs.bytes.now so src gives a.units kept in
-      let other : KeptSays (kept_in t None) c.units =
-      source_says shared_file [] t beside None c.units (kept_says (numbered_rule (rule_of_common 1)) common_kind no_files_before n bytes shared_file of_common None there) in
+      let kept_shared : KeptSays (kept_of shared_file None) c.units = kept_says (numbered_rule (rule_of_common 1)) common_kind no_files_before n bytes shared_file of_common None there in
+      let other : KeptSays (kept_in t None) c.units = source_says shared_file [] t beside None c.units kept_shared in
+      let units_many : length a.units ≡ length (raw_in so) = mean_many (around_beside so gives) (raw_in so) a.units (units_mean (around_beside so gives) (raw_in so) a.units mine.means) in
       let stand : KeptStand (kept_of own gives) (λ m. m) (stands_of f place) =
       values_stand f f_reads 0 (kept_of own gives) refl is.sections refl lie place (λ m. m) (own_numbered (2 ^ 32) around) in
       let stand_shared : KeptStand (kept_of shared_file None) behind_own (stands_of f place) =
@@ -229,6 +254,24 @@ module _ (placed : ArePlaced) (given : List (List ℕ)) (bytes first : List ℕ)
           common = (source_ready shared_file [] t beside None c.units other, other.among);
           few = omega (arith, few, few_shared);
         };
+        planned = record {
+          own_few = kept.few;
+          common_few = kept_shared.few;
+          says = record {
+            around = around_given own gives;
+            place = refl;
+            all = refl;
+            common_place = λ q e. some_place (record { entries = all_places (raw_in t); place = behind_own; strs = t.sections.now.strs.bytes.now }) q e refl;
+            means = kept.means;
+            beside = around_given shared_file None;
+            beside_place = refl;
+            said = c.units;
+            common_means = kept_shared.means;
+            common_are = refl;
+          };
+        };
+        many = units_many;
+        plans = has_units (record { own = so; common = Some t }) w units_many;
         knows = λ keys are. record {
           own_says = source_knows own shared_file.sections.strs.bytes.now so src gives a.units (ap (λ y. y.strs.bytes.now) beside.sections) mine;
           own_stands = source_stands own shared_file.sections.strs.bytes.now so src gives (λ m. m) (stands_of f place) stand;
@@ -263,7 +306,7 @@ the_one files f own are is = sym (is ∙ ap (λ (w : List File). get_or w 0 own)
 known_by : ArePlaced → (given : List (List ℕ)) (o : Option (List ℕ)) (first : List ℕ) (n : ℕ) (common : Option File) (files : List File) (own : File) (so : SourceFile) (t : Option SourceFile)
     → HasCommon n o common
     → AreBack o (first ∷ []) files → own ≡ get_or files 0 own → IsSourceOf own (strs_beside common) so → IsCommonOf common t
-    → IsOneKnown (record { common = o; given = given; back = first ∷ [] }) (record { own = so; common = t })
+    → IsOneKnown (record { common = o; given = given; back = first ∷ [] }) own common (record { own = so; common = t })
 known_by placed given None first n None files own so None c h is src beside =
     let p = one_read (IsReadBy (numbered_rule (rule_of_back None 0)) (Back false)) no_files_before first files h.end h.are in
     let read = subst (λ (g : File). IsReadBy (numbered_rule (rule_of_back None 0)) (Back false) no_files_before 0 first g) (the_one files p.0 own p.1 is) p.2 in
@@ -287,5 +330,5 @@ pub one_known : ArePlaced → OneKnownLaw
 one_known placed r files own common s long c h is are =
     let p = one_of r.back long in
     let back : AreBack r.common (p.0 ∷ []) files = subst (λ (xs : List (List ℕ)). AreBack r.common xs files) p.1 h in
-    subst (λ (xs : List (List ℕ)). IsOneKnown (record { common = r.common; given = r.given; back = xs }) s) (sym p.1)
+    subst (λ (xs : List (List ℕ)). IsOneKnown (record { common = r.common; given = r.given; back = xs }) own common s) (sym p.1)
     (known_by placed r.given r.common p.0 (length r.given + length r.back) common files own s.own s.common c back is are.own_is are.common_is)

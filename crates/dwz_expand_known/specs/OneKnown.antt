@@ -1,8 +1,9 @@
 -- What is kept of the one file of a graph and of its common file, and the file with places that they are.
-use Rattle.std.specs.Prelude.{◌≡◌, ℕ, ◌+◌, ◌<◌, ◌^◌, List, [], ◌∷◌, get_or, length, Option, Some, None}
+use Rattle.std.specs.Prelude.{◌≡◌, ℕ, ◌+◌, ◌<◌, ◌≤◌, ◌^◌, List, [], ◌∷◌, get_or, length, Option, Some, None}
 use Rattle.std.specs.Option.{option_map}
 use Rattle.dwz_model.specs.Lists.{Each, NoneTwice}
 use Rattle.dwz_def_reading.specs.Places.{Place}
+use Rattle.dwz_def_reading.specs.Units.{entries_in}
 use Rattle.dwz_def_tops.specs.Shown.{units_keys}
 use Rattle.dwz_def_cross.specs.Tops.{WithCommon, units_with_common}
 use Rattle.dwz_def_expand.specs.Chosen.{choice}
@@ -17,10 +18,15 @@ use Rattle.dwz_graph.specs.Here.{Here}
 use Rattle.dwz_graph.specs.Surroundings.{sources_view}
 use Rattle.dwz_check_labels.specs.Files.{AreHeres}
 use Rattle.dwz_imports.specs.Imports.{same}
+use Rattle.dwz_imports.specs.Said.{SaysBeside, raw_beside}
+use Rattle.dwz_expand_sources.specs.Numbers.{HasRanges}
+use Rattle.dwz_expand_sources.specs.Sources.{AreSources, Sources}
 use Rattle.dwz_expand_values.specs.declared.files.SourceFile.{SourceFile}
 use Rattle.dwz_expand_values.specs.Faults.{KnowsBoth, count_in}
-use Rattle.dwz_expand_values.specs.Files.{IsCommonReady, IsFileReady}
+use Rattle.dwz_expand_values.specs.Files.{IsCommonReady, IsFileReady, raw_in}
 use Rattle.dwz_expand_values.specs.Known.{KnowsKeys}
+use Rattle.dwz_expand_layout.specs.Shown.{keys_of}
+use Rattle.dwz_law_sources.specs.Numbered.{key_in}
 use Rattle.dwz_law_faults.specs.Refused.{InFiles, StandForPlaces}
 use Rattle.dwz_expand_known.specs.declared.files.SourceFiles.{SourceFiles}
 
@@ -63,6 +69,23 @@ pub record CanBeLookedUp (s : SourceFiles) : Type 0 where
   pub common : IsCommonReady s.common
   pub few : count_in s.own s.common < 2 ^ 32
 
+-- ---- plans of new units
+
+-- they say this, and have so few entries that a plan can be made of their new units
+pub record CanBePlanned (own : File) (common : Option File) (w : WithCommon ℕ) : Type 0 where
+  pub own_few : entries_in (units_of own.units) ≤ 2 ^ 28
+  pub common_few : entries_in (raw_beside (option_map (λ f. f.units) common)) ≤ 2 ^ 28
+  pub says : SaysBeside (units_of own.units) (raw_beside (option_map (λ f. f.units) common)) w
+
+-- a plan has units of the file, and the ranges of each
+pub record HasUnits (s : SourceFiles) (x : Sources) : Type 0 where
+  pub units : Each (λ y. y.unit < length (raw_in s.own)) x.units
+  pub ranges : Each (HasRanges x.ranges) x.units
+
+-- copies have the numbers that are counted
+abbrev pub KeysLaw : Type 0
+KeysLaw = (w : WithCommon ℕ) → KnowsKeys w (keys_of (key_in w))
+
 -- ---- the file with places
 
 -- values stand where they do in the file with places
@@ -73,7 +96,7 @@ stands_of f place = record {
 }
 
 -- Files that a graph has read are that file with places. Both say the units of `w`, where numbers stand for places, no two for one.
-pub record IsOneKnown (r : FilesRead) (s : SourceFiles) : Type 0 where
+pub record IsOneKnown (r : FilesRead) (own : File) (common_file : Option File) (s : SourceFiles) : Type 0 where
   pub f : OneFile
   pub reads : ReadsOne f
   pub content : r.back ≡ f.file.bytes ∷ []
@@ -85,6 +108,9 @@ pub record IsOneKnown (r : FilesRead) (s : SourceFiles) : Type 0 where
   pub once : NoneTwice (units_keys (units_with_common w))
   pub files : InFiles place w
   pub ready : CanBeLookedUp s
+  pub planned : CanBePlanned own common_file w
+  pub many : length w.own ≡ length (raw_in s.own)
+  pub plans : (x : Sources) → AreSources w x → HasUnits s x
   pub knows : (keys : Keys (Copy ℕ)) → KnowsKeys w keys → KnowsBoth s.own s.common w keys (stands_of f place)
 
 -- so it is of the one file of a graph that was read back, and of its common file
@@ -92,4 +118,4 @@ abbrev pub OneKnownLaw : Type 0
 OneKnownLaw =
     (r : FilesRead) (files : List File) (own : File) (common : Option File) (s : SourceFiles) → length r.back ≡ 1
     → HasCommon (length r.given + length r.back) r.common common → AreBack r.common r.back files → own ≡ get_or files 0 own
-    → AreSourceFiles own common s → IsOneKnown r s
+    → AreSourceFiles own common s → IsOneKnown r own common s

@@ -1,13 +1,15 @@
 //! What a graph of one file is.
 
-ghost use Rattle.dwz_expand_known.specs.OneKnown.{OneKnownLaw};
+ghost use Rattle.dwz_expand_known.specs.OneKnown.{KeysLaw, OneKnownLaw};
 
 use dwz_graph::placed_laws;
 
 /// What is kept of the one file of a graph, and of its common file, is what `dwz_expand_values` asks for, of a file with places that the
-/// graph has read; and numbers stand for these places as the laws on what is written ask.
+/// graph has read; and numbers stand for these places as the laws on what is written ask. Copies
+/// have the numbers that are counted.
 pub fn known_laws()
-    ensures { OneKnownLaw }
+    ensures files { OneKnownLaw }
+    ensures keys { KeysLaw }
 {
     placed_laws();
 }

@@ -5,3 +5,4 @@ pub mod ValuesStand
 pub mod FileKeys
 pub mod OneGraph
 pub mod PlanLemmas
+pub mod CopyBounds

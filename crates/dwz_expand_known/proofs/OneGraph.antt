@@ -45,6 +45,8 @@ use Rattle.dwz_law_places.proofs.RenamedLemmas.{tests_agree}
 use Rattle.dwz_expand_known.specs.OneKnown.{IsCommonOf, IsOneKnown, IsSourceOf, OneKnownLaw, stands_of, strs_beside}
 use Rattle.dwz_expand_known.proofs.ChoiceMapped.{choice_mapped}
 use Rattle.dwz_expand_known.proofs.FileKept.{KeptSays, KeptStand, kept_in, kept_of, kept_says, source_knows, source_ready, source_says, source_stands}
+use Rattle.dwz_expand_known.proofs.CopyBounds.{units_few}
+use Rattle.dwz_expand_sources.specs.Sources.{all_entries}
 use Rattle.dwz_expand_known.proofs.FileKeys.{keys_in}
 use Rattle.dwz_expand_known.proofs.PlanLemmas.{has_units, mean_many, none_mean, none_place, some_place}
 use Rattle.dwz_expand_known.proofs.ValuesStand.{values_stand}
@@ -124,6 +126,8 @@ module _ (placed : ArePlaced) (given : List (List ℕ)) (first : List ℕ) (own 
       let stand : KeptStand (kept_of own None) (λ n. n) (stands_of f (at_file 0)) = values_stand f f_reads 0 (kept_of own None) refl is.sections refl lie (at_file 0) (λ n. n) (λ n lt. refl) in
       let few = mine.few in
       let units_many : length a.units ≡ length (raw_in so) = mean_many (around_beside so None) (raw_in so) a.units (units_mean (around_beside so None) (raw_in so) a.units mine.means) in
+      let own_many = said_many (around_beside so None) (raw_in so) a.units mine.means in
+      let all_entries_many : length (all_entries w) ≡ entries_in (raw_in so) + 0 = listed_many a.units [] (entries_in (raw_in so)) 0 own_many none_many in
       let one = once f w (at_file 0) said (own_apart 0) (sources_view so.sections.now) sources well in
       record {
         f = f;
@@ -159,14 +163,14 @@ module _ (placed : ArePlaced) (given : List (List ℕ)) (first : List ℕ) (own 
           };
         };
         many = units_many;
-        plans = has_units (record { own = so; common = None }) w units_many;
+        plans = has_units (record { own = so; common = None }) w units_many one (omega (arith, all_entries_many, few)) (omega (arith, own_many, units_few a.units, few));
         knows = λ keys are. record {
           own_says = source_knows own [] so src None a.units refl mine;
           own_stands = source_stands own [] so src None (λ n. n) (stands_of f (at_file 0)) stand;
           common_says = refl;
           keys_are = are;
           apart = one;
-          many = listed_many a.units [] (entries_in (raw_in so)) 0 (said_many (around_beside so None) (raw_in so) a.units mine.means) none_many;
+          many = all_entries_many;
         };
       }
 
@@ -234,6 +238,8 @@ module _ (placed : ArePlaced) (given : List (List ℕ)) (bytes first : List ℕ)
       let one = once f w place said apart (sources_view so.sections.now) sources well in
       let many = said_many (around_beside so gives) (raw_in so) a.units mine.means in
       let many_shared = behind_many c.units (entries_in (raw_in t)) (said_many (around_beside t None) (raw_in t) c.units other.means) in
+      let all_entries_many : length (all_entries w) ≡ entries_in (raw_in so) + entries_in (raw_in t) =
+      listed_many a.units (map (unit_map behind_own) c.units) (entries_in (raw_in so)) (entries_in (raw_in t)) many many_shared in
       record {
         f = f;
         reads = f_reads;
@@ -271,7 +277,7 @@ module _ (placed : ArePlaced) (given : List (List ℕ)) (bytes first : List ℕ)
           };
         };
         many = units_many;
-        plans = has_units (record { own = so; common = Some t }) w units_many;
+        plans = has_units (record { own = so; common = Some t }) w units_many one (omega (arith, all_entries_many, few, few_shared)) (omega (arith, many, units_few a.units, few));
         knows = λ keys are. record {
           own_says = source_knows own shared_file.sections.strs.bytes.now so src gives a.units (ap (λ y. y.strs.bytes.now) beside.sections) mine;
           own_stands = source_stands own shared_file.sections.strs.bytes.now so src gives (λ m. m) (stands_of f place) stand;
@@ -283,7 +289,7 @@ module _ (placed : ArePlaced) (given : List (List ℕ)) (bytes first : List ℕ)
           );
           keys_are = are;
           apart = one;
-          many = listed_many a.units (map (unit_map behind_own) c.units) (entries_in (raw_in so)) (entries_in (raw_in t)) many many_shared;
+          many = all_entries_many;
         };
       }
 

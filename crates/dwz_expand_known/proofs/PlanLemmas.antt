@@ -1,21 +1,23 @@
 -- Plans of the new units of files that say this.
-use Rattle.std.proofs.Common.{◌≡◌, ℕ, suc, ◌<◌, List, [], ◌∷◌, length, Some, None, Ok, refl, sym, ap, ◌∙◌, arith}
-use Rattle.dwz_model.specs.Lists.{Each}
+use Rattle.std.proofs.Common.{◌≡◌, ℕ, suc, ◌^◌, ◌<◌, ◌≤◌, List, [], ◌∷◌, length, Some, None, Ok, refl, sym, ap, ◌∙◌, arith}
+use Rattle.dwz_model.specs.Lists.{Each, NoneTwice}
 use Rattle.dwz_model.proofs.ListFacts.{got_below}
 use Rattle.dwz_def_reading.specs.Documents.{DwUnit}
 use Rattle.dwz_def_reading.specs.Meanings.{Around, Common, MeanUnits}
 use Rattle.dwz_def_reading.specs.Meant.{units_meaning}
 use Rattle.dwz_def_reading.specs.Units.{RawUnit}
 use Rattle.dwz_def_cross.specs.CrossSame.{EachTwo}
-use Rattle.dwz_def_cross.specs.Tops.{WithCommon, whole_units}
+use Rattle.dwz_def_cross.specs.Tops.{WithCommon, units_with_common, whole_units}
 use Rattle.dwz_graph.specs.Surroundings.{behind_own}
 use Rattle.dwz_expand_sources.specs.declared.sources.NewUnit.{NewUnit}
 use Rattle.dwz_expand_sources.specs.declared.sources.SourceRange.{SourceRange}
-use Rattle.dwz_expand_sources.specs.Numbers.{HasRanges}
-use Rattle.dwz_expand_sources.specs.Sources.{AreSources, IsNewUnit, Sources}
+use Rattle.dwz_expand_sources.specs.Sources.{AreSources, IsNewUnit, Sources, all_entries}
 use Rattle.dwz_expand_values.specs.Files.{raw_in}
 use Rattle.dwz_law_sources.specs.Numbered.{key_in}
 use Rattle.dwz_law_sources.proofs.NumberLemmas.{numbers_law}
+use Rattle.dwz_expand_copies.proofs.SourceLemmas.{have_ranges}
+use Rattle.dwz_def_tops.specs.Shown.{units_keys}
+use Rattle.dwz_expand_known.proofs.CopyBounds.{copies_few}
 use Rattle.dwz_expand_known.specs.OneKnown.{HasUnits, KeysLaw}
 use Rattle.dwz_expand_known.specs.declared.files.SourceFiles.{SourceFiles}
 
@@ -36,16 +38,12 @@ module _ (w : WithCommon ℕ) (ranges : List SourceRange) (n : ℕ) (many : leng
   new_units (x ∷ xs) [] h = absurd h
   new_units (x ∷ xs) (u ∷ us) h = (let lt : x.unit < length w.own = got_below w.own x.unit u h.0.unit in (omega (arith, lt, many), new_units xs us h.1))
 
-  new_ranges : (xs : List NewUnit) (us : List (DwUnit ℕ)) → EachTwo (IsNewUnit w ranges) xs us → Each (HasRanges ranges) xs
-  new_ranges [] [] h = tt
-  new_ranges [] (u ∷ us) h = absurd h
-  new_ranges (x ∷ xs) [] h = absurd h
-  new_ranges (x ∷ xs) (u ∷ us) h = (record { rises = h.0.rises; within = h.0.within }, new_ranges xs us h.1)
-
-pub has_units : (s : SourceFiles) (w : WithCommon ℕ) → length w.own ≡ length (raw_in s.own) → (x : Sources) → AreSources w x → HasUnits s x
-has_units s w many x are = record {
+pub has_units : (s : SourceFiles) (w : WithCommon ℕ) → length w.own ≡ length (raw_in s.own) → NoneTwice (units_keys (units_with_common w)) → length (all_entries w) ≤ 2 ^ 29 → length w.own ≤ 2 ^ 29
+    → (x : Sources) → AreSources w x → HasUnits s x
+has_units s w many apart few own x are = record {
   units = new_units w x.ranges (length (raw_in s.own)) many x.units (whole_units w.own) are.units;
-  ranges = new_ranges w x.ranges (length (raw_in s.own)) many x.units (whole_units w.own) are.units;
+  ranges = have_ranges w x.ranges x.units (whole_units w.own) are.units;
+  few = copies_few w x are apart few own;
 }
 
 -- no units mean none

@@ -19,7 +19,7 @@ use Rattle.dwz_graph.specs.Surroundings.{sources_view}
 use Rattle.dwz_check_labels.specs.Files.{AreHeres}
 use Rattle.dwz_imports.specs.Imports.{same}
 use Rattle.dwz_imports.specs.Said.{SaysBeside, raw_beside}
-use Rattle.dwz_expand_sources.specs.Numbers.{HasRanges}
+use Rattle.dwz_expand_sources.specs.Numbers.{HasRanges, copy_count}
 use Rattle.dwz_expand_sources.specs.Sources.{AreSources, Sources}
 use Rattle.dwz_expand_values.specs.declared.files.SourceFile.{SourceFile}
 use Rattle.dwz_expand_values.specs.Faults.{KnowsBoth, count_in}
@@ -77,10 +77,11 @@ pub record CanBePlanned (own : File) (common : Option File) (w : WithCommon ℕ)
   pub common_few : entries_in (raw_beside (option_map (λ f. f.units) common)) ≤ 2 ^ 28
   pub says : SaysBeside (units_of own.units) (raw_beside (option_map (λ f. f.units) common)) w
 
--- a plan has units of the file, and the ranges of each
+-- a plan has units of the file, the ranges of each, and so few copies that they can be numbered
 pub record HasUnits (s : SourceFiles) (x : Sources) : Type 0 where
   pub units : Each (λ y. y.unit < length (raw_in s.own)) x.units
   pub ranges : Each (HasRanges x.ranges) x.units
+  pub few : copy_count x.ranges x.units < 2 ^ 64
 
 -- copies have the numbers that are counted
 abbrev pub KeysLaw : Type 0

@@ -22,7 +22,8 @@ use Rattle.dwz_imports.specs.Said.{SaysBeside, raw_beside}
 use Rattle.dwz_expand_sources.specs.Numbers.{HasRanges, copy_count}
 use Rattle.dwz_expand_sources.specs.Sources.{AreSources, Sources}
 use Rattle.dwz_expand_values.specs.declared.files.SourceFile.{SourceFile}
-use Rattle.dwz_expand_values.specs.Faults.{KnowsBoth, count_in}
+use Rattle.dwz_expand_copies.specs.Rows.{AreCopies, Copies}
+use Rattle.dwz_expand_values.specs.Faults.{AreReady, KnowsBoth, count_in}
 use Rattle.dwz_expand_values.specs.Files.{IsCommonReady, IsFileReady, raw_in}
 use Rattle.dwz_expand_values.specs.Known.{KnowsKeys}
 use Rattle.dwz_expand_layout.specs.Shown.{keys_of}
@@ -82,6 +83,12 @@ pub record HasUnits (s : SourceFiles) (x : Sources) : Type 0 where
   pub units : Each (λ y. y.unit < length (raw_in s.own)) x.units
   pub ranges : Each (HasRanges x.ranges) x.units
   pub few : copy_count x.ranges x.units < 2 ^ 64
+
+-- with the copies of such a plan its values can be looked at
+abbrev pub ReadyLaw : Type 0
+ReadyLaw =
+    (s : SourceFiles) (x : Sources) (starts : List ℕ) (c : Copies) → CanBeLookedUp s → HasUnits s x → AreCopies x starts c
+    → length c.first ≡ count_in s.own s.common → AreReady s.own s.common x starts c
 
 -- copies have the numbers that are counted
 abbrev pub KeysLaw : Type 0

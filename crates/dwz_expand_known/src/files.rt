@@ -1,13 +1,26 @@
 //! What is kept of the one file of a graph, and of its common file.
 
-ghost use Rattle.std.specs.Prelude.{◌≡◌, IfOk, length};
+ghost use Rattle.std.specs.Prelude.{◌≡◌, ◌<◌, ℕ, List, IfOk, length};
 ghost use Rattle.std.specs.Option.{option_map};
 ghost use Rattle.dwz_check_labels.specs.Files.{AreHeres};
-ghost use Rattle.dwz_expand_known.specs.OneKnown.{AreHeresBeside, AreSourceFiles, IsSourceOf, strs_beside};
+ghost use Rattle.dwz_def_cross.specs.Tops.{WithCommon};
+ghost use Rattle.dwz_def_expand.specs.Chosen.{choice};
+ghost use Rattle.dwz_def_expand.specs.Refusals.{Where};
+ghost use Rattle.dwz_def_expand.specs.Source.{Copy};
+ghost use Rattle.dwz_encode.specs.Shown.{Keys};
+ghost use Rattle.dwz_expand_copies.specs.Rows.{AreCopies};
+ghost use Rattle.dwz_expand_sources.specs.Sources.{AreSources, Sources};
+ghost use Rattle.dwz_expand_values.specs.Faults.{KnowsBoth, count_in};
+ghost use Rattle.dwz_expand_values.specs.Files.{IsKnownReady, Knows};
+ghost use Rattle.dwz_expand_values.specs.Paths.{IsPathsOf};
+ghost use Rattle.dwz_graph.specs.Surroundings.{sources_view};
+ghost use Rattle.dwz_imports.specs.Imports.{same};
+ghost use Rattle.dwz_expand_known.specs.OneKnown.{CanBeLookedUp, AreHeresBeside, AreSourceFiles, IsSourceOf, strs_beside};
 ghost use Rattle.dwz_unit.specs.Rows.{units_of};
 
 use dwz_check_labels::heres_of;
-use dwz_expand_values::SourceFile;
+use dwz_expand_copies::Copies;
+use dwz_expand_values::{Known, SourceFile, TablePaths};
 use dwz_graph::{File, Here};
 use dwz_model::NoMemory;
 use std::alloc::Global;
@@ -82,6 +95,33 @@ impl<'s, 'a> SourceFiles<'s, 'a> {
                 own: source_file(own, file.sections.strs.bytes, heres.own.as_slice()),
                 common: Some(source_file(file, &[], heres.common.as_slice())),
             },
+        }
+    }
+
+    /// What is known at a new unit, whose copies are at hand, with the rows of its line table by their paths.
+    pub fn at_unit(
+        &self,
+        alloc: Global,
+        copies: &'s Copies,
+        unit: usize,
+        paths: &'s TablePaths,
+    ) -> Known<'s, 'a>
+        requires ready { CanBeLookedUp self.now }
+        requires copies { (x : Sources) × (starts : List ℕ) × AreCopies x starts copies.now × (copies.now.unit < length x.units) }
+        requires many { length copies.now.first ≡ count_in self.now.own self.now.common }
+        requires here { copies.now.unit ≡ unit }
+        ensures ready { IsKnownReady result }
+        ensures knows { (w : WithCommon ℕ) (keys : Keys (Copy ℕ)) (stands : Where ℕ) (x : Sources) (starts : List ℕ)
+            → KnowsBoth self.now.own self.now.common w keys stands → AreSources w x → AreCopies x starts copies.now → unit < length x.units
+            → IsPathsOf ((choice same w (sources_view self.now.own.sections.now)).paths unit) paths.now → Knows result w keys stands }
+    {
+        Known {
+            alloc,
+            own: self.own,
+            common: self.common,
+            copies,
+            unit,
+            paths,
         }
     }
 }

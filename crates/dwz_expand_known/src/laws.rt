@@ -1,15 +1,16 @@
 //! What a graph of one file is.
 
-ghost use Rattle.dwz_expand_known.specs.OneKnown.{KeysLaw, OneKnownLaw};
+ghost use Rattle.dwz_expand_known.specs.OneKnown.{KeysLaw, OneKnownLaw, ReadyLaw};
 
 use dwz_graph::placed_laws;
 
 /// What is kept of the one file of a graph, and of its common file, is what `dwz_expand_values` asks for, of a file with places that the
 /// graph has read; and numbers stand for these places as the laws on what is written ask. Copies
-/// have the numbers that are counted.
+/// have the numbers that are counted; and with a plan and its copies, what is kept is ready for its values to be looked at.
 pub fn known_laws()
     ensures files { OneKnownLaw }
     ensures keys { KeysLaw }
+    ensures ready { ReadyLaw }
 {
     placed_laws();
 }

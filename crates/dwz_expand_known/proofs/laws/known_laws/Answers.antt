@@ -8,3 +8,14 @@ returns-clause-files c = λ r files own common s long has back is are.
 
 pub returns-clause-keys : goal.returns-clause-keys
 returns-clause-keys c = λ w u p n is. keys_known w u p n is
+
+pub returns-clause-ready : goal.returns-clause-ready
+returns-clause-ready c = λ s x starts k ready plan copies many. record {
+  own_ready = ready.own;
+  refs = ready.refs;
+  common_ready = ready.common;
+  units = plan.units;
+  copies = copies;
+  many = many;
+  few = ready.few;
+}

@@ -5,3 +5,4 @@ pub mod KindLemmas
 pub mod SaidLemmas
 pub mod UnitLemmas
 pub mod OrderLemmas
+pub mod OneOrder

@@ -1,10 +1,12 @@
 //! The two passes over all new units.
 
-ghost use Rattle.std.specs.Prelude.{◌≡◌, IfOk, List};
+ghost use Rattle.std.specs.Prelude.{◌≡◌, ℕ, IfOk, List};
+ghost use Rattle.dwz_def_cross.specs.Tops.{WithCommon};
+ghost use Rattle.dwz_def_expand.specs.Refusals.{Where};
 ghost use Rattle.dwz_expand_layout.specs.Entries.{UnitLines};
 ghost use Rattle.dwz_expand_layout.specs.Laid.{laid, layout_view};
 ghost use Rattle.dwz_expand_layout.specs.Written.{written};
-ghost use Rattle.dwz_expand_passes.specs.Passes.{AreNew, IsReady, IsRefused};
+ghost use Rattle.dwz_expand_passes.specs.Passes.{AreNew, IsReady, IsRefused, Says};
 
 use crate::file::NewFile;
 use crate::units::pass_units;
@@ -29,6 +31,8 @@ pub fn write(file: &NewFile, layout: &NewLayout) -> Result<Vec<u8>, ReadErr>
     requires { IsReady file.now }
     ensures writes { IfOk result (λ bytes. (order : List UnitLines) × (bytes.items ≡ written (layout_view layout.now) order)
         × AreNew file.now order) }
+    ensures one { (order : List UnitLines) (w : WithCommon ℕ) (stands : Where ℕ) → AreNew file.now order → Says file.now w stands
+        → IfOk result (λ bytes. bytes.items ≡ written (layout_view layout.now) order) }
     ensures refused { IsRefused file.now result }
 {
     let mut writing = Writing::new(file.alloc, layout)?;

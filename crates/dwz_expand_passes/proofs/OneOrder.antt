@@ -1,5 +1,5 @@
 -- There is one row of new units that has the copies of a plan's sources.
-use Rattle.std.proofs.Common.{◌≡◌, ℕ, zero, suc, ◌+◌, ◌<◌, ◌≤◌, List, [], ◌∷◌, ◌++◌, get_or, length, map, Some, slice_get, refl, sym, ap, subst, ◌∙◌, arith, inl, inr}
+use Rattle.std.proofs.Common.{◌≡◌, ℕ, zero, suc, ◌+◌, ◌<◌, ◌≤◌, List, [], ◌∷◌, get_or, length, map, refl, sym, ap, subst, ◌∙◌, arith, inl, inr}
 use Rattle.dwz_def_cross.specs.CrossSame.{EachTwo}
 use Rattle.dwz_def_cross.specs.Tops.{WithCommon, units_with_common, whole_units}
 use Rattle.dwz_def_encoding.specs.Meant.{entry_keys}
@@ -17,9 +17,9 @@ use Rattle.dwz_model.proofs.OnceLemmas.{none_append, none_map}
 use Rattle.dwz_model.specs.Lists.{Each, In, NoneTwice}
 use Rattle.dwz_expand_layout.specs.Attributes.{Content, OfEntry, OfParts, OfRoot, OutAttr, Read}
 use Rattle.dwz_expand_layout.specs.Depths.{DeepLine, with_ends}
-use Rattle.dwz_expand_layout.specs.Entries.{NewLine, UnitLines}
+use Rattle.dwz_expand_layout.specs.Entries.{UnitLines}
 use Rattle.dwz_expand_layout.specs.Lines.{Line}
-use Rattle.dwz_expand_layout.specs.Shown.{AttrRefers, ContentRefers, HeldAttr, KindRefers, KindShows, attr_held, content_held, held_of, keys_of}
+use Rattle.dwz_expand_layout.specs.Shown.{AttrRefers, ContentRefers, HeldAttr, KindRefers, KindShows, attr_held, content_held, keys_of}
 use Rattle.dwz_expand_layout.specs.declared.entries.NewKind.{NewKind}
 use Rattle.dwz_expand_layout.specs.declared.entries.NewKind.TheVariants.{Compile, OfType}
 use Rattle.dwz_expand_sources.specs.declared.sources.NewUnit.{NewUnit}
@@ -32,7 +32,7 @@ use Rattle.dwz_expand_passes.specs.declared.file.NewFile.{NewFile}
 use Rattle.dwz_law_sources.proofs.NumberLemmas.{copies_many, lengths}
 use Rattle.dwz_law_sources.proofs.ReferLemmas.{copy_refers, kind_refers}
 use Rattle.dwz_law_sources.proofs.StandLemmas.{same_test}
-use Rattle.dwz_law_sources.specs.Copied.{HasCopies, HaveCopies, IsCopyOf, NamesNoRoot, copied_attrs, named_copy}
+use Rattle.dwz_law_sources.specs.Copied.{HasCopies, HaveCopies, IsCopyOf, NamesNoRoot, named_copy}
 use Rattle.dwz_law_sources.specs.Lined.{all_lines}
 use Rattle.dwz_law_sources.specs.Numbered.{copies_from, key_in}
 

@@ -3,3 +3,4 @@ pub mod Steps
 pub mod Kinds
 pub mod Passes
 pub mod Units
+pub mod Tables

@@ -25,7 +25,8 @@ pub(crate) fn pass_entries<'a, P: Pass>(
     requires ready { IsKnownReady known.now }
     requires there { Each (λ i. i < entry_count known.now) walk.old }
     ensures passed { OnOk result ((deep : List DeepLine) × AreCopied known.now walk.old deep
-        × ((made : Made) (units : List UnitLines) (kind : Kind) → P.within made pass.old units kind [] → P.within made pass.new units kind (with_ends deep))) }
+        × ((made : Made) (units : List UnitLines) (kind : Kind) → P.within made pass.old units kind []
+        → P.within made pass.new units kind (with_ends deep))) }
     ensures refused { RefusesIn known.now walk.old result }
 {
     let mut next = next_source(known, walk);

@@ -54,8 +54,8 @@ fn main_copy(file: &NewFile, copies: &Copies, unit: u32) -> u64
     requires many { length copies.now.first ≡ entry_many file.now }
     requires copies { (roots : List ℕ) × AreCopies file.now.sources.now roots copies.now }
     requires there { copies.now.unit < length file.now.sources.now.units }
-    ensures { (w : WithCommon ℕ) (stands : Where ℕ) (u : DwUnit ℕ) (signature k : ℕ) → Says file.now w stands → slice_get w.own unit ≡ Some u
-        → u.kind ≡ OfType signature k → In k (get_or (source_places same w) copies.now.unit [])
+    ensures { (w : WithCommon ℕ) (stands : Where ℕ) (u : DwUnit ℕ) (signature k : ℕ) → Says file.now w stands
+        → slice_get w.own unit ≡ Some u → u.kind ≡ OfType signature k → In k (get_or (source_places same w) copies.now.unit [])
         → key_in w result ≡ named_copy w copies.now.unit k }
 {
     match main_of(&file.own, unit) {

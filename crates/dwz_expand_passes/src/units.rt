@@ -10,6 +10,7 @@ ghost use Rattle.dwz_expand_layout.specs.Laid.{Made};
 ghost use Rattle.dwz_expand_layout.specs.Shown.{KindShows};
 ghost use Rattle.dwz_expand_passes.specs.Passes.{AreNew, IsReady, IsRefused, Says, entry_many};
 ghost use Rattle.dwz_expand_passes.specs.Steps.{KnowsHere};
+ghost use Rattle.dwz_expand_passes.specs.Tables.{IsTableOf};
 ghost use Rattle.dwz_expand_passes.specs.Units.{IsNewOf, RefusesAt};
 ghost use Rattle.dwz_expand_sources.specs.Numbers.{HasRanges, root_numbers};
 ghost use Rattle.dwz_expand_values.specs.Files.{IsKnownReady, common_count, entry_count};
@@ -22,10 +23,11 @@ use crate::entries::pass_entries;
 use crate::file::NewFile;
 use crate::kinds::kind_of;
 use crate::pass::Pass;
+use crate::tables::LastTable;
 use dwz_expand_copies::Copies;
 use dwz_expand_layout::NewKind;
 use dwz_expand_sources::{CopyNumbers, NewUnit};
-use dwz_expand_values::{Known, SourceFile, TablePaths};
+use dwz_expand_values::{Known, SourceFile};
 use dwz_expand_walk::SourceWalk;
 use dwz_model::{NoMemory, ReadErr};
 
@@ -66,6 +68,7 @@ fn pass_here<'a, P: Pass>(
     file: &NewFile<'_, 'a>,
     copies: &Copies,
     n: usize,
+    last: &mut LastTable,
     copied: &mut CopiedEntry<'a>,
 ) -> Result<(), ReadErr>
     requires ready { IsReady file.now }
@@ -73,20 +76,22 @@ fn pass_here<'a, P: Pass>(
     requires many { length copies.now.first ≡ entry_many file.now }
     requires copies { (roots : List ℕ) × AreCopies file.now.sources.now roots copies.now }
     requires here { copies.now.unit ≡ n }
+    requires table { IsTableOf file.now.own.sections.now last.old }
+    ensures table { OnOk result (IsTableOf file.now.own.sections.now last.new) }
     ensures passed { OnOk result ((o : UnitLines) × IsNewOf file.now n o
         × ((made : Made) (units : List UnitLines) → P.done made pass.old units → P.done made pass.new (units ++ o ∷ []))) }
     ensures refused { RefusesAt file.now n result }
 {
     let new = file.sources.units()[n];
     let line = file.own.heres[new.unit as usize].line;
-    let paths = TablePaths::read(file.alloc, file.own.sections, line)?;
+    last.go_to(file.alloc, file.own.sections, line)?;
     let known = Known {
         alloc: file.alloc,
         own: file.own,
         common: file.common,
         copies,
         unit: n,
-        paths: &paths,
+        paths: &last.paths,
     };
     let kind = kind_of(file, copies, new.unit);
     pass_known(pass, file, &known, new, kind, copied)
@@ -127,10 +132,11 @@ fn pass_all<P: Pass>(
         × ((made : Made) → P.done made pass.old [] → P.done made pass.new order)) }
     ensures refused { IsRefused file.now result }
 {
+    let mut last = LastTable::none(file.alloc, file.own.sections)?;
     let mut copied = CopiedEntry::new(file.alloc);
     for n in 0..file.sources.units().len() {
         copies.enter(file.sources, numbers, n);
-        pass_here(pass, file, copies, n, &mut copied)?;
+        pass_here(pass, file, copies, n, &mut last, &mut copied)?;
     }
     Ok(())
 }

@@ -4,11 +4,18 @@ use Rattle.dwz_expand_passes.proofs.OrderLemmas.{all_done, none_done, one_done, 
 use Rattle.dwz_expand_passes.proofs.units.pass_all.Goals as goal
 
 pub loop-n-init : goal.loop-n-init
-loop-n-init g c = record { copies = c.requires.copies; many = c.requires.many; order = []; done = none_done c.args.file.now; state = λ made start. start }
+loop-n-init g c = record {
+  copies = c.requires.copies;
+  many = c.requires.many;
+  table = c.in_ok-last.ensures;
+  order = [];
+  done = none_done c.args.file.now;
+  state = λ made start. start;
+}
 
 pub returns-in_err-pass_here-clause-refused : goal.returns-in_err-pass_here-clause-refused
 returns-in_err-pass_here-clause-refused g c =
-    let e = err_from_is_err_and c.from_residual.result c.from_residual.ensures.1 in
+    let e = err_from_is_err_and c.from_residual-in_err-pass_here.result c.from_residual-in_err-pass_here.ensures.1 in
     let i = c.loop-n.invariant in
     let h = c.loop-n-test.true in
     let many = ap length c.units-n-end.ensures in
@@ -21,6 +28,7 @@ loop-n-preserved g c =
     record {
       copies = c.enter.ensures.copies;
       many = c.enter.ensures.entries ∙ i.many;
+      table = c.in_ok-pass_here.ensures.table;
       order = i.order ++ p.0 ∷ [];
       done = one_done c.args.file.now c.loop-n.n i.order p.0 i.done p.1;
       state = λ made start. p.2 made i.order (i.state made start);

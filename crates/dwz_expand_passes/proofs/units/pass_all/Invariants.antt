@@ -3,6 +3,7 @@ use Rattle.dwz_expand_copies.specs.Rows.{AreCopies}
 use Rattle.dwz_expand_layout.specs.Entries.{UnitLines}
 use Rattle.dwz_expand_layout.specs.Laid.{Made}
 use Rattle.dwz_expand_passes.specs.Passes.{entry_many}
+use Rattle.dwz_expand_passes.specs.Tables.{IsTableOf}
 use Rattle.dwz_expand_passes.proofs.OrderLemmas.{AreDone}
 use Rattle.dwz_expand_passes.proofs.units.pass_all.Given as goal
 
@@ -10,6 +11,7 @@ abbrev pub invariant-loop-n : goal.invariant-loop-n
 invariant-loop-n g l = record {
   copies : AreCopies l.file.sources.now l.numbers.roots l.copies;
   many : length l.copies.first ≡ entry_many l.file;
+  table : IsTableOf l.file.own.sections.now l.last;
   order : List UnitLines;
   done : AreDone l.file l.n order;
   state : (made : Made) → g.P.Pass.done made l.fn.pass [] → g.P.Pass.done made l.pass order;

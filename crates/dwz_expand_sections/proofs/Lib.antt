@@ -8,3 +8,4 @@ pub mod StartLemmas
 pub mod StoredLemmas
 pub mod NamingLemmas
 pub mod GivenLemmas
+pub mod RefusalLemmas

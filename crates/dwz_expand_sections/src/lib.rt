@@ -4,7 +4,7 @@
 //! numbers of operands. Where a number needs more bytes than its operand has, the file is refused for the first such operand:
 //! `note_operand` and `first_narrow` find its place among operands that have their new numbers, in whichever order they come,
 //! `first_listed` among those of the location lists; `narrow_fault` is the fault. `first_large` tells from the lengths of the units and of
-//! their tables, before any byte is written, whether a section is too large.
+//! their tables, before any byte is written, whether a section is too large. `size_refusal` is the first of all these.
 //!
 //! Laws: `start_laws`, `list_laws`, `number_laws`.
 //!
@@ -17,6 +17,7 @@ mod listed;
 mod lists;
 mod narrow;
 mod ranges;
+mod refusals;
 
 pub use large::first_large;
 pub use laws::{list_laws, number_laws, start_laws};
@@ -24,3 +25,4 @@ pub use listed::first_listed;
 pub use lists::lists_after;
 pub use narrow::{first_narrow, narrow_fault, note_operand};
 pub use ranges::ranges_after;
+pub use refusals::{NarrowPlaces, size_refusal};

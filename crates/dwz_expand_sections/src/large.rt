@@ -1,6 +1,6 @@
 //! Sections that have too many bytes.
 
-ghost use Rattle.std.specs.Prelude.{◌≡◌};
+ghost use Rattle.std.specs.Prelude.{◌≡◌, ◌-◌, ◌<◌, ◌^◌, IfNone};
 ghost use Rattle.dwz_def_expand.specs.OneFile.{OneFile};
 ghost use Rattle.dwz_def_expand.specs.Output.{LargeRefusal};
 ghost use Rattle.dwz_def_output.specs.NewFiles.{IsFound};
@@ -27,7 +27,8 @@ fn too_large(section: u8) -> Refusal
 /// The refusal of the first new section that is too large, where the new `.debug_info` and `.debug_abbrev` have so many bytes. The other
 /// sections are as long as they were, and a file that reads is shorter.
 pub fn first_large(info: u64, abbrevs: u64) -> Option<Refusal>
-    ensures { (f : OneFile) → HaveLengths f info abbrevs → IsFound (LargeRefusal f) result }
+    ensures found { (f : OneFile) → HaveLengths f info abbrevs → IsFound (LargeRefusal f) result }
+    ensures fits { IfNone result (info < 2 ^ 32 - 16) }
 {
     if info >= TOO_LARGE {
         Some(too_large(DEBUG_INFO))

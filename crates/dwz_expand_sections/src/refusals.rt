@@ -1,6 +1,6 @@
 //! Why a file whose values can all be copied isn't written: an operand is too narrow, or a section too large.
 
-ghost use Rattle.std.specs.Prelude.{◌≡◌, List, map};
+ghost use Rattle.std.specs.Prelude.{◌≡◌, ◌-◌, ◌<◌, ◌^◌, IfNone, List, map};
 ghost use Rattle.dwz_def_expand.specs.OneFile.{OneFile};
 ghost use Rattle.dwz_def_expand.specs.Output.{FirstTooNarrow, Spoken};
 ghost use Rattle.dwz_def_output.specs.NewFiles.{IsFound};
@@ -42,9 +42,11 @@ fn narrow_in(file: u32, section: u8, first: Option<u64>) -> Option<Refusal>
 
 /// The first refusal of a file whose values can all be copied: of the first operand that is too narrow, in its values, in its location
 /// lists, or in the values of its common file; or else of the first new section that is too large, where the new `.debug_info` and
-/// `.debug_abbrev` have so many bytes. The file has the number 0, and its common file the number 1.
+/// `.debug_abbrev` have so many bytes. Where there is none, places in the
+/// new `.debug_info` have four bytes. The file has the number 0, and its common file the number 1.
 pub fn size_refusal(places: &NarrowPlaces, info: u64, abbrevs: u64) -> Option<Refusal>
-    ensures { (f : OneFile) → HavePlaces f places.now → HaveLengths f info abbrevs → IsFound (SizeRefusal f) result }
+    ensures found { (f : OneFile) → HavePlaces f places.now → HaveLengths f info abbrevs → IsFound (SizeRefusal f) result }
+    ensures fits { IfNone result (info < 2 ^ 32 - 16) }
 {
     let common = narrow_in(1, DEBUG_INFO, places.common).or(first_large(info, abbrevs));
     let listed = narrow_in(0, DEBUG_LOCLISTS, places.listed).or(common);

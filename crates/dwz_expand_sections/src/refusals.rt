@@ -42,8 +42,8 @@ fn narrow_in(file: u32, section: u8, first: Option<u64>) -> Option<Refusal>
 
 /// The first refusal of a file whose values can all be copied: of the first operand that is too narrow, in its values, in its location
 /// lists, or in the values of its common file; or else of the first new section that is too large, where the new `.debug_info` and
-/// `.debug_abbrev` have so many bytes. Where there is none, places in the
-/// new `.debug_info` have four bytes. The file has the number 0, and its common file the number 1.
+/// `.debug_abbrev` have so many bytes. Where there is none, places in the new `.debug_info` have four bytes. The file has the number 0, and
+/// its common file the number 1.
 pub fn size_refusal(places: &NarrowPlaces, info: u64, abbrevs: u64) -> Option<Refusal>
     ensures found { (f : OneFile) → HavePlaces f places.now → HaveLengths f info abbrevs → IsFound (SizeRefusal f) result }
     ensures fits { IfNone result (info < 2 ^ 32 - 16) }

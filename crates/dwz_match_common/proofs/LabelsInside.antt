@@ -78,7 +78,8 @@ module _ (first : ℕ) (units : List (DwUnit ℕ)) (partial : ArePartial units) 
       let k = n - first in
       let same : first + k ≡ n = omega (arith, low) in
       let got = got_map (λ x. cross_targets (cross_top_map name x)) (cross_tops units) k t (nth_get first (cross_tops units) n k t nth (sym same)) in
-      let there = got_map (node 0) (padded first targets) n _ (subst (λ (i : ℕ). slice_get (padded first targets) i ≡ Some (cross_targets (cross_top_map name t))) same (padded_at first k targets _ got)) in (
+      let there = got_map (node 0) (padded first targets) n _
+      (subst (λ (i : ℕ). slice_get (padded first targets) i ≡ Some (cross_targets (cross_top_map name t))) same (padded_at first k targets _ got)) in (
         got_below nodes n _ there,
         ap (λ (x : Node). x.targets) (got_index_or nodes n _ (node 0 []) there),
       )
@@ -91,12 +92,16 @@ module _ (first : ℕ) (units : List (DwUnit ℕ)) (partial : ArePartial units) 
 
   each_inside : (k : ℕ) (ts : List ℕ) → slice_get targets k ≡ Some ts → All (λ t. t < length nodes) ts
   each_inside k ts got =
-      let low : k < length (cross_tops units) = (let l = got_below targets k ts got in let long = length-map (cross_tops units) (λ (x : CrossTop ℕ). cross_targets (cross_top_map name x)) in omega (arith, l, long)) in
+      let low : k < length (cross_tops units) = (
+      let l = got_below targets k ts got in
+      let long = length-map (cross_tops units) (λ (x : CrossTop ℕ). cross_targets (cross_top_map name x)) in
+      omega (arith, l, long)) in
       let o = got_there (cross_tops units) k low in
       let nth = nth_of first (cross_tops units) k o.0 o.1 in
       let shown : IsShownAs side (first + k) (cross_label (cross_top_map name o.0)) (cross_targets (cross_top_map name o.0)) = inl (o.0, inr nth, refl, refl) in
       let is = same_got targets k _ _ got (got_map (λ x. cross_targets (cross_top_map name x)) (cross_tops units) k o.0 o.1) in
-      subst (λ (w : List ℕ). All (λ t. t < length nodes) w) (sym is) (each_all side nodes has_nodes (cross_targets (cross_top_map name o.0)) (shown_inside side nodes has_nodes read named (first + k) _ _ shown))
+      subst (λ (w : List ℕ). All (λ t. t < length nodes) w) (sym is)
+      (each_all side nodes has_nodes (cross_targets (cross_top_map name o.0)) (shown_inside side nodes has_nodes read named (first + k) _ _ shown))
 
   pub targets_inside : (lists : List (List ℕ)) → lists ≡ targets → All (λ ts. All (λ t. t < first + length lists) ts) lists
   targets_inside lists e =

@@ -1,1 +1,2 @@
+mod CommonRead
 mod LabelsInside

@@ -1,5 +1,6 @@
 -- Which partial units refer into which others, by places that are named by their units.
-use Rattle.std.proofs.Common.{◌≡◌, ◌↔◌, ℕ, ◌+◌, ◌<◌, ◌≤◌, ◌==◌, All, Bool, true, false, List, [], ◌∷◌, length, map, None, Option, Some, Ok, slice_get, refl, sym, ap, subst, ◌∙◌, inl, inr, ⊎_elim, arith}
+use Rattle.std.proofs.Common.{◌≡◌, ◌↔◌, ℕ, ◌+◌, ◌<◌, ◌≤◌, ◌==◌, All, Bool, true, false, List, [], ◌∷◌, length, map, None, Option}
+use Rattle.std.proofs.Common.{Some, Ok, slice_get, refl, sym, ap, subst, ◌∙◌, inl, inr, ⊎_elim, arith}
 use Rattle.std.specs.Prelude.{◌&&◌, ◌||◌, not}
 use Rattle.std.specs.List.{list_any}
 use Rattle.std.proofs.lemmas.Bool.{cases_lt, false≢true, ne_eqb}
@@ -158,13 +159,15 @@ module _ (docs : List (Doc ℕ)) (doc : Doc ℕ) (partial : ArePartial doc.units
     refers_to p (v, got, goes) =
         let f = in_file (length docs) (unit_map spot (as_compile v)) in
         let z : 0 + p ≡ p = omega arith in
-        let nth : Nth 0 (whole_units (length docs) spot said) p f = subst (λ (n : ℕ). Nth 0 (whole_units (length docs) spot said) n f) z (nth_of 0 (whole_units (length docs) spot said) p f (at_part p v got)) in
+        let nth : Nth 0 (whole_units (length docs) spot said) p f =
+        subst (λ (n : ℕ). Nth 0 (whole_units (length docs) spot said) n f) z (nth_of 0 (whole_units (length docs) spot said) p f (at_part p v got)) in
         (f, subst (λ (w : List (FileUnit EntryName)). Nth 0 w p f) (sym (commons_are docs doc)) nth, sym (part_same v (got_in said p v got)) ∙ goes)
 
     refers_from : (p : ℕ) → PartRefers r p q → Refers name said p q
     refers_from p (f, nth, goes) =
         let z : p ≡ 0 + p = omega arith in
-        let here : slice_get (whole_units (length docs) spot said) p ≡ Some f = nth_get 0 (whole_units (length docs) spot said) p p f (subst (λ (w : List (FileUnit EntryName)). Nth 0 w p f) (commons_are docs doc) nth) z in
+        let here : slice_get (whole_units (length docs) spot said) p ≡ Some f =
+        nth_get 0 (whole_units (length docs) spot said) p p f (subst (λ (w : List (FileUnit EntryName)). Nth 0 w p f) (commons_are docs doc) nth) z in
         let low = got_below (whole_units (length docs) spot said) p f here in
         let long = length-map (map (unit_map spot) (map as_compile said)) (in_file (length docs)) ∙ length-map (map as_compile said) (unit_map spot) ∙ length-map said as_compile in
         let o = got_there said p (omega (arith, low, long)) in
@@ -229,7 +232,8 @@ module _ (docs : List (Doc ℕ)) (f : File) (doc : Doc ℕ) (s : IsCommonRead f 
 
   pub edges_put : (refs : List ℕ) → refs ≡ f.resolved.refs.items → (into : List (Option ℕ)) → ((name : ℕ → EntryName) → NamesUnits all name → into ≡ tops_of_refs name all refs)
       → (given : List (Option ℕ)) → given ≡ into → (starts : List ℕ) → starts ≡ f.resolved.starts.items → (old : List Edge) → old ≡ [] → (new : List Edge)
-      → ((around : Around ℕ) (refs : List ℕ) (name : ℕ → EntryName) (said : List (DwUnit ℕ)) → KnowsRefs around all name refs starts given → units_meaning around all ≡ Ok said → PutsUnits name said old new)
+      → ((around : Around ℕ) (refs : List ℕ) (name : ℕ → EntryName) (said : List (DwUnit ℕ)) → KnowsRefs around all name refs starts given → units_meaning around all ≡ Ok said
+      → PutsUnits name said old new)
       → PutsUnits named doc.units [] new
   edges_put refs is into are given same starts begin old none new put =
       let knows : KnowsRefs (around_given f None) all named refs starts given = record {

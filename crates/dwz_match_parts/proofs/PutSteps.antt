@@ -102,7 +102,8 @@ module _ (unit : ℕ) (raw : List RawUnit) (s : MeaningContext ℕ) (name : ℕ 
 
 -- ---- entries
 
-pub record RowsPutLeft (unit : ℕ) (raw : List RawUnit) (s : MeaningContext ℕ) (name : ℕ → EntryName) (into : List (Option ℕ)) (starts : List ℕ) (i end : ℕ) (old now : List Edge) (all : ℕ → Bool) : Type 0 where
+pub record RowsPutLeft (unit : ℕ) (raw : List RawUnit) (s : MeaningContext ℕ) (name : ℕ → EntryName) (into : List (Option ℕ)) (starts : List ℕ) (i end : ℕ) (old now : List Edge) (all : ℕ
+    → Bool) : Type 0 where
   pub numbers : List ℕ
   pub rows : List EntryRow
   pub after : List EntryRow

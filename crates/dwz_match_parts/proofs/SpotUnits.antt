@@ -1,5 +1,6 @@
 -- Of which unit the entry at a place of a common file is, by its name.
-use Rattle.std.proofs.Common.{◌≡◌, ◌↔◌, ℕ, zero, suc, ◌+◌, ◌<◌, ◌≤◌, ◌==◌, Bool, true, false, List, [], ◌∷◌, ◌++◌, length, map, get_or, Option, Some, slice_get, refl, sym, ap, subst, ◌∙◌, inl, inr, ⊎_elim, None, arith}
+use Rattle.std.proofs.Common.{◌≡◌, ◌↔◌, ℕ, zero, suc, ◌+◌, ◌<◌, ◌≤◌, ◌==◌, Bool, true, false, List, [], ◌∷◌, ◌++◌, length, map}
+use Rattle.std.proofs.Common.{get_or, Option, Some, slice_get, refl, sym, ap, subst, ◌∙◌, inl, inr, ⊎_elim, None, arith}
 use Rattle.std.specs.List.{range_with_len}
 use Rattle.std.proofs.lemmas.Bool.{eq-eqb, eqb-true, false≢true}
 use Rattle.std.proofs.lemmas.List.{append-nil}
@@ -21,7 +22,8 @@ use Rattle.dwz_def_tops.specs.Lists.{NoneTwice}
 use Rattle.dwz_def_tops.specs.Seen.{IsPartial}
 use Rattle.dwz_def_tops.specs.Shown.{unit_keys, units_keys}
 use Rattle.dwz_def_tops.specs.Spaces.{space_text, tops_under}
-use Rattle.dwz_def_tops.specs.Spots.{EntryName, Import, InChain, InType, PartialOf, PartialRoot, RootOf, SpaceAt, UnitOf, Within, below_spots, entry_spots, spot_in, spots_from, top_spots, tops_among, tops_of, units_of}
+use Rattle.dwz_def_tops.specs.Spots.{EntryName, Import, InChain, InType, PartialOf, PartialRoot, RootOf, SpaceAt, UnitOf, Within}
+use Rattle.dwz_def_tops.specs.Spots.{below_spots, entry_spots, spot_in, spots_from, top_spots, tops_among, tops_of, units_of}
 use Rattle.dwz_law_files.proofs.OwnNames.{Own, names_own}
 use Rattle.dwz_match.proofs.CommonTops.{spot_of}
 use Rattle.dwz_match.proofs.SpanFacts.{by_unit, part_numbers, range_in}
@@ -174,7 +176,8 @@ module _ (docs : List (Doc ℕ)) (common : Doc ℕ) (partial : ArePartial common
       → is_number (unit_in (tops_of (together r)) n) (length r.units + q) ≡ (k == q)
   within k q at n u tops low high =
       let o = (part_numbers docs common partial k n).0 (subst (λ (w : List ℕ). In n w) (sym tops) (range_in n at (tops_under u.below) low high)) in
-      let found : unit_in (tops_of (together r)) n ≡ Some (o.0).unit = ap (λ (i : ℕ). unit_in (tops_of (together r)) i) (sym o.2) ∙ units_in 0 (tops_of (together r)) o.0 (tops_numbers (together r)) o.1.0 in
+      let found : unit_in (tops_of (together r)) n ≡ Some (o.0).unit =
+      ap (λ (i : ℕ). unit_in (tops_of (together r)) i) (sym o.2) ∙ units_in 0 (tops_of (together r)) o.0 (tops_numbers (together r)) o.1.0 in
       let is = o.1.1 in
       ap (λ (w : Option ℕ). is_number w (length r.units + q)) found ∙ plus_same k q (o.0).unit (omega (arith, is)) (omega (arith, is))
 

@@ -38,7 +38,8 @@ some_same x n e = cc
 pub put_one : (unit x : ℕ) (old new : List Edge) → new ≡ old ++ record { key = unit; value = x } ∷ [] → PutsIf unit (λ n. Some x ≡ Some n) old new
 put_one unit x old new is e = (
   λ i. ⊎_elim (λ (a : In e old). inl a)
-      (λ (b : In e (record { key = unit; value = x } ∷ [])). ⊎_elim (λ (same : record { key = unit; value = x } ≡ e). inr (sym (ap (λ (w : Edge). w.key) same), ap (λ (w : Edge). Some w.value) same)) (λ no. absurd no) b)
+      (λ (b : In e (record { key = unit; value = x } ∷ [])). ⊎_elim
+      (λ (same : record { key = unit; value = x } ≡ e). inr (sym (ap (λ (w : Edge). w.key) same), ap (λ (w : Edge). Some w.value) same)) (λ no. absurd no) b)
       (in_cases e old (record { key = unit; value = x } ∷ []) (subst (λ (w : List Edge). In e w) is i)),
   λ h. subst (λ (w : List Edge). In e w) (sym is) (⊎_elim (λ (a : In e old). in_left e old (record { key = unit; value = x } ∷ []) a)
       (λ (p : (e.key ≡ unit) × (Some x ≡ Some e.value)). in_right e old (record { key = unit; value = x } ∷ []) (inl (one_edge unit x e p.0 (some_same x e.value p.1)))) h),
@@ -74,7 +75,8 @@ from_list s (e ∷ exprs) = by e.operands refl (from_list s exprs) where
   by : (os : List Operand) → e.operands ≡ os → FromOperands s (Loc (map parts_of exprs)) (operands_of exprs) → FromOperands s (Loc (parts_of e ∷ map parts_of exprs)) (e.operands ++ operands_of exprs)
   by [] none (inl more) = inl (or_second (list_any is_operand (parts_of e)) (list_any (list_any is_operand) (map parts_of exprs)) more)
   by [] none (inr rest) = inr (ap (λ (w : List Operand). targets s (w ++ operands_of exprs)) none ∙ rest)
-  by (o ∷ os) some rest = inl (or_first (list_any is_operand (parts_of e)) (list_any (list_any is_operand) (map parts_of exprs)) (ap (λ (w : List Operand). list_any is_operand (parts_from e.at e.bytes w)) some))
+  by (o ∷ os) some rest = inl (or_first (list_any is_operand (parts_of e)) (list_any (list_any is_operand) (map parts_of exprs))
+      (ap (λ (w : List Operand). list_any is_operand (parts_from e.at e.bytes w)) some))
 
 module _ (s : MeaningContext ℕ) (a : RawAttr) (v : Value ℕ) where
   nothing : (plain : Plain) → v ≡ only plain → NoRefs v
@@ -167,7 +169,8 @@ module _ (s : MeaningContext ℕ) (a : RawAttr) (v : Value ℕ) where
   first_is name (t ∷ into) p h = h.0
 
   -- an entry is in the unit that comes first
-  pub one_reference : is_entry (class_of a.pair.form) ≡ true → meaning s a ≡ Ok v → (name : ℕ → EntryName) (into : List (Option ℕ)) → AreInto name into (value_refs v) → (n : ℕ) → Is name n ↔ (get_or into 0 None ≡ Some n)
+  pub one_reference : is_entry (class_of a.pair.form) ≡ true → meaning s a ≡ Ok v → (name : ℕ → EntryName) (into : List (Option ℕ)) → AreInto name into (value_refs v)
+      → (n : ℕ) → Is name n ↔ (get_or into 0 None ≡ Some n)
   one_reference e means name into h n =
       let o = entry_by (class_of a.pair.form) e (((value_agrees s a).ok v).0 means) in
       let p = o.0 in

@@ -81,7 +81,8 @@ pub(crate) fn put_value<'a>(
 ) -> Result<&'a [Option<u32>], NoMemory>
     ensures puts { (s : MeaningContext ℕ) (at : ℕ) (v : Value ℕ) (name : ℕ → EntryName) → meaning s (stored at end pair.now raw.now) ≡ Ok v
         → AreInto name into.now (value_refs v) → OnOk result
-        (PutsIf unit (λ n. goes_into n (attr_map name (attr_with (stored at end pair.now raw.now) v)) ≡ true) edges.old.items edges.new.items) }
+        (PutsIf unit (λ n. goes_into n (attr_map name (attr_with (stored at end pair.now raw.now) v)) ≡ true) edges.old.items
+        edges.new.items) }
     ensures rest { (s : MeaningContext ℕ) (at : ℕ) (v : Value ℕ) → meaning s (stored at end pair.now raw.now) ≡ Ok v
         → IfOk result (λ rest. rest.now ≡ drop (length (value_refs v)) into.now) }
 {

@@ -20,8 +20,8 @@ group-requires c =
     let doc = c.requires.said.0 in
     let s = c.requires.said.1 in
     let f = c.args.common.now in
-    let e = edges_put [] f doc s c.as_slice.result.now c.as_slice.ensures.value c.in_ok-into.into.items c.in_ok-into.ensures c.as_slice-2.result.now c.as_slice-2.ensures.value c.as_slice-3.result.now
-    c.as_slice-3.ensures.value c.new-edges.result.items c.new-edges.ensures.items c.put_units.new.edges.items c.in_ok-put_units.ensures in
+    let e = edges_put [] f doc s c.as_slice.result.now c.as_slice.ensures.value c.in_ok-into.into.items c.in_ok-into.ensures c.as_slice-2.result.now c.as_slice-2.ensures.value
+    c.as_slice-3.result.now c.as_slice-3.ensures.value c.new-edges.result.items c.new-edges.ensures.items c.put_units.new.edges.items c.in_ok-put_units.ensures in
     subst (λ (w : List Edge). All (λ e. e.key < c.args.parts) w) (sym c.as_slice-4.ensures.value)
     (keys_low [] doc s.partial s.parts c.args.parts (room [] f doc s c.args.parts c.requires.parts) c.put_units.new.edges.items e)
 
@@ -29,10 +29,11 @@ pub returns-clause-refers : goal.returns-clause-refers
 returns-clause-refers c = λ docs doc s. (
     let f = c.args.common.now in
     let edges = c.put_units.new.edges.items in
-    let e = edges_put docs f doc s c.as_slice.result.now c.as_slice.ensures.value c.in_ok-into.into.items c.in_ok-into.ensures c.as_slice-2.result.now c.as_slice-2.ensures.value c.as_slice-3.result.now
-    c.as_slice-3.ensures.value c.new-edges.result.items c.new-edges.ensures.items edges c.in_ok-put_units.ensures in
+    let e = edges_put docs f doc s c.as_slice.result.now c.as_slice.ensures.value c.in_ok-into.into.items c.in_ok-into.ensures c.as_slice-2.result.now c.as_slice-2.ensures.value
+    c.as_slice-3.result.now c.as_slice-3.ensures.value c.new-edges.result.items c.new-edges.ensures.items edges c.in_ok-put_units.ensures in
     if_ok c.group.result (λ g. g ≡ grouped c.args.parts c.as_slice-4.result.now) (λ g. (p q : ℕ) → In q (list_at g p) ↔ PartRefers (reused_of docs doc) p q)
-    (λ g is. targets_refer docs doc s.partial s.parts c.args.parts (room [] f doc s c.args.parts c.requires.parts) edges e g (is ∙ ap (grouped c.args.parts) c.as_slice-4.ensures.value)) c.group.ensures)
+    (λ g is. targets_refer docs doc s.partial s.parts c.args.parts (room [] f doc s c.args.parts c.requires.parts) edges e g
+    (is ∙ ap (grouped c.args.parts) c.as_slice-4.ensures.value)) c.group.ensures)
 
 pub returns-clause-len : goal.returns-clause-len
 returns-clause-len c = if_ok c.group.result (λ g. g ≡ grouped c.args.parts c.as_slice-4.result.now) (λ g. length g ≡ c.args.parts)
@@ -44,7 +45,8 @@ returns-clause-below c =
     let s = c.requires.said.1 in
     let f = c.args.common.now in
     let edges = c.put_units.new.edges.items in
-    let e = edges_put [] f doc s c.as_slice.result.now c.as_slice.ensures.value c.in_ok-into.into.items c.in_ok-into.ensures c.as_slice-2.result.now c.as_slice-2.ensures.value c.as_slice-3.result.now
-    c.as_slice-3.ensures.value c.new-edges.result.items c.new-edges.ensures.items edges c.in_ok-put_units.ensures in
+    let e = edges_put [] f doc s c.as_slice.result.now c.as_slice.ensures.value c.in_ok-into.into.items c.in_ok-into.ensures c.as_slice-2.result.now c.as_slice-2.ensures.value
+    c.as_slice-3.result.now c.as_slice-3.ensures.value c.new-edges.result.items c.new-edges.ensures.items edges c.in_ok-put_units.ensures in
     if_ok c.group.result (λ g. g ≡ grouped c.args.parts c.as_slice-4.result.now) (AreBelow c.args.parts)
-    (λ g is. targets_low [] doc s.partial s.parts c.args.parts (room [] f doc s c.args.parts c.requires.parts) edges e g (is ∙ ap (grouped c.args.parts) c.as_slice-4.ensures.value)) c.group.ensures
+    (λ g is. targets_low [] doc s.partial s.parts c.args.parts (room [] f doc s c.args.parts c.requires.parts) edges e g
+    (is ∙ ap (grouped c.args.parts) c.as_slice-4.ensures.value)) c.group.ensures

@@ -6,3 +6,4 @@ pub mod FileKeys
 pub mod OneGraph
 pub mod PlanLemmas
 pub mod CopyBounds
+pub mod PlanSteps

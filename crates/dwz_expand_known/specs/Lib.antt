@@ -1,1 +1,2 @@
 pub mod OneKnown
+pub mod Plans

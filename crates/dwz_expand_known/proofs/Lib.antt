@@ -7,3 +7,4 @@ pub mod OneGraph
 pub mod PlanLemmas
 pub mod CopyBounds
 pub mod PlanSteps
+pub mod RefusalSteps

@@ -1,8 +1,14 @@
 -- The plan of the new units of files that were read back.
-use Rattle.std.specs.Prelude.{◌≡◌, ℕ, length}
+use Rattle.std.specs.Prelude.{◌≡◌, ℕ, length, Result, Ok, Err}
+use Rattle.dwz_model.specs.declared.fault.GraphErr.{GraphErr}
+use Rattle.dwz_model.specs.declared.fault.GraphErr.TheVariants.{NoMemory, Refused}
+use Rattle.dwz_model.specs.declared.fault.Refusal.{Refusal}
+use Rattle.dwz_def_reading.specs.FirstOf.{OfFirst}
+use Rattle.dwz_def_expand.specs.OneFile.{OneFile}
+use Rattle.dwz_def_expand.specs.Output.{SiteRefusal, sites_of_file}
 use Rattle.dwz_def_cross.specs.Tops.{WithCommon}
 use Rattle.dwz_expand_sources.specs.Numbers.{root_numbers}
-use Rattle.dwz_expand_sources.specs.Sources.{AreSources}
+use Rattle.dwz_expand_sources.specs.Sources.{AreSources, all_entries}
 use Rattle.dwz_expand_copies.specs.Rows.{AreCopies}
 use Rattle.dwz_expand_values.specs.Faults.{count_in}
 use Rattle.dwz_expand_known.specs.declared.files.SourceFiles.{SourceFiles}
@@ -16,3 +22,10 @@ pub record IsPlanOf (s : SourceFiles) (w : WithCommon ℕ) (p : Plan) : Type 0 w
   pub numbers : p.numbers.roots ≡ root_numbers p.sources.ranges 0 p.sources.units
   pub copies : AreCopies p.sources p.numbers.roots p.copies
   pub many : length p.copies.first ≡ count_in s.own s.common
+  pub all : length (all_entries w) ≡ count_in s.own s.common
+
+-- a call answers the first value of a file that can't be copied, or there is none
+abbrev pub AnswersSites : {Y : Type 0} → OneFile → Result Y GraphErr → Type 0
+AnswersSites f (Ok y) = (q : Refusal) → ¬ OfFirst (SiteRefusal f) (sites_of_file f) q
+AnswersSites f (Err NoMemory) = Unit {0}
+AnswersSites f (Err (Refused q)) = OfFirst (SiteRefusal f) (sites_of_file f) q

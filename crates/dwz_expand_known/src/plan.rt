@@ -22,8 +22,8 @@ pub struct Plan {
     pub copies: Copies,
 }
 
-// How many entries the file and its common one have.
-fn entries_of(files: &SourceFiles) -> u32
+/// How many entries the file and its common one have.
+pub(crate) fn entries_of(files: &SourceFiles) -> u32
     requires { CanBeLookedUp files.now }
     ensures { result ≡ count_in files.now.own files.now.common }
 {

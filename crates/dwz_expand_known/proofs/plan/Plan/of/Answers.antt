@@ -30,4 +30,5 @@ returns c = λ r k.
       numbers = c.in_ok-numbers.ensures.roots;
       copies = c.in_ok-copies.ensures.copies;
       many = c.in_ok-copies.ensures.entries ∙ c.entries_of-entries.ensures;
+      all = entries_known r c.args.own.now (option_map (λ f. f.now) c.args.common) c.args.files.now k;
     }

@@ -9,3 +9,4 @@ pub mod StoredLemmas
 pub mod NamingLemmas
 pub mod GivenLemmas
 pub mod RefusalLemmas
+pub mod FewLemmas

@@ -2,11 +2,13 @@
 
 ghost use Rattle.dwz_expand_sections.specs.ListLaws.{ListsLaw};
 ghost use Rattle.dwz_expand_sections.specs.NumberLaws.{ListNumbersLaw};
-ghost use Rattle.dwz_expand_sections.specs.StartLaws.{StartsLaw};
+ghost use Rattle.dwz_expand_sections.specs.StartLaws.{FewLaw, StartsLaw};
 
-/// Where a file reads, so does its `.debug_aranges`, and its units that aren't partial ascend: what `ranges_after` asks for.
+/// Where a file reads, so does its `.debug_aranges`, and its units that aren't partial ascend; and new units that are laid begin at places
+/// of four bytes, where together they aren't too large: what `ranges_after` asks for.
 pub fn start_laws()
-    ensures { StartsLaw }
+    ensures starts { StartsLaw }
+    ensures few { FewLaw }
 {}
 
 /// Where a file reads, the operands of its location lists end within `.debug_loclists` and stand apart; and each operand of a list that a

@@ -126,7 +126,8 @@ all_done x n order all done = record {
       subst (λ (k : ℕ). ¬ RefusesUnit x w stands k u g) at ((done.each i o.0 o.1).free w stands says u found g)));
 }
 
-pub refused_all : (x : NewFile) (n : ℕ) (order : List UnitLines) (e : ReadErr) → n < length x.sources.now.units → AreDone x n order → RefusesAt {Y = Unit {0}} x n (Err e) → IsRefused {Y = Unit {0}} x (Err e)
+pub refused_all : (x : NewFile) (n : ℕ) (order : List UnitLines) (e : ReadErr) → n < length x.sources.now.units → AreDone x n order → RefusesAt {Y = Unit {0}} x n (Err e)
+    → IsRefused {Y = Unit {0}} x (Err e)
 refused_all x n order NoMemory lt done r = tt
 refused_all x n order (Refused f) lt done r = λ w stands says. (
     let at : n ≡ 0 + n = omega arith in

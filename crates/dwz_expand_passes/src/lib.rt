@@ -1,8 +1,8 @@
 //! The two passes over the new units of a file that is written without its partial units (DWARF 5, 3.2.5): `lay` measures them, and `write`
 //! writes them.
 //!
-//! Both take the same way, over all new units and the entries of each, which are the copies of the sources in a plan, and hand each entry to
-//! a `Pass`. So they refuse alike: at the first value that can't be copied. What is laid and what is written is one row of new units, the
+//! Both take the same way, over all new units and the entries of each, which are the copies of the sources in a plan, and hand each entry
+//! to a `Pass`. So they refuse alike: at the first value that can't be copied. What is laid and what is written is one row of new units, the
 //! only one that has the copies of the plan's sources: so `dwz_law_sources` says of it that it is the new file.
 //!
 //! Read first: `specs/Passes.antt`.

@@ -47,4 +47,5 @@ pass_known-requires-clause-knows g c = λ w stands says. (
     let at = c.requires.here in
     let inside : c.args.copies.now.unit < length x.sources.now.units = omega (arith, unit, at) in
     let paths = paths_told x w stands says c.args.n new there (slice_index_or x.own.heres.now new.unit blank) lt here c.go_to.new.self.paths c.in_ok-go_to.ensures.paths in
-    knows_here _ w stands x.sources.now c.requires.copies.0 says.own says.own_stands says.common says.are says.apart c.requires.copies.1 (all_many x w stands says ∙ sym c.requires.many) inside at paths)
+    knows_here _ w stands x.sources.now c.requires.copies.0 says.own says.own_stands says.common says.are says.apart c.requires.copies.1
+    (all_many x w stands says ∙ sym c.requires.many) inside at paths)

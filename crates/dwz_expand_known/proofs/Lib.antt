@@ -8,3 +8,4 @@ pub mod PlanLemmas
 pub mod CopyBounds
 pub mod PlanSteps
 pub mod RefusalSteps
+pub mod NewFiles

@@ -1,5 +1,6 @@
 use Rattle.dwz_expand_known.proofs.OneGraph.{one_known}
 use Rattle.dwz_expand_known.proofs.PlanLemmas.{keys_known}
+use Rattle.dwz_expand_known.proofs.NewFiles.{new_file}
 use Rattle.dwz_expand_known.proofs.laws.known_laws.Goals as goal
 
 pub returns-clause-files : goal.returns-clause-files
@@ -19,3 +20,6 @@ returns-clause-ready c = λ s x starts k ready plan copies many. record {
   many = many;
   few = ready.few;
 }
+
+pub returns-clause-new : goal.returns-clause-new
+returns-clause-new c = λ r own common s k x order are have. new_file r own common s k x order are have

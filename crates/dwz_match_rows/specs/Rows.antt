@@ -12,7 +12,8 @@ use Rattle.dwz_takes.specs.Takes.{list_at}
 -- rows that have the tops, the names of spaces, and what partial units refer to
 abbrev pub SpacesLaw : Type 0
 SpacesLaw =
-    (docs : List (Doc ℕ)) (common : Doc ℕ) (movable : List Bool) (rows : Rows) (names : ShowNames (reused_of docs common) rows.unit_names rows.part_names)
+    (docs : List (Doc ℕ)) (common : Doc ℕ) (movable : List Bool) (rows : Rows)
+    (names : ShowNames (reused_of docs common) rows.unit_names rows.part_names)
     → HaveTops docs common movable rows
     → ((p q : ℕ) → In q (list_at rows.part_targets p) ↔ PartRefers (reused_of docs common) p q)
     → ShowSpaces (reused_of docs common) names.name rows

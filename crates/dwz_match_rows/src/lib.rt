@@ -1,11 +1,15 @@
 //! Rows of files and of a finished common file beside them, from what was found of both.
 //!
-//! There is no running code here yet, and nothing to believe. `space_laws`: rows that have the tops, the names of spaces, and what partial
+//! `top_units` has the unit of each top of files.
+//!
+//! A law, `space_laws`: rows that have the tops, the names of spaces, and what partial
 //! units refer to, show the spaces as is asked for.
 //!
 //! Read first: `RowLaws.antt` of `dwz_match`, then `specs/Rows.antt`.
 #![tactic(auto)]
 
 mod laws;
+mod tops;
 
 pub use laws::space_laws;
+pub use tops::top_units;

@@ -1,1 +1,2 @@
 mod SpaceRows
+mod UnitsFew

@@ -1,6 +1,6 @@
 //! Rows of files and of a finished common file beside them, from what was found of both.
 //!
-//! `top_units` has the unit of each top of files.
+//! `top_units` has the unit of each top of files, `tops_of_parts` the tops of each partial unit of a common file.
 //!
 //! A law, `space_laws`: rows that have the tops, the names of spaces, and what partial
 //! units refer to, show the spaces as is asked for.
@@ -9,7 +9,9 @@
 #![tactic(auto)]
 
 mod laws;
+mod parts;
 mod tops;
 
 pub use laws::space_laws;
+pub use parts::tops_of_parts;
 pub use tops::top_units;

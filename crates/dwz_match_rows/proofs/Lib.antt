@@ -1,2 +1,3 @@
 mod SpaceRows
 mod UnitsFew
+mod AllInside

@@ -134,6 +134,8 @@ module _ (placed : ArePlaced) (given : List (List ℕ)) (first : List ℕ) (own 
         reads = f_reads;
         content = refl;
         common = refl;
+        raw = refl;
+        aranges = is.aranges;
         w = w;
         place = at_file 0;
         stand = numbers_stand f w (at_file 0) said (own_apart 0) (sources_view so.sections.now) sources;
@@ -245,6 +247,8 @@ module _ (placed : ArePlaced) (given : List (List ℕ)) (bytes first : List ℕ)
         reads = f_reads;
         content = refl;
         common = refl;
+        raw = refl;
+        aranges = is.aranges;
         w = w;
         place = place;
         stand = numbers_stand f w place said apart (sources_view so.sections.now) sources;

@@ -2,6 +2,7 @@
 use Rattle.std.specs.Prelude.{◌≡◌, ℕ, ◌+◌, ◌<◌, ◌≤◌, ◌^◌, List, [], ◌∷◌, get_or, length, Option, Some, None}
 use Rattle.std.specs.Option.{option_map}
 use Rattle.dwz_model.specs.Lists.{Each, NoneTwice}
+use Rattle.dwz_def_reading.specs.Files.{debug_aranges}
 use Rattle.dwz_def_reading.specs.Places.{Place}
 use Rattle.dwz_def_reading.specs.Units.{entries_in}
 use Rattle.dwz_def_tops.specs.Shown.{units_keys}
@@ -109,6 +110,8 @@ pub record IsOneKnown (r : FilesRead) (own : File) (common_file : Option File) (
   pub reads : ReadsOne f
   pub content : r.back ≡ f.file.bytes ∷ []
   pub common : r.common ≡ option_map (λ c. c.bytes) f.common
+  pub raw : f.file.raw ≡ units_of own.units
+  pub aranges : own.sections.aranges.now ≡ debug_aranges f.file.bytes
   pub w : WithCommon ℕ
   pub place : ℕ → Place
   pub stand : StandForPlaces f place same (choice same w (sources_view s.own.sections.now)) (stands_of f place) w

@@ -1,5 +1,6 @@
 -- What is known of one file, as its passes take it; and that one of which each value can be copied isn't refused.
-use Rattle.std.proofs.Common.{◌≡◌, ◌<◌, ℕ, List, [], ◌∷◌, length, Option, Some, None, Result, Ok, Err, refl, subst, arith, inl, inr}
+use Rattle.std.proofs.Common.{◌≡◌, ◌<◌, ◌∙◌, ℕ, suc, List, [], ◌∷◌, length, Option, Some, None, Result, Ok, Err, refl, sym, ap, subst, arith, inl, inr}
+use Rattle.std.proofs.lemmas.List.{length-map}
 use Rattle.dwz_model.specs.declared.fault.Fault.{Fault}
 use Rattle.dwz_model.specs.declared.fault.GraphErr.{GraphErr}
 use Rattle.dwz_model.specs.declared.fault.GraphErr.TheVariants.{NoMemory, Refused}
@@ -7,9 +8,13 @@ use Rattle.dwz_model.specs.declared.fault.ReadErr.{ReadErr}
 use Rattle.dwz_model.specs.declared.fault.ReadErr.TheVariants.{Refused as RefusedFor}
 use Rattle.dwz_model.specs.declared.fault.Refusal.{Refusal}
 use Rattle.dwz_def_output.specs.Refusals.{InFile}
+use Rattle.dwz_def_reading.specs.Documents.{DwUnit, unit_map}
 use Rattle.dwz_def_reading.specs.FirstOf.{OfFirst}
-use Rattle.dwz_def_cross.specs.Tops.{WithCommon}
-use Rattle.dwz_def_expand.specs.OneFile.{OneFile}
+use Rattle.dwz_def_reading.specs.Places.{Place}
+use Rattle.dwz_def_cross.specs.Tops.{WithCommon, whole_units}
+use Rattle.dwz_def_expand.specs.Chosen.{Choice}
+use Rattle.dwz_def_expand.specs.OneFile.{OneFile, said_by_file, same_place}
+use Rattle.dwz_def_expand.specs.Output.{wholes}
 use Rattle.dwz_def_expand.specs.Refusals.{Site, SiteFault, Where, sites}
 use Rattle.dwz_def_expand.specs.Source.{source_places}
 use Rattle.dwz_graph.specs.declared.file.File.{File}
@@ -19,10 +24,13 @@ use Rattle.dwz_imports.specs.Imports.{same}
 use Rattle.dwz_expand_layout.specs.Entries.{UnitLines}
 use Rattle.dwz_expand_layout.specs.Laid.{Made, laid}
 use Rattle.dwz_expand_layout.specs.Shown.{keys_of}
-use Rattle.dwz_expand_sources.specs.Sources.{AreSources, all_entries}
+use Rattle.dwz_expand_sources.specs.declared.sources.NewUnit.{NewUnit}
+use Rattle.dwz_expand_sources.specs.Sources.{AreSources, Sources, all_entries}
 use Rattle.dwz_expand_values.specs.Faults.{KnowsBoth, count_in, file_number}
-use Rattle.dwz_law_places.specs.Renamed.{copy_map}
+use Rattle.dwz_law_places.proofs.SourceMaps.{whole_mapped}
+use Rattle.dwz_law_places.specs.Renamed.{copy_map, renamed}
 use Rattle.dwz_law_faults.specs.Refused.{FaultLaw, NumbersLaw}
+use Rattle.dwz_law_sources.specs.Copied.{HaveCopies}
 use Rattle.dwz_law_sources.specs.Numbered.{key_in}
 use Rattle.dwz_law_sources.specs.OfFile.{FileLaw}
 use Rattle.dwz_expand_passes.specs.declared.file.NewFile.{NewFile}
@@ -102,11 +110,25 @@ never faults numbers f x k free fault h =
 
 -- ---- new units
 
+have_many : (w : WithCommon ℕ) (s : Sources) (c : Choice ℕ) (n : ℕ) (xs : List NewUnit) (us : List (DwUnit ℕ)) (order : List UnitLines) → HaveCopies w s c n xs us order → length order ≡ length us
+have_many w s c n [] [] [] h = refl
+have_many w s c n [] [] (o ∷ order) h = absurd h
+have_many w s c n [] (u ∷ us) order h = absurd h
+have_many w s c n (x ∷ xs) [] order h = absurd h
+have_many w s c n (x ∷ xs) (u ∷ us) [] h = absurd h
+have_many w s c n (x ∷ xs) (u ∷ us) (o ∷ order) h = (let rest = have_many w s c (suc n) xs us order h.1 in omega (arith, rest))
+
+wholes_many : (f : OneFile) (w : WithCommon ℕ) (place : ℕ → Place) → ((p q : ℕ) → same_place (place p) (place q) ≡ same p q) → said_by_file f ≡ renamed place w → length (wholes f) ≡ length (whole_units w.own)
+wholes_many f w place alike said =
+    ap (λ (v : WithCommon Place). length (whole_units v.own)) said ∙ ap (λ (us : List (DwUnit Place)). length us) (whole_mapped place same same_place alike w.own)
+    ∙ length-map (whole_units w.own) (unit_map place)
+
 pub laid_of : FileLaw → (f : OneFile) (x : NewFile) (k : IsOfOne f x) (made : Made) → (order : List UnitLines) × (made ≡ laid order) × AreNew x order → IsLaidOf f x made
 laid_of law f x k made h = record {
   order = h.0;
   is = h.1;
   new = h.2;
+  many = have_many k.w x.sources.now (forms_in x k.w) 0 x.sources.now.units (whole_units k.w.own) h.0 (h.2.copies k.w (stands_of f k.place) k.says) ∙ sym (wholes_many f k.w k.place k.stand.alike k.stand.said);
   key = λ i. copy_map k.place (key_in k.w i);
   file = law f k.w k.place (forms_in x k.w) x.sources.now h.0 k.stand.said k.apart k.stand.choice k.says.are k.says.apart (h.2.copies k.w (stands_of f k.place) k.says);
 }

@@ -1,17 +1,20 @@
 -- What is answered of the one file of a graph, written without its partial units (DWARF 5, 3.2.5).
-use Rattle.std.specs.Prelude.{◌≡◌, ℕ, List, [], ◌∷◌, Result, Ok, Err}
+use Rattle.std.specs.Prelude.{◌≡◌, ℕ, List, [], ◌∷◌, length, Result, Ok, Err}
 use Rattle.std.specs.Option.{option_map}
 use Rattle.dwz_model.specs.declared.fault.GraphErr.{GraphErr}
 use Rattle.dwz_model.specs.declared.fault.GraphErr.TheVariants.{NoMemory, Refused}
 use Rattle.dwz_model.specs.declared.fault.Refusal.{Refusal}
+use Rattle.dwz_def_reading.specs.Files.{debug_aranges}
 use Rattle.dwz_def_reading.specs.FirstOf.{OfFirst}
 use Rattle.dwz_def_reading.specs.Places.{Place}
 use Rattle.dwz_def_encoding.specs.Writing.{joined}
 use Rattle.dwz_def_cross.specs.Tops.{WithCommon}
 use Rattle.dwz_def_expand.specs.OneFile.{OneFile, ReadsOne}
-use Rattle.dwz_def_expand.specs.Output.{SiteRefusal, new_sections, sites_of_file}
+use Rattle.dwz_def_expand.specs.Output.{SiteRefusal, new_sections, sites_of_file, wholes}
 use Rattle.dwz_def_expand.specs.Source.{Copy}
+use Rattle.dwz_graph.specs.declared.file.File.{File}
 use Rattle.dwz_graph.specs.Files.{FilesRead}
+use Rattle.dwz_unit.specs.Rows.{units_of}
 use Rattle.dwz_imports.specs.Imports.{same}
 use Rattle.dwz_expand_layout.specs.Entries.{UnitLines}
 use Rattle.dwz_expand_layout.specs.Laid.{Made, laid}
@@ -65,5 +68,12 @@ pub record IsLaidOf (f : OneFile) (x : NewFile) (made : Made) : Type 0 where
   pub order : List UnitLines
   pub is : made ≡ laid order
   pub new : AreNew x order
+  pub many : length order ≡ length (wholes f)
   pub key : ℕ → Copy Place
   pub file : IsNewFile f key order
+
+-- it is kept of the file
+pub record IsFileOf (f : OneFile) (own : File) : Type 0 where
+  pub reads : ReadsOne f
+  pub raw : f.file.raw ≡ units_of own.units
+  pub aranges : own.sections.aranges.now ≡ debug_aranges f.file.bytes

@@ -118,7 +118,8 @@ have_many w s c n (x ∷ xs) [] order h = absurd h
 have_many w s c n (x ∷ xs) (u ∷ us) [] h = absurd h
 have_many w s c n (x ∷ xs) (u ∷ us) (o ∷ order) h = (let rest = have_many w s c (suc n) xs us order h.1 in omega (arith, rest))
 
-wholes_many : (f : OneFile) (w : WithCommon ℕ) (place : ℕ → Place) → ((p q : ℕ) → same_place (place p) (place q) ≡ same p q) → said_by_file f ≡ renamed place w → length (wholes f) ≡ length (whole_units w.own)
+wholes_many : (f : OneFile) (w : WithCommon ℕ) (place : ℕ → Place) → ((p q : ℕ) → same_place (place p) (place q) ≡ same p q) → said_by_file f ≡ renamed place w
+    → length (wholes f) ≡ length (whole_units w.own)
 wholes_many f w place alike said =
     ap (λ (v : WithCommon Place). length (whole_units v.own)) said ∙ ap (λ (us : List (DwUnit Place)). length us) (whole_mapped place same same_place alike w.own)
     ∙ length-map (whole_units w.own) (unit_map place)
@@ -128,7 +129,9 @@ laid_of law f x k made h = record {
   order = h.0;
   is = h.1;
   new = h.2;
-  many = have_many k.w x.sources.now (forms_in x k.w) 0 x.sources.now.units (whole_units k.w.own) h.0 (h.2.copies k.w (stands_of f k.place) k.says) ∙ sym (wholes_many f k.w k.place k.stand.alike k.stand.said);
+  many =
+      have_many k.w x.sources.now (forms_in x k.w) 0 x.sources.now.units (whole_units k.w.own) h.0 (h.2.copies k.w (stands_of f k.place) k.says)
+      ∙ sym (wholes_many f k.w k.place k.stand.alike k.stand.said);
   key = λ i. copy_map k.place (key_in k.w i);
   file = law f k.w k.place (forms_in x k.w) x.sources.now h.0 k.stand.said k.apart k.stand.choice k.says.are k.says.apart (h.2.copies k.w (stands_of f k.place) k.says);
 }

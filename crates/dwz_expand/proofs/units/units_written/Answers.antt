@@ -10,7 +10,8 @@ unreachable-requires c =
     let f = c.requires.copied.0 in
     let k = c.requires.copied.1 in
     never c.fault_laws.ensures.faults c.fault_laws.ensures.files f c.args.file.now k c.requires.copied.2 c.in-Err-Refused.field-0-0
-    (refused_so c.args.file.now c.write.result c.in-Err-Refused.field-0 c.in-Err-Refused.field-0-0 c.in-Err-Refused.is c.in-Err-Refused.field-0-is c.write.ensures.refused k.w (stands_of f k.place) k.says)
+    (refused_so c.args.file.now c.write.result c.in-Err-Refused.field-0 c.in-Err-Refused.field-0-0 c.in-Err-Refused.is c.in-Err-Refused.field-0-is c.write.ensures.refused k.w
+    (stands_of f k.place) k.says)
 
 pub returns-in-Ok : goal.returns-in-Ok
 returns-in-Ok c = λ f k l.

@@ -1,0 +1,2 @@
+mod TopRows
+mod TopSteps

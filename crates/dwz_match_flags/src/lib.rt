@@ -1,0 +1,12 @@
+//! Which tops of a finished common file may move, as looks across files go over them.
+//!
+//! `tops_bind` tells of each top of the file whether an entry of it binds it.
+//!
+//! Read first: `Alike.antt` of `dwz_def_tops`, then `specs/Binding.antt`.
+#![tactic(auto)]
+
+mod entry;
+mod tops;
+mod values;
+
+pub use tops::tops_bind;

@@ -1,2 +1,4 @@
 mod TopRows
 mod TopSteps
+mod SpotNames
+mod IntoSteps

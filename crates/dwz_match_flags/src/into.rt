@@ -1,0 +1,49 @@
+//! Which tops of a common file its references go into.
+
+ghost use Rattle.std.specs.Prelude.{◌≡◌, ℕ, ◌<◌, List, IfOk, Some, length, slice_get};
+ghost use Rattle.dwz_check_index.specs.Both.{from_top};
+ghost use Rattle.dwz_check_index.specs.Index.{Called, IsCrossIndex, ListedEntry, ShowNames};
+ghost use Rattle.dwz_def_reading.specs.Documents.{Doc};
+ghost use Rattle.dwz_def_reading.specs.Units.{entries_in};
+ghost use Rattle.dwz_def_taken.specs.Beside.{own_tops, reused_of};
+ghost use Rattle.dwz_match_common.specs.Read.{IsCommonRead};
+ghost use Rattle.dwz_match_flags.specs.Into.{common_name, top_called};
+ghost use Rattle.dwz_move.specs.Known.{tops_of_refs};
+ghost use Rattle.dwz_unit.specs.Rows.{units_of};
+
+use dwz_check_index::{CrossIndex, Stands};
+use dwz_graph::File;
+use dwz_model::NoMemory;
+use std::alloc::Global;
+
+// The top that an entry is in, by its number.
+fn top_of(index: &CrossIndex, entry: u32) -> Option<u32>
+    requires { entry < length index.now.steps }
+    ensures { (names : List Called) (entries : List (ListedEntry ℕ)) (name : Called) → ShowNames names entries index.now.steps
+        → slice_get names entry ≡ Some name → result ≡ top_called name.1 }
+{
+    match index.stands(entry) {
+        Stands::InTop(top) => Some(top),
+        _ => None,
+    }
+}
+
+/// For each reference of a common file the top that it goes into, by its index, which has the numbers of its tops.
+pub fn tops_into(
+    alloc: Global,
+    common: &File,
+    index: &CrossIndex,
+) -> Result<Vec<Option<u32>>, NoMemory>
+    requires said { (doc : Doc ℕ) × IsCommonRead common.now doc }
+    requires steps { length index.now.steps ≡ entries_in (units_of common.now.units) }
+    ensures { (docs : List (Doc ℕ)) (doc : Doc ℕ) → IsCommonRead common.now doc
+        → IsCrossIndex (from_top (own_tops (reused_of docs doc))) doc.units index.now → IfOk result (λ into. into.items
+        ≡ tops_of_refs (common_name docs doc) (units_of common.now.units) common.now.resolved.refs.items) }
+{
+    let refs = common.resolved.refs.as_slice();
+    let mut into = Vec::with_capacity(alloc, refs.len())?;
+    for entry in refs {
+        into.push(top_of(index, *entry))?;
+    }
+    Ok(into)
+}

@@ -6,6 +6,7 @@ ghost use Rattle.dwz_check_index.specs.Index.{Called, IsCrossIndex, ListedEntry,
 ghost use Rattle.dwz_def_reading.specs.Documents.{Doc};
 ghost use Rattle.dwz_def_reading.specs.Units.{entries_in};
 ghost use Rattle.dwz_def_taken.specs.Beside.{own_tops, reused_of};
+ghost use Rattle.dwz_graph.specs.Resolved.{AreEntries};
 ghost use Rattle.dwz_match_common.specs.Read.{IsCommonRead};
 ghost use Rattle.dwz_match_flags.specs.Into.{common_name, top_called};
 ghost use Rattle.dwz_move.specs.Known.{tops_of_refs};
@@ -28,19 +29,19 @@ fn top_of(index: &CrossIndex, entry: u32) -> Option<u32>
     }
 }
 
-/// For each reference of a common file the top that it goes into, by its index, which has the numbers of its tops.
+/// For each of these entries of a common file the top that it is in, by the file's index, which has the numbers of its tops.
 pub fn tops_into(
     alloc: Global,
     common: &File,
     index: &CrossIndex,
+    refs: &[u32],
 ) -> Result<Vec<Option<u32>>, NoMemory>
-    requires said { (doc : Doc ℕ) × IsCommonRead common.now doc }
     requires steps { length index.now.steps ≡ entries_in (units_of common.now.units) }
+    requires entries { AreEntries (units_of common.now.units) refs.now }
     ensures { (docs : List (Doc ℕ)) (doc : Doc ℕ) → IsCommonRead common.now doc
         → IsCrossIndex (from_top (own_tops (reused_of docs doc))) doc.units index.now → IfOk result (λ into. into.items
-        ≡ tops_of_refs (common_name docs doc) (units_of common.now.units) common.now.resolved.refs.items) }
+        ≡ tops_of_refs (common_name docs doc) (units_of common.now.units) refs.now) }
 {
-    let refs = common.resolved.refs.as_slice();
     let mut into = Vec::with_capacity(alloc, refs.len())?;
     for entry in refs {
         into.push(top_of(index, *entry))?;

@@ -1,6 +1,6 @@
 //! Which tops of a finished common file may move, as looks across files go over them.
 //!
-//! `tops_into` gives for each reference of the file the top that it goes into, and `tops_bind` tells of each top of the file whether an entry of it binds it.
+//! `tops_into` gives the tops that entries of the file are in, and `tops_bind` tells of each top of the file whether an entry of it binds it.
 //!
 //! Read first: `Alike.antt` of `dwz_def_tops`, then `specs/Binding.antt`.
 #![tactic(auto)]

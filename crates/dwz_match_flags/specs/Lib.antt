@@ -1,2 +1,3 @@
 pub mod Binding
 pub mod Into
+pub mod Naming

@@ -1,8 +1,7 @@
-use Rattle.std.proofs.Common.{◌<◌, ℕ, List, get_or, subst, sym, ap, ◌∙◌, arith}
+use Rattle.std.proofs.Common.{◌<◌, ℕ, List, get_or, ap, ◌∙◌, arith}
 use Rattle.std.proofs.lemmas.List.{take_all}
 use Rattle.dwz_def_reading.specs.Units.{entries_in}
 use Rattle.dwz_check_index.specs.Index.{listed_units}
-use Rattle.dwz_graph.specs.Resolved.{AreEntries}
 use Rattle.dwz_move.specs.Known.{tops_of_refs}
 use Rattle.dwz_move.proofs.IntoLemmas.{entry_at, refs_next}
 use Rattle.dwz_unit.specs.Rows.{units_of}

@@ -5,13 +5,17 @@ use Rattle.dwz_model.proofs.ListFacts.{got_index_or, got_map}
 use Rattle.dwz_model.specs.declared.fault.ReadErr.{ReadErr}
 use Rattle.dwz_model.specs.declared.fault.ReadErr.TheVariants.{NoMemory, Refused}
 use Rattle.dwz_def_reading.specs.Documents.{Attr, DwUnit, Node, attr_map, unit_map}
-use Rattle.dwz_def_reading.specs.Meanings.{Around, scope_of}
+use Rattle.dwz_def_reading.specs.Meanings.{Around, MeaningContext, scope_of, targets, without_siblings}
 use Rattle.dwz_def_reading.specs.Meant.{node_meaning}
 use Rattle.dwz_def_reading.specs.Units.{RawUnit, entries_in}
 use Rattle.dwz_def_encoding.specs.Placing.{CommonUnit, NewUnit}
 use Rattle.dwz_def_cross.specs.Tops.{WithCommon}
 use Rattle.dwz_def_expand.specs.Refusals.{Where}
-use Rattle.dwz_def_expand.specs.Source.{Copy}
+use Rattle.dwz_def_expand.specs.Source.{Copy, copy_for, source_places}
+use Rattle.dwz_def_output.specs.Refusals.{operands_of_attrs}
+use Rattle.dwz_imports.specs.Imports.{same as same_place}
+use Rattle.std.specs.Prelude.{OnOk}
+use Rattle.std.proofs.lemmas.Result.{on_ok_weaker}
 use Rattle.dwz_graph.specs.Places.{place_at, places}
 use Rattle.dwz_graph.specs.Surroundings.{behind_own}
 use Rattle.dwz_unit.specs.Rows.{EntryRow, rows_of}
@@ -23,10 +27,10 @@ use Rattle.dwz_expand_layout.specs.declared.entries.NewOperand.{NewOperand}
 use Rattle.dwz_expand_values.specs.declared.files.Known.{Known}
 use Rattle.dwz_expand_values.specs.declared.files.SourceEntry.{SourceEntry}
 use Rattle.dwz_expand_values.specs.declared.files.SourceFile.{SourceFile}
-use Rattle.dwz_expand_values.specs.Attributes.{AnswersAll, IsEntryOf, RefsReady}
+use Rattle.dwz_expand_values.specs.Attributes.{AnswersAll, IsEntryOf, RefsReady, SpeaksAttrs}
 use Rattle.dwz_expand_values.specs.Copied.{copied_attr}
-use Rattle.dwz_expand_values.specs.Files.{AnswersEntry, IsFileReady, IsKnownReady, IsSource, KnowsFile, Knows, StandSo, around_at, around_beside, entry_count, forms_of, raw_in}
-use Rattle.dwz_expand_values.specs.Known.{Fits, IsReady, Setting, StandsAt, place_named}
+use Rattle.dwz_expand_values.specs.Files.{AnswersEntry, IsFileReady, IsKnownReady, IsSource, KnowsFile, Knows, SpeaksAs, StandSo, around_at, around_beside, entry_count, forms_of, raw_in}
+use Rattle.dwz_expand_values.specs.Known.{Fits, IsReady, Setting, StandsAt, copied, place_named, scope}
 use Rattle.dwz_expand_values.proofs.FitLemmas.{all_found, common_entry, common_role, common_source, own_role, own_slots, stands_second}
 use Rattle.dwz_expand_values.proofs.OperandLemmas.{map_twice}
 use Rattle.dwz_expand_values.proofs.PlacesSaid.{place_said}
@@ -79,6 +83,27 @@ setting k w keys stands source around raw place = record {
   place = place;
 }
 
+-- it fits, and the entry with a number is the one of the setting
+record IsKept (k : Known) (w : WithCommon ℕ) (keys : Keys (Copy ℕ)) (stands : Where ℕ) (around : Around ℕ) (place : ℕ → ℕ) (raw : List RawUnit) (i : ℕ) (x : SourceEntry)
+    (row : EntryRow) (e : Node ℕ) : Type 0 where
+  u : RawUnit
+  at_unit : slice_get raw row.unit ≡ Some u
+  fits : Fits x (setting k w keys stands (place row.entry.at) around u place)
+  entry : IsEntryOf x (setting k w keys stands (place row.entry.at) around u place) i row e
+
+speaks_as : (f : SourceFile) (around : Around ℕ) (place : ℕ → ℕ) (i : ℕ) (row : EntryRow) (u : RawUnit) (q : Setting) → slice_get (rows_of (raw_in f)) i ≡ Some row
+    → slice_get (raw_in f) row.unit ≡ Some u → scope_of around u ≡ scope q → place ≡ q.place → (operands : List NewOperand) → SpeaksAttrs q row.entry.attrs [] operands
+    → SpeaksAs f around place (copied q) q.keys i operands
+speaks_as f around place i row u q found is_unit scopes places operands h = record {
+  row = row;
+  found = found;
+  u = u;
+  is_unit = is_unit;
+  are = ap (map (λ (o : NewOperand). o.operand)) h.grown ∙ h.operands ∙ sym (ap (λ (s : MeaningContext ℕ). operands_of_attrs s (without_siblings row.entry.attrs)) scopes);
+  lead = ap (map (λ (o : NewOperand). q.keys.row o.copy)) h.grown ∙ h.keys
+      ∙ sym (λ j. map (copied q) (map (places j) (targets (scopes j) (operands_of_attrs (scopes j) (without_siblings row.entry.attrs)))));
+}
+
 pub entry_answer : {Y : Type 0} (k : Known) (w : WithCommon ℕ) (keys : Keys (Copy ℕ)) (stands : Where ℕ) (source : ℕ) (around : Around ℕ) (raw : RawUnit) (place : ℕ
     → ℕ) (e : Node ℕ) (all : List (Attr ℕ))
     (attrs : List NewAttr) (operands : List NewOperand) (r : Result Y ReadErr) → e.at ≡ source → e.attrs ≡ map (attr_map place) all
@@ -105,10 +130,9 @@ no_places (a ∷ attrs) = λ i. (record { name = a.name; form = a.form; raw = a.
       map_none (x ∷ xs) = λ i. x ∷ map_none xs i
 
 module _ (k : Known) (w : WithCommon ℕ) (keys : Keys (Copy ℕ)) (stands : Where ℕ) (know : Knows k w keys stands) where
-  pub own_answer : {Y : Type 0} (i : ℕ) (x : SourceEntry) (d : ListedEntry ℕ) (attrs : List NewAttr) (operands : List NewOperand) (r : Result Y ReadErr) → IsSource k k.own 0 false i x
-      → slice_get (listed_units w.own) i ≡ Some d
-      → ((q : Setting) (row : EntryRow) (e : Node ℕ) → Fits x q → IsEntryOf x q i row e → AnswersAll q e.attrs attrs operands r) → AnswersEntry k w keys stands d.0 attrs operands r
-  own_answer i x d attrs operands r is found answers =
+  own_kept : (i : ℕ) (x : SourceEntry) (d : ListedEntry ℕ) → (is : IsSource k k.own 0 false i x) → slice_get (listed_units w.own) i ≡ Some d
+      → IsKept k w keys stands (around_at k) (λ n. n) (raw_in k.own) i x is.row d.0
+  own_kept i x d is found =
       let raw = raw_in k.own in
       let o = row_of (around_at k) raw w.own i d know.own.means found in
       let row_is = same_row raw i o.row is.row o.found is.found in
@@ -144,18 +168,39 @@ module _ (k : Known) (w : WithCommon ℕ) (keys : Keys (Copy ℕ)) (stands : Whe
         among = know.own.among;
         line = know.own.lines.line is.row.unit o.u x.line at_unit is.line;
       } in
-      entry_answer k w keys stands is.row.entry.at (around_at k) o.u (λ n. n) d.0 d.0.attrs attrs operands r
-      (place_said (around_at k) raw w.own know.own.means i d found ∙ row_place raw i is.row is.found) (no_places d.0.attrs)
-      (answers q is.row d.0 (subst (λ (z : SourceEntry). Fits z q) same fits) (subst (λ (z : SourceEntry). IsEntryOf z q i is.row d.0) same entry))
+      record {
+        u = o.u;
+        at_unit = at_unit;
+        fits = subst (λ (z : SourceEntry). Fits z q) same fits;
+        entry = subst (λ (z : SourceEntry). IsEntryOf z q i is.row d.0) same entry;
+      }
+
+  pub own_answer : {Y : Type 0} (i : ℕ) (x : SourceEntry) (d : ListedEntry ℕ) (attrs : List NewAttr) (operands : List NewOperand) (r : Result Y ReadErr) → IsSource k k.own 0 false i x
+      → slice_get (listed_units w.own) i ≡ Some d
+      → ((q : Setting) (row : EntryRow) (e : Node ℕ) → Fits x q → IsEntryOf x q i row e → AnswersAll q e.attrs attrs operands r) → AnswersEntry k w keys stands d.0 attrs operands r
+  own_answer i x d attrs operands r is found answers =
+      let t = own_kept i x d is found in
+      entry_answer k w keys stands is.row.entry.at (around_at k) t.u (λ n. n) d.0 d.0.attrs attrs operands r
+      (place_said (around_at k) (raw_in k.own) w.own know.own.means i d found ∙ row_place (raw_in k.own) i is.row is.found) (no_places d.0.attrs)
+      (answers (setting k w keys stands is.row.entry.at (around_at k) t.u (λ n. n)) is.row d.0 t.fits t.entry)
+
+  pub own_speaks : {Y : Type 0} (i : ℕ) (x : SourceEntry) (d : ListedEntry ℕ) (operands : List NewOperand) (r : Result Y ReadErr) → IsSource k k.own 0 false i x
+      → slice_get (listed_units w.own) i ≡ Some d
+      → ((q : Setting) (row : EntryRow) (e : Node ℕ) → Fits x q → IsEntryOf x q i row e → OnOk r (SpeaksAttrs q row.entry.attrs [] operands))
+      → OnOk r (SpeaksAs k.own (around_at k) (λ n. n) (copy_for same_place (source_places same_place w) k.unit) keys i operands)
+  own_speaks i x d operands r is found answers =
+      let t = own_kept i x d is found in
+      let q = setting k w keys stands is.row.entry.at (around_at k) t.u (λ n. n) in
+      on_ok_weaker r (speaks_as k.own (around_at k) (λ n. n) i is.row t.u q is.found t.at_unit refl refl operands)
+      (answers q is.row d.0 t.fits t.entry)
 
   -- ---- one of the common file
 
-  pub common_answer : {Y : Type 0} (c : SourceFile) (said : List (DwUnit ℕ)) → KnowsFile c (around_beside c None) said → w.common ≡ map (unit_map behind_own) said
+  common_kept : (c : SourceFile) (said : List (DwUnit ℕ)) → KnowsFile c (around_beside c None) said → (are : w.common ≡ map (unit_map behind_own) said)
       → StandSo c (around_beside c None) behind_own stands
-      → (i : ℕ) (x : SourceEntry) (d : ListedEntry ℕ) (attrs : List NewAttr) (operands : List NewOperand) (r : Result Y ReadErr) → IsSource k c (entries_in (raw_in k.own)) true i x
-      → slice_get (listed_units w.common) i ≡ Some d
-      → ((q : Setting) (row : EntryRow) (e : Node ℕ) → Fits x q → IsEntryOf x q i row e → AnswersAll q e.attrs attrs operands r) → AnswersEntry k w keys stands d.0 attrs operands r
-  common_answer c said kc are so i x d attrs operands r is found answers =
+      → (i : ℕ) (x : SourceEntry) (d : ListedEntry ℕ) → (is : IsSource k c (entries_in (raw_in k.own)) true i x) → (found : slice_get (listed_units w.common) i ≡ Some d)
+      → IsKept k w keys stands (around_beside c None) behind_own (raw_in c) i x is.row (common_source said w.common are i d found).0.0
+  common_kept c said kc are so i x d is found =
       let raw = raw_in c in
       let around = around_beside c None in
       let first = entries_in (raw_in k.own) in
@@ -194,6 +239,34 @@ module _ (k : Known) (w : WithCommon ℕ) (keys : Keys (Copy ℕ)) (stands : Whe
         among = kc.among;
         line = kc.lines.line is.row.unit o.u x.line at_unit is.line;
       } in
-      entry_answer k w keys stands (behind_own is.row.entry.at) around o.u behind_own d.0 src.0.0.attrs attrs operands r
-      (ap (λ (e : Node ℕ). e.at) src.2 ∙ ap behind_own (place_said around raw said kc.means i src.0 src.1 ∙ row_place raw i is.row is.found)) (ap (λ (e : Node ℕ). e.attrs) src.2)
-      (answers q is.row src.0.0 (subst (λ (z : SourceEntry). Fits z q) same fits) (subst (λ (z : SourceEntry). IsEntryOf z q i is.row src.0.0) same entry))
+      record {
+        u = o.u;
+        at_unit = at_unit;
+        fits = subst (λ (z : SourceEntry). Fits z q) same fits;
+        entry = subst (λ (z : SourceEntry). IsEntryOf z q i is.row src.0.0) same entry;
+      }
+
+  pub common_answer : {Y : Type 0} (c : SourceFile) (said : List (DwUnit ℕ)) → KnowsFile c (around_beside c None) said → w.common ≡ map (unit_map behind_own) said
+      → StandSo c (around_beside c None) behind_own stands
+      → (i : ℕ) (x : SourceEntry) (d : ListedEntry ℕ) (attrs : List NewAttr) (operands : List NewOperand) (r : Result Y ReadErr) → IsSource k c (entries_in (raw_in k.own)) true i x
+      → slice_get (listed_units w.common) i ≡ Some d
+      → ((q : Setting) (row : EntryRow) (e : Node ℕ) → Fits x q → IsEntryOf x q i row e → AnswersAll q e.attrs attrs operands r) → AnswersEntry k w keys stands d.0 attrs operands r
+  common_answer c said kc are so i x d attrs operands r is found answers =
+      let src = common_source said w.common are i d found in
+      let t = common_kept c said kc are so i x d is found in
+      entry_answer k w keys stands (behind_own is.row.entry.at) (around_beside c None) t.u behind_own d.0 src.0.0.attrs attrs operands r
+      (ap (λ (e : Node ℕ). e.at) src.2 ∙ ap behind_own (place_said (around_beside c None) (raw_in c) said kc.means i src.0 src.1 ∙ row_place (raw_in c) i is.row is.found))
+      (ap (λ (e : Node ℕ). e.attrs) src.2)
+      (answers (setting k w keys stands (behind_own is.row.entry.at) (around_beside c None) t.u behind_own) is.row src.0.0 t.fits t.entry)
+
+  pub common_speaks : {Y : Type 0} (c : SourceFile) (said : List (DwUnit ℕ)) → KnowsFile c (around_beside c None) said → w.common ≡ map (unit_map behind_own) said
+      → StandSo c (around_beside c None) behind_own stands
+      → (i : ℕ) (x : SourceEntry) (d : ListedEntry ℕ) (operands : List NewOperand) (r : Result Y ReadErr) → IsSource k c (entries_in (raw_in k.own)) true i x
+      → slice_get (listed_units w.common) i ≡ Some d
+      → ((q : Setting) (row : EntryRow) (e : Node ℕ) → Fits x q → IsEntryOf x q i row e → OnOk r (SpeaksAttrs q row.entry.attrs [] operands))
+      → OnOk r (SpeaksAs c (around_beside c None) behind_own (copy_for same_place (source_places same_place w) k.unit) keys i operands)
+  common_speaks c said kc are so i x d operands r is found answers =
+      let t = common_kept c said kc are so i x d is found in
+      let q = setting k w keys stands (behind_own is.row.entry.at) (around_beside c None) t.u behind_own in
+      on_ok_weaker r (speaks_as c (around_beside c None) behind_own i is.row t.u q is.found t.at_unit refl refl operands)
+      (answers q is.row (common_source said w.common are i d found).0.0 t.fits t.entry)

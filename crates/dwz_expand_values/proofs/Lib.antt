@@ -22,3 +22,4 @@ pub mod PlainClasses
 pub mod RoleSteps
 pub mod ListAnswers
 pub mod ExprAnswers
+pub mod SpokenLemmas

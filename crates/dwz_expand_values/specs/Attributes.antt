@@ -11,6 +11,7 @@ use Rattle.dwz_def_reading.specs.FirstOf.{OfFirst}
 use Rattle.dwz_def_reading.specs.Meanings.{without_siblings}
 use Rattle.dwz_def_reading.specs.Meant.{node_meaning}
 use Rattle.dwz_def_reading.specs.Units.{entries_in}
+use Rattle.dwz_def_output.specs.Refusals.{operands_of_attrs}
 use Rattle.dwz_def_expand.specs.Refusals.{sites_of}
 use Rattle.dwz_def_expand.specs.Source.{Copy}
 use Rattle.dwz_graph.specs.Parts.{AreParted, HasLine}
@@ -23,7 +24,7 @@ use Rattle.dwz_expand_layout.specs.declared.entries.NewAttr.{NewAttr}
 use Rattle.dwz_expand_layout.specs.declared.entries.NewOperand.{NewOperand}
 use Rattle.dwz_expand_layout.specs.Entries.{attr_view}
 use Rattle.dwz_expand_values.specs.declared.files.SourceEntry.{SourceEntry}
-use Rattle.dwz_expand_values.specs.Copied.{AreAt, IsAt, IsWithin, Refuses, copied_attr}
+use Rattle.dwz_expand_values.specs.Copied.{AreAt, IsAt, IsWithin, Refuses, Speaks, copied_attr}
 use Rattle.dwz_expand_values.specs.Known.{LeadWithin, Setting, raw_of, scope}
 
 -- ---- references
@@ -76,6 +77,10 @@ abbrev pub AnswersAll : {Y : Type 0} → Setting → List (Attr ℕ) → List Ne
 AnswersAll q all attrs operands (Ok y) = (map (held_by q operands) attrs ≡ map (held_for q) all) × ((f : Fault) → ¬ FirstRefused q 0 all f)
 AnswersAll q all attrs operands (Err NoMemory) = Unit {0}
 AnswersAll q all attrs operands (Err (Refused f)) = FirstRefused q 0 all f
+
+-- the operands of attributes were added, without those of `DW_AT_sibling`
+abbrev pub SpeaksAttrs : Setting → List RawAttr → List NewOperand → List NewOperand → Type 0
+SpeaksAttrs q attrs old new = Speaks q (operands_of_attrs (scope q) (without_siblings attrs)) old new
 
 -- ---- entries
 

@@ -19,7 +19,7 @@ use Rattle.dwz_def_reading.specs.Documents.{Attr, Value, attr_map}
 use Rattle.dwz_def_reading.specs.declared.exprs.Operand.{Operand}
 use Rattle.dwz_def_reading.specs.Entries.{RawAttr}
 use Rattle.dwz_def_reading.specs.FirstOf.{OfFirst}
-use Rattle.dwz_def_reading.specs.Meanings.{without_siblings}
+use Rattle.dwz_def_reading.specs.Meanings.{targets, without_siblings}
 use Rattle.dwz_def_reading.specs.Meant.{attr_with}
 use Rattle.dwz_def_reading.specs.NamedLists.{list_of_attr}
 use Rattle.dwz_def_output.specs.Refusals.{operands_of_attr}
@@ -88,6 +88,14 @@ pub record Added (q : Setting) (read : List Operand) (places : List ℕ) (old ne
   pub grown : new ≡ old ++ more
   pub operands : map (λ o. o.operand) more ≡ read
   pub keys : map (λ o. q.keys.row o.copy) more ≡ map (copied q) places
+
+-- operands were added, with the copies of the entries to which they lead
+abbrev pub Speaks : Setting → List Operand → List NewOperand → List NewOperand → Type 0
+Speaks q read old new = Added q read (map q.place (targets (scope q) read)) old new
+
+-- those of an attribute
+abbrev pub SpeaksAttr : Setting → RawAttr → List NewOperand → List NewOperand → Type 0
+SpeaksAttr q a old new = Speaks q (operands_of_attr (scope q) a) old new
 
 -- none of the places is lost, and the operands were added that name them; or the first is
 abbrev pub AddsAll : {Y : Type 0} → Setting → List Operand → List ℕ → List NewOperand → List NewOperand → Result Y ReadErr → Type 0

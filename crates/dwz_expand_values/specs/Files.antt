@@ -1,5 +1,5 @@
 -- What is known of a file whose entries are copied, and of the common file beside which it was read. Numbers stand for places.
-use Rattle.std.specs.Prelude.{◌≡◌, ℕ, ◌+◌, ◌<◌, ◌^◌, Bool, true, false, List, [], length, map, Option, Some, None, Result, Ok, Err}
+use Rattle.std.specs.Prelude.{◌≡◌, ℕ, ◌+◌, ◌-◌, ◌<◌, ◌≤◌, ◌^◌, Bool, true, false, List, [], length, map, Option, Some, None, Result, Ok, Err}
 use Rattle.std.specs.Prelude.{slice_get}
 use Rattle.dwz_model.specs.Lists.{Each}
 use Rattle.dwz_model.specs.declared.fault.Fault.{Fault}
@@ -8,12 +8,12 @@ use Rattle.dwz_model.specs.declared.fault.ReadErr.TheVariants.{NoMemory, Refused
 use Rattle.dwz_def_reading.specs.Documents.{Attr, DwUnit, Node, attr_map, unit_map}
 use Rattle.dwz_def_reading.specs.Entries.{RawAttr}
 use Rattle.dwz_def_reading.specs.FirstOf.{OfFirst}
-use Rattle.dwz_def_reading.specs.Meanings.{Around, Common, all_places, scope_of, without_siblings}
+use Rattle.dwz_def_reading.specs.Meanings.{Around, Common, all_places, scope_of, targets, without_siblings}
 use Rattle.dwz_def_reading.specs.Meant.{units_meaning}
 use Rattle.dwz_def_reading.specs.NamedLists.{list_of_attr}
 use Rattle.dwz_def_reading.specs.Units.{CompileUnit, PartialUnit, RawKind, RawUnit, TypeUnit, entries_in}
 use Rattle.dwz_def_encoding.specs.Placing.{CommonUnit, NewUnit, OldUnit, UnitRole}
-use Rattle.dwz_def_output.specs.Refusals.{operands_of_attr}
+use Rattle.dwz_def_output.specs.Refusals.{operands_of_attr, operands_of_attrs}
 use Rattle.dwz_def_cross.specs.Tops.{WithCommon}
 use Rattle.dwz_def_expand.specs.Chosen.{Choice, choice, chosen_attr}
 use Rattle.dwz_def_expand.specs.OneFile.{named_in_attr}
@@ -156,3 +156,25 @@ pub record IsSource (k : Known) (f : SourceFile) (first : ℕ) (is_common : Bool
   pub here : IsHereOf (raw_in f) row.unit x.here.now
   pub line : slice_get f.lines.now row.unit ≡ Some x.line
   pub role : (u : RawUnit) → slice_get (raw_in f) row.unit ≡ Some u → IsRole is_common u.kind (holder_view x.role)
+
+-- ---- the operands of its copy
+
+-- They are those of the expressions of the entry with a number of a file, in order, each with the copy of the entry to which it leads; places
+-- of the file stand for these, and these are named so.
+pub record SpeaksAs (f : SourceFile) (around : Around ℕ) (place : ℕ → ℕ) (named : ℕ → Copy ℕ) (keys : Keys (Copy ℕ)) (i : ℕ)
+    (operands : List NewOperand) : Type 0 where
+  pub row : EntryRow
+  pub found : slice_get (rows_of (raw_in f)) i ≡ Some row
+  pub u : RawUnit
+  pub is_unit : slice_get (raw_in f) row.unit ≡ Some u
+  pub are : map (λ (o : NewOperand). o.operand) operands ≡ operands_of_attrs (scope_of around u) (without_siblings row.entry.attrs)
+  pub lead : map (λ (o : NewOperand). keys.row o.copy) operands
+      ≡ map named (map place (targets (scope_of around u) (operands_of_attrs (scope_of around u) (without_siblings row.entry.attrs))))
+
+-- of an entry of a file or of its common one, in the new unit with a number
+pub record SpeaksEntry (own_file : SourceFile) (common_file : Option SourceFile) (unit : ℕ) (w : WithCommon ℕ) (keys : Keys (Copy ℕ)) (entry : ℕ)
+    (operands : List NewOperand) : Type 0 where
+  pub own : entry < entries_in (raw_in own_file)
+      → SpeaksAs own_file (around_beside own_file (common_of common_file)) (λ n. n) (copy_for same (source_places same w) unit) keys entry operands
+  pub common : (c : SourceFile) → common_file ≡ Some c → entries_in (raw_in own_file) ≤ entry
+      → SpeaksAs c (around_beside c None) behind_own (copy_for same (source_places same w) unit) keys (entry - entries_in (raw_in own_file)) operands

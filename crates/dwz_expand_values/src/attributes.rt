@@ -1,6 +1,6 @@
 //! The attributes of an entry, one after the other.
 
-ghost use Rattle.std.specs.Prelude.{◌≡◌, ℕ, ◌<◌, ◌∷◌, List, IfOk, OnOk, drop};
+ghost use Rattle.std.specs.Prelude.{◌≡◌, ℕ, ◌<◌, ◌∷◌, [], List, IfOk, OnOk, drop};
 ghost use Rattle.dwz_model.specs.Lists.{Each};
 ghost use Rattle.dwz_def_reading.specs.Abbrevs.{IsPlainPair};
 ghost use Rattle.dwz_def_reading.specs.Documents.{Attr, Node};
@@ -11,7 +11,7 @@ ghost use Rattle.dwz_forms.specs.RawValues.{raw_view};
 ghost use Rattle.dwz_graph.specs.Resolved.{stored};
 ghost use Rattle.dwz_unit.specs.Rows.{EntryRow};
 ghost use Rattle.dwz_expand_layout.specs.Entries.{CanStore};
-ghost use Rattle.dwz_expand_values.specs.Attributes.{AnswersAll, IsEntryOf, PutsAttr, Remain, RefsReady, refs_at};
+ghost use Rattle.dwz_expand_values.specs.Attributes.{AnswersAll, IsEntryOf, PutsAttr, Remain, RefsReady, SpeaksAttrs, refs_at};
 ghost use Rattle.dwz_expand_values.specs.Copied.{KeepsConstant, names_many};
 ghost use Rattle.dwz_expand_values.specs.Known.{Fits, IsReady, LeadWithin, Setting, raw_of};
 
@@ -77,6 +77,9 @@ fn put_attr<'r, 'a>(
     ensures puts { (q : Setting) (values : List RawAttr) (all : List (Attr ℕ)) → Fits x.now q
         → Remain x.now q (stored at end pair.now raw.now ∷ values) refs.now all attrs.old.items operands.old.items
         → PutsAttr x.now q values all attrs.new.items operands.new.items result }
+    ensures speaks { (q : Setting) (values : List RawAttr) (all : List (Attr ℕ)) → Fits x.now q
+        → Remain x.now q (stored at end pair.now raw.now ∷ values) refs.now all attrs.old.items operands.old.items
+        → OnOk result (SpeaksAttrs q (stored at end pair.now raw.now ∷ []) operands.old.items operands.new.items) }
 {
     if pair.name == DW_AT_SIBLING {
         return Ok(refs);
@@ -100,6 +103,8 @@ pub(crate) fn put_values<'a>(
     requires there { i < entries_in (raw_of x.now) }
     ensures copies { (q : Setting) (row : EntryRow) (d : Node ℕ) → Fits x.now q → IsEntryOf x.now q i row d
         → AnswersAll q d.attrs attrs.new.items operands.new.items result }
+    ensures speaks { (q : Setting) (row : EntryRow) (d : Node ℕ) → Fits x.now q → IsEntryOf x.now q i row d
+        → OnOk result (SpeaksAttrs q row.entry.attrs [] operands.new.items) }
     ensures stores { OnOk result (Each CanStore attrs.new.items) }
 {
     attrs.clear();

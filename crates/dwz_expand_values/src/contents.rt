@@ -1,6 +1,6 @@
 //! What a value stores in the new file, by its class.
 
-ghost use Rattle.std.specs.Prelude.{◌≡◌, ◌==◌, ℕ, true, if◌then◌else◌, IfOk, List};
+ghost use Rattle.std.specs.Prelude.{◌≡◌, ◌==◌, ℕ, true, if◌then◌else◌, IfOk, List, OnOk};
 ghost use Rattle.dwz_def_reading.specs.Classes.{OfConstant, OfExpression, OfListIndex, OfOffset, OfTextBySlot};
 ghost use Rattle.dwz_def_reading.specs.Abbrevs.{IsPlainPair};
 ghost use Rattle.dwz_def_reading.specs.Classes;
@@ -12,7 +12,7 @@ ghost use Rattle.dwz_layout.specs.Attributes.{plain_pair};
 ghost use Rattle.dwz_expand_layout.specs.Entries.{CanStore};
 ghost use Rattle.dwz_expand_layout.specs.declared.entries.Content.TheVariants.{Stored};
 ghost use Rattle.dwz_expand_layout.specs.declared.entries.NewOperand.{NewOperand as OperandAfter};
-ghost use Rattle.dwz_expand_values.specs.Copied.{Answers, Asks, IsCopyAnswer, IsTextIn, KeepsConstant, is_entry};
+ghost use Rattle.dwz_expand_values.specs.Copied.{Answers, Asks, IsCopyAnswer, IsTextIn, KeepsConstant, SpeaksAttr, is_entry};
 ghost use Rattle.dwz_expand_values.specs.Known.{IsReady, LeadWithin, Setting};
 
 use crate::copying::{copy_or, put_operands};
@@ -201,6 +201,9 @@ fn copied_expression<'a>(
     ensures copies { (q : Setting) (index at : ℕ) (v : Value ℕ) (others : List ℕ) → Classes.class_of pair.now.form ≡ OfExpression
         → Asks x.now q index (stored at end pair.now raw.now) v refs.now others
         → Answers q index (stored at end pair.now raw.now) v operands.old.items operands.new.items result }
+    ensures speaks { (q : Setting) (index at : ℕ) (v : Value ℕ) (others : List ℕ) → Classes.class_of pair.now.form ≡ OfExpression
+        → Asks x.now q index (stored at end pair.now raw.now) v refs.now others
+        → OnOk result (SpeaksAttr q (stored at end pair.now raw.now) operands.old.items operands.new.items) }
     ensures stores { Classes.class_of pair.now.form ≡ OfExpression → IfOk result (λ new. CanStore new) }
 {
     let bytes = bytes_of(raw);
@@ -288,6 +291,9 @@ pub(crate) fn copied_attr<'a>(
     ensures copies { (q : Setting) (index : ℕ) (v : Value ℕ) (others : List ℕ) → Asks x.now q index
         (stored at end pair.now raw.now) v refs.now others
         → Answers q index (stored at end pair.now raw.now) v operands.old.items operands.new.items result }
+    ensures speaks { (q : Setting) (index : ℕ) (v : Value ℕ) (others : List ℕ) → Asks x.now q index
+        (stored at end pair.now raw.now) v refs.now others
+        → OnOk result (SpeaksAttr q (stored at end pair.now raw.now) operands.old.items operands.new.items) }
     ensures stores { IfOk result (λ new. CanStore new) }
 {
     let sections = x.file.sections;

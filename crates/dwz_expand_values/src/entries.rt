@@ -12,7 +12,7 @@ ghost use Rattle.dwz_encode.specs.Shown.{Keys};
 ghost use Rattle.dwz_expand_sources.specs.Sources.{all_entries};
 ghost use Rattle.dwz_layout.specs.Ways.{holder_view};
 ghost use Rattle.dwz_unit.specs.Rows.{units_of};
-ghost use Rattle.dwz_expand_values.specs.Files.{AnswersEntry, IsFileReady, IsKnownReady, IsSource, Knows, entry_count, holder_for, raw_in};
+ghost use Rattle.dwz_expand_values.specs.Files.{AnswersEntry, IsFileReady, IsKnownReady, IsSource, Knows, SpeaksEntry, entry_count, holder_for, raw_in};
 
 use crate::attributes::put_values;
 use crate::files::{Known, SourceEntry, SourceFile};
@@ -80,6 +80,9 @@ pub fn put_attrs<'a>(
     requires there { entry < entry_count known.now }
     ensures copies { (w : WithCommon ℕ) (keys : Keys (Copy ℕ)) (stands : Where ℕ) (d : ListedEntry ℕ) → Knows known.now w keys stands
         → slice_get (all_entries w) entry ≡ Some d → AnswersEntry known.now w keys stands d.0 attrs.new.items operands.new.items result }
+    ensures speaks { (w : WithCommon ℕ) (keys : Keys (Copy ℕ)) (stands : Where ℕ) (d : ListedEntry ℕ) → Knows known.now w keys stands
+        → slice_get (all_entries w) entry ≡ Some d
+        → OnOk result (SpeaksEntry known.now.own known.now.common known.now.unit w keys entry operands.new.items) }
     ensures stores { OnOk result (Each CanStore attrs.new.items) }
 {
     let own = known.own.units.entries();

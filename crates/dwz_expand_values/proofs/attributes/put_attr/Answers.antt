@@ -6,6 +6,7 @@ use Rattle.dwz_graph.specs.Resolved.{stored}
 use Rattle.dwz_expand_layout.specs.declared.entries.NewAttr.{NewAttr}
 use Rattle.dwz_expand_values.specs.Attributes.{Remain}
 use Rattle.dwz_expand_values.proofs.AttrSteps.{asks, attr_put, n, put_err, skip_attr}
+use Rattle.dwz_expand_values.proofs.SpokenLemmas.{other_spoken, sibling_spoken}
 use Rattle.dwz_expand_values.proofs.attributes.put_attr.Goals as goal
 
 pub returns-then-pair-eq-DW_AT_SIBLING-clause-puts : goal.returns-then-pair-eq-DW_AT_SIBLING-clause-puts
@@ -35,3 +36,17 @@ returns-clause-puts c = λ q values all fits h. (
     subst (λ (w : List NewAttr). Remain c.args.x.now q values c.behind.result.now all w c.copied_attr.new.operands.items) (sym c.in_ok-push.ensures.items)
     (subst (λ (w : List ℕ). Remain c.args.x.now q values w all (c.args.attrs.now.items ++ c.in_ok-new.new ∷ []) c.copied_attr.new.operands.items)
     (sym (c.behind.ensures ∙ ap (λ (k : ℕ). drop k c.args.refs.now) c.count_of.ensures)) put))
+
+pub returns-then-pair-eq-DW_AT_SIBLING-clause-speaks : goal.returns-then-pair-eq-DW_AT_SIBLING-clause-speaks
+returns-then-pair-eq-DW_AT_SIBLING-clause-speaks c = λ q values all fits h. (
+    let values_at : RawAttr = stored c.args.at c.args.end c.args.pair.now c.args.raw.now in
+    sibling_spoken q values_at c.args.operands.now.items c.if-pair-eq-DW_AT_SIBLING.true)
+
+pub returns-clause-speaks : goal.returns-clause-speaks
+returns-clause-speaks c = λ q values all fits h. (
+    let values_at : RawAttr = stored c.args.at c.args.end c.args.pair.now c.args.raw.now in
+    let other = c.if-pair-eq-DW_AT_SIBLING.false in
+    let next = n c.args.x.now q values_at values c.args.refs.now all c.args.attrs.now.items c.args.operands.now.items other h in
+    other_spoken q values_at c.args.operands.now.items c.copied_attr.new.operands.items other
+    (c.in_ok-new.ensures.speaks q (length c.args.attrs.now.items) next.value (map q.place (attrs_refs next.left))
+    (asks c.args.x.now q values_at values c.args.refs.now all c.args.attrs.now.items c.args.operands.now.items other h fits)))

@@ -1,10 +1,10 @@
-use Rattle.std.proofs.Common.{◌≡◌, ℕ, drop, Some, slice_get}
+use Rattle.std.proofs.Common.{◌≡◌, ℕ, [], drop, take, Some, slice_get}
 use Rattle.dwz_def_reading.specs.Documents.{Node}
 use Rattle.dwz_model.specs.Lists.{Each}
 use Rattle.dwz_expand_layout.specs.Entries.{CanStore}
 use Rattle.dwz_unit.specs.Rows.{EntryRow, rows_of}
 use Rattle.dwz_unit.specs.Values.{Reads}
-use Rattle.dwz_expand_values.specs.Attributes.{IsEntryOf, Remain}
+use Rattle.dwz_expand_values.specs.Attributes.{IsEntryOf, Remain, SpeaksAttrs}
 use Rattle.dwz_expand_values.specs.Known.{Fits, LeadWithin, Setting, raw_of}
 use Rattle.dwz_expand_values.proofs.attributes.put_values.Given as goal
 
@@ -15,4 +15,5 @@ invariant-loop-pair l = record {
   within : LeadWithin l.x l.rest;
   remain : (q : Setting) (row : EntryRow) (d : Node ℕ) → Fits l.x q → IsEntryOf l.x q l.i row d
       → Remain l.x q (drop l.pair-index row.entry.attrs) l.rest d.attrs l.attrs.items l.operands.items;
+  spoken : (q : Setting) (row : EntryRow) (d : Node ℕ) → Fits l.x q → IsEntryOf l.x q l.i row d → SpeaksAttrs q (take l.pair-index row.entry.attrs) [] l.operands.items;
 }

@@ -1,5 +1,5 @@
 use Rattle.std.proofs.Common.{◌≡◌, ◌∙◌, ℕ, ap, refl, sym, subst}
-use Rattle.dwz_def_reading.specs.Classes.{Class, OfCommonEntry, OfCommonText, OfConstant, OfInfoEntry, OfListIndex, OfOffset, OfTextBySlot, OfTextInLineStr, OfTextInStr, OfUnitEntry, class_of}
+use Rattle.dwz_def_reading.specs.Classes.{Class, OfCommonEntry, OfCommonText, OfConstant, OfExpression, OfInfoEntry, OfListIndex, OfOffset, OfTextBySlot, OfTextInLineStr, OfTextInStr, OfUnitEntry, class_of}
 use Rattle.dwz_def_reading.specs.Documents.{Attr, attr_map}
 use Rattle.dwz_def_reading.specs.Texts.{text_at}
 use Rattle.dwz_forms.specs.declared.raw.Raw.TheVariants.{Bytes}
@@ -9,6 +9,8 @@ use Rattle.dwz_expand_values.specs.Copied.{IsTextIn, is_entry, said}
 use Rattle.dwz_expand_values.specs.Known.{copied}
 use Rattle.dwz_expand_values.proofs.LostLemmas.{no_constant}
 use Rattle.dwz_expand_values.proofs.PlainClasses.{simple}
+use Rattle.dwz_layout.proofs.SizeLemmas.{on_ok}
+use Rattle.dwz_expand_values.proofs.SpokenLemmas.{none_spoken}
 use Rattle.dwz_expand_values.proofs.TextAnswers.{common_text_answer, number_read, read_answer}
 use Rattle.dwz_expand_values.proofs.contents.copied_attr.Goals as goal
 
@@ -88,3 +90,78 @@ returns-in_default-clause-copies c = λ q index v others asks. (
     c.as_read-in_default.result k class s.entry n.not-Expression s.none (λ e. absurd (n.not-Offset e))
     (no_constant q index b (λ e. n.not-Constant (c.class_of.ensures ∙ e))) (s.chosen (attr_map (copied q) b)) c.as_read-in_default.ensures in
     (r.free, r.is))
+
+pub returns-in-UnitEntry-clause-speaks : goal.returns-in-UnitEntry-clause-speaks
+returns-in-UnitEntry-clause-speaks c = λ q index v others asks. (
+    let class = is_class (stored c.args.at c.args.end c.args.pair.now c.args.raw.now) c.class_of.result OfUnitEntry c.class_of.ensures c.in-UnitEntry.is in
+    let is = none_spoken q (stored c.args.at c.args.end c.args.pair.now c.args.raw.now) OfUnitEntry class (λ e. absurd (let z = e in cc)) c.args.operands.now.items in
+    on_ok c.copied_entry.result is)
+
+pub returns-in-InfoEntry-clause-speaks : goal.returns-in-InfoEntry-clause-speaks
+returns-in-InfoEntry-clause-speaks c = λ q index v others asks. (
+    let class = is_class (stored c.args.at c.args.end c.args.pair.now c.args.raw.now) c.class_of.result OfInfoEntry c.class_of.ensures c.in-InfoEntry.is in
+    let is = none_spoken q (stored c.args.at c.args.end c.args.pair.now c.args.raw.now) OfInfoEntry class (λ e. absurd (let z = e in cc)) c.args.operands.now.items in
+    on_ok c.copied_entry-in-InfoEntry.result is)
+
+pub returns-in-CommonEntry-clause-speaks : goal.returns-in-CommonEntry-clause-speaks
+returns-in-CommonEntry-clause-speaks c = λ q index v others asks. (
+    let class = is_class (stored c.args.at c.args.end c.args.pair.now c.args.raw.now) c.class_of.result OfCommonEntry c.class_of.ensures c.in-CommonEntry.is in
+    let is = none_spoken q (stored c.args.at c.args.end c.args.pair.now c.args.raw.now) OfCommonEntry class (λ e. absurd (let z = e in cc)) c.args.operands.now.items in
+    on_ok c.copied_entry-in-CommonEntry.result is)
+
+pub returns-in-CommonText-clause-speaks : goal.returns-in-CommonText-clause-speaks
+returns-in-CommonText-clause-speaks c = λ q index v others asks. (
+    let class = is_class (stored c.args.at c.args.end c.args.pair.now c.args.raw.now) c.class_of.result OfCommonText c.class_of.ensures c.in-CommonText.is in
+    let is = none_spoken q (stored c.args.at c.args.end c.args.pair.now c.args.raw.now) OfCommonText class (λ e. absurd (let z = e in cc)) c.args.operands.now.items in
+    is)
+
+pub returns-in-TextInStr-clause-speaks : goal.returns-in-TextInStr-clause-speaks
+returns-in-TextInStr-clause-speaks c = λ q index v others asks. (
+    let class = is_class (stored c.args.at c.args.end c.args.pair.now c.args.raw.now) c.class_of.result OfTextInStr c.class_of.ensures c.in-TextInStr.is in
+    let is = none_spoken q (stored c.args.at c.args.end c.args.pair.now c.args.raw.now) OfTextInStr class (λ e. absurd (let z = e in cc)) c.args.operands.now.items in
+    is)
+
+pub returns-in-TextInLineStr-clause-speaks : goal.returns-in-TextInLineStr-clause-speaks
+returns-in-TextInLineStr-clause-speaks c = λ q index v others asks. (
+    let class = is_class (stored c.args.at c.args.end c.args.pair.now c.args.raw.now) c.class_of.result OfTextInLineStr c.class_of.ensures c.in-TextInLineStr.is in
+    let is = none_spoken q (stored c.args.at c.args.end c.args.pair.now c.args.raw.now) OfTextInLineStr class (λ e. absurd (let z = e in cc)) c.args.operands.now.items in
+    is)
+
+pub returns-in-TextBySlot-clause-speaks : goal.returns-in-TextBySlot-clause-speaks
+returns-in-TextBySlot-clause-speaks c = λ q index v others asks. (
+    let class = is_class (stored c.args.at c.args.end c.args.pair.now c.args.raw.now) c.class_of.result OfTextBySlot c.class_of.ensures c.in-TextBySlot.is in
+    let is = none_spoken q (stored c.args.at c.args.end c.args.pair.now c.args.raw.now) OfTextBySlot class (λ e. absurd (let z = e in cc)) c.args.operands.now.items in
+    is)
+
+pub returns-then-names_file-clause-speaks : goal.returns-then-names_file-clause-speaks
+returns-then-names_file-clause-speaks c = λ q index v others asks. (
+    let class = is_class (stored c.args.at c.args.end c.args.pair.now c.args.raw.now) c.class_of.result OfConstant c.class_of.ensures c.in-Constant.is in
+    let is = none_spoken q (stored c.args.at c.args.end c.args.pair.now c.args.raw.now) OfConstant class (λ e. absurd (let z = e in cc)) c.args.operands.now.items in
+    on_ok c.copied_file.result is)
+
+pub returns-else-names_file-clause-speaks : goal.returns-else-names_file-clause-speaks
+returns-else-names_file-clause-speaks c = λ q index v others asks. (
+    let class = is_class (stored c.args.at c.args.end c.args.pair.now c.args.raw.now) c.class_of.result OfConstant c.class_of.ensures c.in-Constant.is in
+    let is = none_spoken q (stored c.args.at c.args.end c.args.pair.now c.args.raw.now) OfConstant class (λ e. absurd (let z = e in cc)) c.args.operands.now.items in
+    is)
+
+pub returns-in-Offset-clause-speaks : goal.returns-in-Offset-clause-speaks
+returns-in-Offset-clause-speaks c = λ q index v others asks. (
+    let class = is_class (stored c.args.at c.args.end c.args.pair.now c.args.raw.now) c.class_of.result OfOffset c.class_of.ensures c.in-Offset.is in
+    let is = none_spoken q (stored c.args.at c.args.end c.args.pair.now c.args.raw.now) OfOffset class (λ e. absurd (let z = e in cc)) c.args.operands.now.items in
+    on_ok c.copied_offset.result is)
+
+pub returns-in-ListIndex-clause-speaks : goal.returns-in-ListIndex-clause-speaks
+returns-in-ListIndex-clause-speaks c = λ q index v others asks. (
+    let class = is_class (stored c.args.at c.args.end c.args.pair.now c.args.raw.now) c.class_of.result OfListIndex c.class_of.ensures c.in-ListIndex.is in
+    let is = none_spoken q (stored c.args.at c.args.end c.args.pair.now c.args.raw.now) OfListIndex class (λ e. absurd (let z = e in cc)) c.args.operands.now.items in
+    on_ok c.copied_list.result is)
+
+pub returns-in-Expression-clause-speaks : goal.returns-in-Expression-clause-speaks
+returns-in-Expression-clause-speaks c = λ q index v others asks. (
+    let class = is_class (stored c.args.at c.args.end c.args.pair.now c.args.raw.now) c.class_of.result OfExpression c.class_of.ensures c.in-Expression.is in
+    c.copied_expression.ensures.speaks q index c.args.at v others class asks)
+
+pub returns-in_default-clause-speaks : goal.returns-in_default-clause-speaks
+returns-in_default-clause-speaks c = λ q index v others asks.
+    none_spoken q (stored c.args.at c.args.end c.args.pair.now c.args.raw.now) c.class_of.result (sym c.class_of.ensures) c.in_default.not-Expression c.args.operands.now.items

@@ -6,3 +6,4 @@ pub mod SaidLemmas
 pub mod UnitLemmas
 pub mod OrderLemmas
 pub mod OneOrder
+mod NotedLemmas

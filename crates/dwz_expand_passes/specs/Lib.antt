@@ -4,3 +4,4 @@ pub mod Kinds
 pub mod Passes
 pub mod Units
 pub mod Tables
+pub mod Noted

@@ -19,6 +19,7 @@ use Rattle.dwz_expand_layout.specs.declared.entries.NewKind.{NewKind}
 use Rattle.dwz_expand_values.specs.Files.{Knows, forms_of}
 use Rattle.dwz_expand_values.specs.declared.files.Known.{Known}
 use Rattle.dwz_expand_passes.specs.Heads.{IsHeadOf}
+use Rattle.dwz_expand_passes.specs.Noted.{AreNotedOf, Noted}
 use Rattle.dwz_expand_passes.specs.declared.copied.CopiedEntry.{CopiedEntry}
 use Rattle.dwz_expand_passes.specs.declared.copied.Source.{Source}
 use Rattle.dwz_law_sources.specs.Copied.{IsCopyOf, NamesNoRoot}
@@ -99,6 +100,12 @@ pub record PassedTo (x : Known) (all rest : List ℕ) (deep : List DeepLine) : T
   pub done : List ℕ
   pub whole : all ≡ done ++ rest
   pub copied : AreCopied x done deep
+
+-- the operands of some of them were told, and the others are these
+pub record NotedTo (x : Known) (all rest : List ℕ) (given : List Noted) : Type 0 where
+  pub done : List ℕ
+  pub whole : all ≡ done ++ rest
+  pub are : AreNotedOf (KnowsHere x) x.own x.common x.unit done given
 
 -- the next one, and those behind it
 abbrev pub rest_of : Option Source → List ℕ → List ℕ

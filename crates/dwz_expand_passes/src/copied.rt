@@ -7,8 +7,10 @@ ghost use Rattle.dwz_expand_layout.specs.Entries.{CanStore, CanWrite, line_view}
 ghost use Rattle.dwz_expand_layout.specs.Lines.{Line};
 ghost use Rattle.dwz_expand_passes.specs.Steps.{AnswersLine, CanBeWritten, IsSource, KnowsHere};
 ghost use Rattle.dwz_expand_passes.specs.Steps.{copied_deep, copied_line, depth_at, line_before};
-ghost use Rattle.dwz_expand_values.specs.Files.{IsKnownReady, entry_count};
+ghost use Rattle.dwz_expand_layout.specs.Shown.{keys_of};
+ghost use Rattle.dwz_expand_values.specs.Files.{IsKnownReady, SpeaksEntry, entry_count};
 ghost use Rattle.dwz_law_sources.specs.Lined.{all_lines};
+ghost use Rattle.dwz_law_sources.specs.Numbered.{key_in};
 ghost use Rattle.dwz_model.specs.Lists.{Each};
 
 use crate::heads::{Head, head_of};
@@ -22,7 +24,7 @@ use std::alloc::Global;
 /// An entry that is copied, by its number.
 #[derive(Clone, Copy)]
 pub(crate) struct Source {
-    entry: u32,
+    pub(crate) entry: u32,
     head: Head,
 }
 
@@ -89,6 +91,9 @@ impl<'a> CopiedEntry<'a> {
         ensures copies { (w : WithCommon ℕ) (stands : Where ℕ) (l : Line ℕ) → KnowsHere known.now w stands
             → slice_get (all_lines w) source.entry ≡ Some l
             → AnswersLine known.now w stands l (copied_deep source.head.depth self.new) result }
+        ensures speaks { (w : WithCommon ℕ) (stands : Where ℕ) (l : Line ℕ) → KnowsHere known.now w stands
+            → slice_get (all_lines w) source.entry ≡ Some l → OnOk result (SpeaksEntry known.now.own known.now.common known.now.unit w
+            (keys_of (key_in w)) source.entry self.new.operands.items) }
     {
         let depth = depth_of(next);
         self.tag = source.head.tag;
@@ -108,6 +113,7 @@ impl<'a> CopiedEntry<'a> {
         requires { CanBeWritten self.now }
         ensures line { line_view result ≡ copied_line self.now }
         ensures can { CanWrite result }
+        ensures operands { result.operands.now ≡ self.now.operands.items }
     {
         NewEntry {
             tag: self.tag,

@@ -1,11 +1,12 @@
 //! The entries of a new unit, from its root on.
 
-ghost use Rattle.std.specs.Prelude.{◌<◌, ℕ, [], List, OnOk};
+ghost use Rattle.std.specs.Prelude.{◌<◌, ◌++◌, ℕ, [], List, OnOk};
 ghost use Rattle.dwz_expand_layout.specs.Depths.{DeepLine, with_ends};
 ghost use Rattle.dwz_expand_layout.specs.Entries.{UnitLines};
 ghost use Rattle.dwz_expand_layout.specs.Laid.{Made};
 ghost use Rattle.dwz_expand_layout.specs.declared.entries.NewKind.{NewKind as Kind};
-ghost use Rattle.dwz_expand_passes.specs.Steps.{AreCopied, RefusesIn};
+ghost use Rattle.dwz_expand_passes.specs.Steps.{AreCopied, KnowsHere, RefusesIn};
+ghost use Rattle.dwz_expand_passes.specs.Noted.{AreNotedOf, Noted};
 ghost use Rattle.dwz_expand_values.specs.Files.{IsKnownReady, entry_count};
 ghost use Rattle.dwz_model.specs.Lists.{Each};
 
@@ -27,13 +28,16 @@ pub(crate) fn pass_entries<'a, P: Pass>(
     ensures passed { OnOk result ((deep : List DeepLine) × AreCopied known.now walk.old deep
         × ((made : Made) (units : List UnitLines) (kind : Kind) → P.within made pass.old units kind []
         → P.within made pass.new units kind (with_ends deep))) }
+    ensures noted { OnOk result ((given : List Noted)
+        × AreNotedOf (KnowsHere known.now) known.now.own known.now.common known.now.unit walk.old given
+        × ((before : List Noted) → P.noted pass.old before → P.noted pass.new (before ++ given))) }
     ensures refused { RefusesIn known.now walk.old result }
 {
     let mut next = next_source(known, walk);
     while let Some(source) = next {
         next = next_source(known, walk);
         copied.copy(known, source, next)?;
-        pass.put(&copied.entry())?;
+        pass.put(known.unit, source.entry, &copied.entry())?;
     }
     Ok(())
 }

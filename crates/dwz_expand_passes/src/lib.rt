@@ -1,11 +1,13 @@
-//! The two passes over the new units of a file that is written without its partial units (DWARF 5, 3.2.5): `lay` measures them, and `write`
+//! The passes over the new units of a file that is written without its partial units (DWARF 5, 3.2.5): `lay` measures them, and `write`
 //! writes them.
 //!
 //! Both take the same way, over all new units and the entries of each, which are the copies of the sources in a plan, and hand each entry
 //! to a `Pass`. So they refuse alike: at the first value that can't be copied. What is laid and what is written is one row of new units, the
 //! only one that has the copies of the plan's sources: so `dwz_law_sources` says of it that it is the new file.
 //!
-//! Read first: `specs/Passes.antt`.
+//! Another `Pass` may take the same way by `pass_units`: it is told the operands of the expressions of each copied entry, in order.
+//!
+//! Read first: `specs/Passes.antt`, then `specs/Noted.antt`.
 #![tactic(auto)]
 
 mod copied;
@@ -19,4 +21,6 @@ mod tables;
 mod units;
 
 pub use file::NewFile;
+pub use pass::Pass;
 pub use passes::{lay, write};
+pub use units::pass_units;

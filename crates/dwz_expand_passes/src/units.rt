@@ -9,10 +9,13 @@ ghost use Rattle.dwz_expand_layout.specs.Entries.{UnitLines};
 ghost use Rattle.dwz_expand_layout.specs.Laid.{Made};
 ghost use Rattle.dwz_expand_layout.specs.Shown.{KindShows};
 ghost use Rattle.dwz_expand_passes.specs.Passes.{AreNew, IsReady, IsRefused, Says, entry_many};
+ghost use Rattle.dwz_expand_passes.specs.Noted.{AreNoted, AreNotedOf, Noted};
 ghost use Rattle.dwz_expand_passes.specs.Steps.{KnowsHere};
 ghost use Rattle.dwz_expand_passes.specs.Tables.{IsTableOf};
 ghost use Rattle.dwz_expand_passes.specs.Units.{IsNewOf, RefusesAt};
 ghost use Rattle.dwz_expand_sources.specs.Numbers.{HasRanges, root_numbers};
+ghost use Rattle.dwz_expand_sources.specs.declared.sources.NewUnit.{NewUnit as UnitInPlan};
+ghost use Rattle.dwz_expand_walk.specs.Walk.{sources_of};
 ghost use Rattle.dwz_expand_values.specs.Files.{IsKnownReady, common_count, entry_count};
 ghost use Rattle.dwz_law_sources.specs.Copied.{named_copy};
 ghost use Rattle.dwz_law_sources.specs.Numbered.{key_in};
@@ -43,6 +46,7 @@ fn pass_known<'a, P: Pass>(
     requires ready { IsReady file.now }
     requires known { IsKnownReady known.now }
     requires own { known.now.own ≡ file.now.own }
+    requires common { known.now.common ≡ file.now.common }
     requires many { entry_count known.now ≡ entry_many file.now }
     requires new { slice_get file.now.sources.now.units known.now.unit ≡ Some new }
     requires ranges { Each (HasRanges file.now.sources.now.ranges) file.now.sources.now.units }
@@ -53,6 +57,9 @@ fn pass_known<'a, P: Pass>(
         → KindShows (key_in w) kind (kind_map (named_copy w known.now.unit) u.kind) }
     ensures passed { OnOk result ((o : UnitLines) × IsNewOf file.now known.now.unit o
         × ((made : Made) (units : List UnitLines) → P.done made pass.old units → P.done made pass.new (units ++ o ∷ []))) }
+    ensures noted { OnOk result ((given : List Noted)
+        × AreNotedOf (Says file.now) file.now.own file.now.common known.now.unit (sources_of file.now.sources.now.ranges new) given
+        × ((before : List Noted) → P.noted pass.old before → P.noted pass.new (before ++ given))) }
     ensures refused { RefusesAt file.now known.now.unit result }
 {
     let mut walk = SourceWalk::new(file.sources, known.unit);
@@ -80,6 +87,10 @@ fn pass_here<'a, P: Pass>(
     ensures table { OnOk result (IsTableOf file.now.own.sections.now last.new) }
     ensures passed { OnOk result ((o : UnitLines) × IsNewOf file.now n o
         × ((made : Made) (units : List UnitLines) → P.done made pass.old units → P.done made pass.new (units ++ o ∷ []))) }
+    ensures noted { OnOk result ((given : List Noted)
+        × ((new : UnitInPlan) → slice_get file.now.sources.now.units n ≡ Some new
+        → AreNotedOf (Says file.now) file.now.own file.now.common n (sources_of file.now.sources.now.ranges new) given)
+        × ((before : List Noted) → P.noted pass.old before → P.noted pass.new (before ++ given))) }
     ensures refused { RefusesAt file.now n result }
 {
     let new = file.sources.units()[n];
@@ -130,6 +141,8 @@ fn pass_all<P: Pass>(
     requires copies { AreCopies file.now.sources.now numbers.now.roots copies.old }
     ensures passed { OnOk result ((order : List UnitLines) × AreNew file.now order
         × ((made : Made) → P.done made pass.old [] → P.done made pass.new order)) }
+    ensures noted { OnOk result ((given : List Noted) × AreNoted file.now given
+        × ((before : List Noted) → P.noted pass.old before → P.noted pass.new (before ++ given))) }
     ensures refused { IsRefused file.now result }
 {
     let mut last = LastTable::none(file.alloc, file.own.sections)?;
@@ -141,11 +154,13 @@ fn pass_all<P: Pass>(
     Ok(())
 }
 
-/// Takes all new units in order.
-pub(crate) fn pass_units<P: Pass>(pass: &mut P, file: &NewFile) -> Result<(), ReadErr>
+/// Takes all new units in order. Refused at the first value that can't be copied, as `lay` refuses.
+pub fn pass_units<P: Pass>(pass: &mut P, file: &NewFile) -> Result<(), ReadErr>
     requires { IsReady file.now }
     ensures passed { OnOk result ((order : List UnitLines) × AreNew file.now order
         × ((made : Made) → P.done made pass.old [] → P.done made pass.new order)) }
+    ensures noted { OnOk result ((given : List Noted) × AreNoted file.now given
+        × ((before : List Noted) → P.noted pass.old before → P.noted pass.new (before ++ given))) }
     ensures refused { IsRefused file.now result }
 {
     let numbers = CopyNumbers::of(file.alloc, file.sources)?;

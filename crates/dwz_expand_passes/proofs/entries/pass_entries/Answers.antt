@@ -1,8 +1,14 @@
-use Rattle.std.proofs.Common.{◌≡◌, ℕ, List, [], ◌∷◌, ◌++◌, ◌<◌, sym, ap, subst, ◌∙◌}
+use Rattle.std.proofs.Common.{◌≡◌, ℕ, List, [], ◌∷◌, ◌++◌, ◌<◌, refl, sym, ap, subst, ◌∙◌, append_assoc}
+use Rattle.std.proofs.lemmas.List.{append-nil}
 use Rattle.std.proofs.lemmas.Result.{err_from_is_err_and}
 use Rattle.dwz_expand_layout.specs.Depths.{with_ends}
 use Rattle.dwz_expand_layout.specs.Entries.{NewLine, line_view}
-use Rattle.dwz_expand_values.specs.Files.{entry_count}
+use Rattle.dwz_expand_layout.specs.Shown.{keys_of}
+use Rattle.dwz_expand_layout.specs.declared.entries.NewOperand.{NewOperand}
+use Rattle.dwz_law_sources.specs.Numbered.{key_in}
+use Rattle.dwz_expand_values.specs.Files.{SpeaksEntry, entry_count}
+use Rattle.dwz_expand_passes.specs.Noted.{Noted, noted_of}
+use Rattle.dwz_expand_passes.proofs.NotedLemmas.{none_noted, noted_none, noted_some, one_noted}
 use Rattle.dwz_expand_passes.specs.Steps.{copied_deep, depth_at, lines_before, rest_of}
 use Rattle.dwz_law_sources.proofs.ReferLemmas.{no_roots}
 use Rattle.dwz_expand_passes.proofs.StepLemmas.{at_none, at_some, lines_are, lines_push, none_passed, one_passed, refuses_at, rest_each, rest_is, source_is}
@@ -17,6 +23,9 @@ loop-next-init g c =
       deep = [];
       passed = none_passed x c.args.walk.now (rest_of s.result s.new.walk) (rest_is x s.result c.args.walk.now s.new.walk s.ensures);
       state = λ made units kind start. start;
+      given = [];
+      noted = none_noted x c.args.walk.now (rest_of s.result s.new.walk) (rest_is x s.result c.args.walk.now s.new.walk s.ensures);
+      told = λ before start. subst (λ (all : List Noted). g.P.Pass.noted c.args.pass.now all) (sym (append-nil before)) start;
     }
 
 pub next_source-next-requires-in-Some-clause-there :
@@ -64,7 +73,18 @@ loop-next-preserved g c =
           let lines : lines_before (depth_at c.loop-next.next) i.deep ++ line_view c.entry.result ∷ [] ≡ lines_before (depth_at n.result) (i.deep ++ d ∷ []) =
           (λ j. lines_before (depth j) i.deep ++ line j ∷ []) ∙ sym (lines_push (depth_at n.result) i.deep d) in
           subst (λ (ls : List NewLine). g.P.Pass.within made c.put.new.self units kind ls) lines
-          (c.in_ok-put.ensures made units kind (lines_before (depth_at c.loop-next.next) i.deep) (i.state made units kind start)));
+          (c.in_ok-put.ensures.passed made units kind (lines_before (depth_at c.loop-next.next) i.deep) (i.state made units kind start)));
+      given = i.given ++ noted_of x.unit s.entry c.entry.result ∷ [];
+      noted = one_noted x c.args.walk.now s.entry c.loop-next.walk (rest_of n.result n.new.walk) i.given (noted_of x.unit s.entry c.entry.result)
+          (noted_some x c.args.walk.now c.loop-next.next c.loop-next.walk i.given s c.in-Some.is i.noted) (rest_is x n.result c.loop-next.walk n.new.walk n.ensures)
+          (record {
+            in_unit = refl;
+            of_source = refl;
+            speaks = λ w stands l know found. subst (λ (os : List NewOperand). SpeaksEntry x.own x.common x.unit w (keys_of (key_in w)) s.entry os) (sym c.entry.ensures.operands)
+                (c.in_ok-copy.ensures.speaks w stands l know found);
+          });
+      told = λ before start. subst (λ (all : List Noted). g.P.Pass.noted c.put.new.self all) (append_assoc before i.given (noted_of x.unit s.entry c.entry.result ∷ []))
+          (c.in_ok-put.ensures.noted (before ++ i.given) (i.told before start));
     }
 
 pub returns-clause-passed : goal.returns-clause-passed
@@ -76,3 +96,8 @@ returns-clause-passed g c =
       at_none c.args.known.now c.args.walk.now c.loop-next.next c.loop-next.walk i.deep c.in_default.is i.passed,
       λ made units kind start. subst (λ (ls : List NewLine). g.P.Pass.within made c.loop-next.pass units kind ls) lines (i.state made units kind start),
     )
+
+pub returns-clause-noted : goal.returns-clause-noted
+returns-clause-noted g c =
+    let i = c.loop-next.invariant in
+    (i.given, noted_none c.args.known.now c.args.walk.now c.loop-next.next c.loop-next.walk i.given c.in_default.is i.noted, i.told)

@@ -6,6 +6,11 @@ use Rattle.dwz_expand_values.specs.Files.{raw_in}
 use Rattle.dwz_expand_passes.proofs.KindLemmas.{here_there}
 use Rattle.dwz_expand_passes.proofs.SaidLemmas.{all_many}
 use Rattle.dwz_expand_passes.proofs.UnitLemmas.{got_item, knows_here, paths_told, planned_unit}
+use Rattle.dwz_expand_passes.specs.Noted.{AreNotedOf}
+use Rattle.dwz_expand_passes.specs.Passes.{Says}
+use Rattle.dwz_expand_walk.specs.Walk.{sources_of}
+use Rattle.dwz_model.proofs.ListFacts.{same_got}
+use Rattle.std.proofs.lemmas.Result.{on_ok_weaker}
 use Rattle.dwz_expand_passes.proofs.units.pass_here.Goals as goal
 
 pub bounds-file-new : goal.bounds-file-new
@@ -49,3 +54,16 @@ pass_known-requires-clause-knows g c = λ w stands says. (
     let paths = paths_told x w stands says c.args.n new there (slice_index_or x.own.heres.now new.unit blank) lt here c.go_to.new.self.paths c.in_ok-go_to.ensures.paths in
     knows_here _ w stands x.sources.now c.requires.copies.0 says.own says.own_stands says.common says.are says.apart c.requires.copies.1
     (all_many x w stands says ∙ sym c.requires.many) inside at paths)
+
+pub returns-clause-noted : goal.returns-clause-noted
+returns-clause-noted g c =
+    let x = c.args.file.now in
+    let none : NewUnit = record { unit = 0; root = 0; first = 0; end = 0 } in
+    let found = got_item x.sources.now.units c.args.n none c.requires.unit in
+    let there = subst (λ (us : List NewUnit). slice_get x.sources.now.units c.args.n ≡ Some (slice_index_or us c.args.n none)) (sym c.units.ensures) found in
+    let new = slice_index_or c.units.result.now c.args.n none in
+    on_ok_weaker c.pass_known.result (λ p. (
+      p.0,
+      (λ y at. subst (λ (z : NewUnit). AreNotedOf (Says x) x.own x.common c.args.n (sources_of x.sources.now.ranges z) p.0) (same_got x.sources.now.units c.args.n new y there at) p.1),
+      p.2,
+    )) c.pass_known.ensures.noted

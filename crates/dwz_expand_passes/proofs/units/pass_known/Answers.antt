@@ -1,9 +1,12 @@
-use Rattle.std.proofs.Common.{ℕ, ◌+◌, ◌<◌, ◌^◌, List, refl, sym, subst, arith}
+use Rattle.std.proofs.Common.{ℕ, ◌+◌, ◌<◌, ◌^◌, ◌++◌, List, refl, sym, subst, arith}
 use Rattle.std.proofs.lemmas.Result.{err_from_is_err_and}
 use Rattle.dwz_model.specs.Lists.{Each}
 use Rattle.dwz_expand_layout.specs.Depths.{with_ends}
 use Rattle.dwz_expand_passes.specs.Passes.{entry_many}
-use Rattle.dwz_expand_passes.specs.Steps.{a_unit}
+use Rattle.dwz_expand_walk.specs.Walk.{sources_of}
+use Rattle.dwz_expand_passes.specs.Noted.{AreNotedOf}
+use Rattle.dwz_expand_passes.specs.Steps.{KnowsHere, a_unit}
+use Rattle.dwz_expand_passes.proofs.NotedLemmas.{noted_in_file}
 use Rattle.dwz_expand_passes.proofs.UnitLemmas.{each_to, new_of, planned_within, refused_at}
 use Rattle.dwz_expand_passes.proofs.units.pass_known.Goals as goal
 
@@ -36,5 +39,17 @@ returns-clause-passed g c =
     let p = c.in_ok-pass_entries.ensures.passed in (
       a_unit c.args.kind (with_ends p.0),
       new_of x k.unit k c.new-walk.result c.args.new c.requires.new walk c.requires.own refl c.requires.knows c.args.kind p.0 c.requires.kinds p.1,
-      λ made units start. c.in_ok-close.ensures made units c.args.kind (with_ends p.0) (p.2 made units c.args.kind (c.in_ok-start.ensures made units start)),
+      λ made units start. c.in_ok-close.ensures.passed made units c.args.kind (with_ends p.0) (p.2 made units c.args.kind (c.in_ok-start.ensures.passed made units start)),
+    )
+
+pub returns-clause-noted : goal.returns-clause-noted
+returns-clause-noted g c =
+    let x = c.args.file.now in
+    let k = c.args.known.now in
+    let walk = c.new-walk.ensures c.args.new c.requires.new in
+    let p = c.in_ok-pass_entries.ensures.noted in (
+      p.0,
+      noted_in_file x k (sources_of x.sources.now.ranges c.args.new) p.0 c.requires.own c.requires.common c.requires.knows
+          (subst (λ (is : List ℕ). AreNotedOf (KnowsHere k) k.own k.common k.unit is p.0) walk p.1),
+      λ before start. c.in_ok-close.ensures.noted (before ++ p.0) (p.2 before (c.in_ok-start.ensures.noted before start)),
     )

@@ -13,3 +13,8 @@ returns-clause-copies c = λ w stands l know found. (
     line_answer x w stands l c.args.source.head c.put_attrs.new.attrs.items c.put_attrs.new.operands.items c.put_attrs.result (c.requires.source.is w stands know l found)
     (subst (λ (n : Node ℕ). AnswersEntry x w (keys_of (key_in w)) stands n c.put_attrs.new.attrs.items c.put_attrs.new.operands.items c.put_attrs.result) d.2
     (c.put_attrs.ensures.copies w (keys_of (key_in w)) stands d.0 know d.1)))
+
+pub returns-clause-speaks : goal.returns-clause-speaks
+returns-clause-speaks c = λ w stands l know found. (
+    let d = node_there w c.args.source.entry l found in
+    c.put_attrs.ensures.speaks w (keys_of (key_in w)) stands d.0 know d.1)

@@ -8,7 +8,9 @@ use Rattle.dwz_expand_layout.specs.Shown.{keys_of}
 use Rattle.dwz_expand_sources.specs.declared.sources.NewUnit.{NewUnit}
 use Rattle.dwz_expand_sources.specs.declared.sources.SourceRange.{SourceRange}
 use Rattle.dwz_expand_values.proofs.OperandLemmas.{long_take, take_one, take_whole}
-use Rattle.dwz_expand_values.specs.Files.{SpeaksEntry}
+use Rattle.std.specs.Prelude.{IsTrue, ◌↔◌}
+use Rattle.dwz_def_reading.specs.Units.{entries_in}
+use Rattle.dwz_expand_values.specs.Files.{SpeaksEntry, raw_in}
 use Rattle.dwz_expand_values.specs.declared.files.Known.{Known}
 use Rattle.dwz_expand_values.specs.declared.files.SourceFile.{SourceFile}
 use Rattle.dwz_expand_walk.specs.Walk.{sources_of}
@@ -72,6 +74,7 @@ noted_in_file x k sources given own common know are =
     (λ i s h. record {
       in_unit = h.in_unit;
       of_source = h.of_source;
+      of_common = subst (λ (f : SourceFile). IsTrue s.common ↔ (entries_in (raw_in f) ≤ i)) own h.of_common;
       speaks = λ w stands l says found.
           subst (λ (c : Option SourceFile). SpeaksEntry x.own c k.unit w (keys_of (key_in w)) i s.operands) common
           (subst (λ (f : SourceFile). SpeaksEntry f k.common k.unit w (keys_of (key_in w)) i s.operands) own (h.speaks w stands l (know w stands says) found));

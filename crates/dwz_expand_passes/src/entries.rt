@@ -1,13 +1,14 @@
 //! The entries of a new unit, from its root on.
 
-ghost use Rattle.std.specs.Prelude.{◌<◌, ◌++◌, ℕ, [], List, OnOk};
+ghost use Rattle.std.specs.Prelude.{◌<◌, ◌≤◌, ◌↔◌, ◌++◌, ℕ, [], IsTrue, List, OnOk};
+ghost use Rattle.dwz_def_reading.specs.Units.{entries_in};
 ghost use Rattle.dwz_expand_layout.specs.Depths.{DeepLine, with_ends};
 ghost use Rattle.dwz_expand_layout.specs.Entries.{UnitLines};
 ghost use Rattle.dwz_expand_layout.specs.Laid.{Made};
 ghost use Rattle.dwz_expand_layout.specs.declared.entries.NewKind.{NewKind as Kind};
 ghost use Rattle.dwz_expand_passes.specs.Steps.{AreCopied, KnowsHere, RefusesIn};
 ghost use Rattle.dwz_expand_passes.specs.Noted.{AreNotedOf, Noted};
-ghost use Rattle.dwz_expand_values.specs.Files.{IsKnownReady, entry_count};
+ghost use Rattle.dwz_expand_values.specs.Files.{IsKnownReady, entry_count, raw_in};
 ghost use Rattle.dwz_model.specs.Lists.{Each};
 
 use crate::copied::{CopiedEntry, next_source};
@@ -15,6 +16,13 @@ use crate::pass::Pass;
 use dwz_expand_values::Known;
 use dwz_expand_walk::SourceWalk;
 use dwz_model::ReadErr;
+
+// Whether an entry is one of the common file: those have the numbers behind the file's own.
+fn is_common(known: &Known, entry: u32) -> bool
+    ensures { IsTrue result ↔ (entries_in (raw_in known.now.own) ≤ entry) }
+{
+    entry >= known.own.units.entries()
+}
 
 /// Takes all entries of the unit at hand. Refused at the first value that can't be copied.
 pub(crate) fn pass_entries<'a, P: Pass>(
@@ -37,7 +45,8 @@ pub(crate) fn pass_entries<'a, P: Pass>(
     while let Some(source) = next {
         next = next_source(known, walk);
         copied.copy(known, source, next)?;
-        pass.put(known.unit, source.entry, &copied.entry())?;
+        let common = is_common(known, source.entry);
+        pass.put(known.unit, source.entry, common, &copied.entry())?;
     }
     Ok(())
 }

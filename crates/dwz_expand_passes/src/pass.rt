@@ -27,10 +27,16 @@ pub trait Pass {
         ensures noted { (given : List Noted) → noted self.old given → noted self.new given }
         ensures passed { (made : Made) (units : List UnitLines) → done made self.old units → OnOk result (within made self.new units kind []) };
 
-    /// Its next entry: the copy of the one with a number, in the unit with a number.
-    fn put(&mut self, unit: usize, source: u32, entry: &NewEntry) -> Result<(), NoMemory>
+    /// Its next entry: the copy of the one with a number, which may be one of the common file, in the unit with a number.
+    fn put(
+        &mut self,
+        unit: usize,
+        source: u32,
+        common: bool,
+        entry: &NewEntry,
+    ) -> Result<(), NoMemory>
         requires { CanWrite entry.now }
-        ensures noted { (given : List Noted) → noted self.old given → noted self.new (given ++ noted_of unit source entry.now ∷ []) }
+        ensures noted { (given : List Noted) → noted self.old given → noted self.new (given ++ noted_of unit source common entry.now ∷ []) }
         ensures passed { (made : Made) (units : List UnitLines) (kind : Kind) (lines : List NewLine) → within made self.old units kind lines
             → OnOk result (within made self.new units kind (lines ++ line_view entry.now ∷ [])) };
 
@@ -52,7 +58,13 @@ impl Pass for Laying {
         self.begin(kind)
     }
 
-    fn put(&mut self, _unit: usize, _source: u32, entry: &NewEntry) -> Result<(), NoMemory> {
+    fn put(
+        &mut self,
+        _unit: usize,
+        _source: u32,
+        _common: bool,
+        entry: &NewEntry,
+    ) -> Result<(), NoMemory> {
         self.add(entry)
     }
 
@@ -72,7 +84,13 @@ impl<'l> Pass for Writing<'l> {
         self.begin(kind)
     }
 
-    fn put(&mut self, _unit: usize, _source: u32, entry: &NewEntry) -> Result<(), NoMemory> {
+    fn put(
+        &mut self,
+        _unit: usize,
+        _source: u32,
+        _common: bool,
+        entry: &NewEntry,
+    ) -> Result<(), NoMemory> {
         self.add(entry)
     }
 

@@ -74,16 +74,17 @@ loop-next-preserved g c =
           (λ j. lines_before (depth j) i.deep ++ line j ∷ []) ∙ sym (lines_push (depth_at n.result) i.deep d) in
           subst (λ (ls : List NewLine). g.P.Pass.within made c.put.new.self units kind ls) lines
           (c.in_ok-put.ensures.passed made units kind (lines_before (depth_at c.loop-next.next) i.deep) (i.state made units kind start)));
-      given = i.given ++ noted_of x.unit s.entry c.entry.result ∷ [];
-      noted = one_noted x c.args.walk.now s.entry c.loop-next.walk (rest_of n.result n.new.walk) i.given (noted_of x.unit s.entry c.entry.result)
+      given = i.given ++ noted_of x.unit s.entry c.is_common-common.result c.entry.result ∷ [];
+      noted = one_noted x c.args.walk.now s.entry c.loop-next.walk (rest_of n.result n.new.walk) i.given (noted_of x.unit s.entry c.is_common-common.result c.entry.result)
           (noted_some x c.args.walk.now c.loop-next.next c.loop-next.walk i.given s c.in-Some.is i.noted) (rest_is x n.result c.loop-next.walk n.new.walk n.ensures)
           (record {
             in_unit = refl;
             of_source = refl;
+            of_common = c.is_common-common.ensures;
             speaks = λ w stands l know found. subst (λ (os : List NewOperand). SpeaksEntry x.own x.common x.unit w (keys_of (key_in w)) s.entry os) (sym c.entry.ensures.operands)
                 (c.in_ok-copy.ensures.speaks w stands l know found);
           });
-      told = λ before start. subst (λ (all : List Noted). g.P.Pass.noted c.put.new.self all) (append_assoc before i.given (noted_of x.unit s.entry c.entry.result ∷ []))
+      told = λ before start. subst (λ (all : List Noted). g.P.Pass.noted c.put.new.self all) (append_assoc before i.given (noted_of x.unit s.entry c.is_common-common.result c.entry.result ∷ []))
           (c.in_ok-put.ensures.noted (before ++ i.given) (i.told before start));
     }
 

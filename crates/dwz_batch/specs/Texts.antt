@@ -1,6 +1,7 @@
 -- What is said of an outcome.
 use Rattle.std.specs.Prelude.{ℕ, Bool, true, false, [], Some, None, length}
-use Rattle.dwz_report.specs.Texts.{Text, file_text, refusal_text}
+use Rattle.dwz_report.specs.Texts.{file_text, refusal_text}
+use Rattle.dwz_text.specs.Lines.{Text}
 use Rattle.dwz_batch.specs.declared.job.Outcome.{Outcome}
 use Rattle.dwz_batch.specs.declared.job.Outcome.TheVariants.{Nothing, Bytes, Refused}
 

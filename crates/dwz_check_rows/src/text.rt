@@ -5,7 +5,7 @@ ghost use Rattle.dwz_def_check.specs.Texts;
 
 use dwz_def_check::Same;
 use dwz_model::{Blob, NoMemory};
-use dwz_report::{decimal, line};
+use dwz_text::{decimal, line};
 use std::alloc::Global;
 
 /// The line of an answer: `same`, `differs: units A, B` with the numbers of units, or `differs: unit N`.

@@ -1,6 +1,6 @@
 -- The line of the answer on two files.
 use Rattle.std.specs.Prelude.{[], ◌∷◌, codes, decimal}
-use Rattle.dwz_report.specs.Texts.{Text, line}
+use Rattle.dwz_text.specs.Lines.{Text, line}
 use Rattle.dwz_def_check.specs.declared.same.Same.{Same}
 use Rattle.dwz_def_check.specs.declared.same.Same.TheVariants.{Unit as OneUnit, Units, Yes}
 

@@ -11,7 +11,7 @@ use Rattle.dwz_def_tops.specs.Spots.{EntryName, Top, Within, tops_of, units_of}
 use Rattle.dwz_def_tops.proofs.AlikeBound.{movable_decides}
 use Rattle.dwz_def_tops.proofs.TopNumbers.{finds, found, one_top, tops_numbers}
 use Rattle.dwz_def_images.specs.After.{Place, name_of_place}
-use Rattle.dwz_report.specs.Texts.{Text}
+use Rattle.dwz_text.specs.Lines.{Text}
 use Rattle.dwz_def_explain.specs.Explained.{IsExplained}
 use Rattle.dwz_def_explain.specs.Places.{Explains, IsMovableAt, IsTextOf, NoneMovableAt, not_movable}
 use Rattle.dwz_def_explain.specs.PlaceLaws.{OneAnswerLaw, SomeAnswerLaw}

@@ -1,12 +1,11 @@
--- Worked: what is printed of two rows of 40 typedefs, one the type of the next, down to `int` of two sizes; of `int`s alone that differ
--- otherwise; and of an offset at which no top begins.
+-- Worked: what is printed of two rows of 40 typedefs, one the type of the next, down to `int` of two sizes; and of `int`s alone that
+-- differ otherwise.
 use Rattle.std.proofs.Common.{◌≡◌, ℕ, zero, suc, ◌+◌, List, [], ◌∷◌, Option, Some, refl}
 use Rattle.std.specs.Prelude.{codes, replicate}
 use Rattle.std.specs.List.{concat}
 use Rattle.std.specs.Fmt.{digits}
 use Rattle.dwz_codes.specs.Attributes.{attribute_rows}
 use Rattle.dwz_codes.specs.Tags.{tag_rows}
-use Rattle.dwz_model.specs.declared.fault.Reason.TheVariants.{NotMovable}
 use Rattle.dwz_def_reading.specs.Documents.{Doc, Entries, entries_map, first_named}
 use Rattle.dwz_def_reading.specs.Trees.{End}
 use Rattle.dwz_def_tops.specs.Spaces.{space_text, tops_under}
@@ -14,7 +13,7 @@ use Rattle.dwz_def_tops.specs.Spots.{Top, entry_spots, named_files, row_in, row_
 use Rattle.dwz_def_tops.specs.Targets.{entries_into}
 use Rattle.dwz_def_tops.specs.Deciding.{top_in}
 use Rattle.dwz_def_tops.proofs.SmallDocs.{base_type, entry, named, then, typed, unit}
-use Rattle.dwz_report.specs.Texts.{Text, reason_words, refusal_line, section_name}
+use Rattle.dwz_text.specs.Lines.{Text}
 use Rattle.dwz_def_explain.specs.Texts.{child_at, entry_along, explained_text, files_spots, place_named, reference_lines}
 use Rattle.dwz_def_explain.specs.declared.verdict.Verdict.{Verdict}
 use Rattle.dwz_def_explain.specs.declared.verdict.Verdict.TheVariants.{Alike, Differ}
@@ -75,7 +74,3 @@ tags = refl
 same : printed (rows_doc 40 0x12d 4 4) 0 41 Alike ≡ codes "alike\n"
 unfolding printed
 same = refl
-
--- the unit's root begins at 0xc, and no top
-root : refusal_line (codes "a") (section_name 1) (codes "c") (reason_words NotMovable) [] ≡ codes "dwz: a: .debug_info+0xc: no movable entry here\n"
-root = refl

@@ -8,7 +8,7 @@ use Rattle.dwz_def_reading.specs.Trees.{End, Entry}
 use Rattle.dwz_def_tops.specs.Deciding.{top_in}
 use Rattle.dwz_def_tops.specs.Spots.{EntryName, Top, same_spot, spots_from, tops_among, tops_of, units_of}
 use Rattle.dwz_def_tops.specs.Targets.{targets_of}
-use Rattle.dwz_report.specs.Texts.{Text, hexadecimal, line}
+use Rattle.dwz_text.specs.Lines.{Text, hexadecimal, line}
 use Rattle.dwz_def_explain.specs.What.{Subtree, subtree, whole_top}
 use Rattle.dwz_def_explain.specs.declared.verdict.Verdict.{Verdict}
 use Rattle.dwz_def_explain.specs.declared.verdict.Verdict.TheVariants.{Alike, Differ}

@@ -10,7 +10,7 @@ use Rattle.dwz_def_readback.specs.Prunable.{IsPrunable}
 use Rattle.dwz_def_output.specs.Written.{ArePrunable, ReadAs}
 use Rattle.dwz_def_explain.specs.Places.{Explains}
 use Rattle.dwz_def_explain.proofs.PlaceLemmas.{one_answer}
-use Rattle.dwz_report.specs.Texts.{Text}
+use Rattle.dwz_text.specs.Lines.{Text}
 use Rattle.dwz_def_run.specs.Out.{IsRefused, Out, OutBy, Slims, output_of, run_for, sup_name}
 use Rattle.dwz_def_run.specs.Tells.{IsTold, IsUntold, TellsWhy, answer_of, first_asked, second_asked}
 use Rattle.dwz_def_run.proofs.Compared.{one_compared}

@@ -11,7 +11,7 @@ use Rattle.dwz_def_readback.proofs.PrunableDecided.{prunable_decided}
 use Rattle.dwz_def_output.specs.Written.{ArePrunable, IsFree}
 use Rattle.dwz_def_explain.specs.Places.{Explains}
 use Rattle.dwz_def_explain.proofs.PlaceLemmas.{some_answer}
-use Rattle.dwz_report.specs.Texts.{Text}
+use Rattle.dwz_text.specs.Lines.{Text}
 use Rattle.dwz_def_run.specs.Out.{Out, OutBy, Slims, output_of, run_for, sup_name}
 use Rattle.dwz_def_run.specs.Tells.{TellsWhy, answer_of, first_asked, second_asked}
 use Rattle.dwz_def_run.proofs.Compared.{never_nothing}

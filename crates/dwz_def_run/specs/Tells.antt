@@ -5,7 +5,7 @@ use Rattle.dwz_def_reading.specs.Documents.{Doc}
 use Rattle.dwz_def_reading.specs.Files.{First, ReadAll, no_files_before}
 use Rattle.dwz_def_images.specs.After.{Place, at_file}
 use Rattle.dwz_def_explain.specs.Places.{Explains, IsTextOf}
-use Rattle.dwz_report.specs.Texts.{Text}
+use Rattle.dwz_text.specs.Lines.{Text}
 use Rattle.dwz_words.specs.Asked.{places_asked}
 use Rattle.dwz_words.specs.declared.options.Options.{Options}
 use Rattle.dwz_run_course.specs.declared.output.Output.{Output}

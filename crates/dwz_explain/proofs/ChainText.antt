@@ -19,7 +19,7 @@ use Rattle.dwz_def_explain.specs.declared.verdict.What.{What}
 use Rattle.dwz_def_explain.specs.What.{IsWhat, whole_top}
 use Rattle.dwz_groups.specs.declared.tops.Tops.{Tops}
 use Rattle.dwz_move_files.specs.Outlines.{IsOutline}
-use Rattle.dwz_report.specs.Texts.{Text, line}
+use Rattle.dwz_text.specs.Lines.{Text, line}
 use Rattle.dwz_explain.specs.Leading.{AnyTwo, LeadsOn}
 
 -- a chain that leads to what differs leads to some two tops

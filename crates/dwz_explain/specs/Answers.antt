@@ -6,7 +6,7 @@ use Rattle.dwz_model.specs.declared.fault.Refusal.{Refusal}
 use Rattle.dwz_def_images.specs.After.{Place}
 use Rattle.dwz_def_reading.specs.Documents.{Doc}
 use Rattle.dwz_def_explain.specs.Places.{IsMovableAt, NoneMovableAt, not_movable}
-use Rattle.dwz_report.specs.Texts.{Text}
+use Rattle.dwz_text.specs.Lines.{Text}
 
 -- that is said of the text or of the refusal; of want of memory nothing is said
 abbrev pub Answers : (Result Text Refusal → Type 0) → Result Text GraphErr → Type 0

@@ -2,23 +2,23 @@
 
 ghost use Rattle.std.specs.Prelude.{◌≡◌, ◌∷◌, ◌++◌, [], codes, decimal, suc, length, IfOk};
 ghost use Rattle.dwz_def_explain.specs.Texts as Explained;
-ghost use Rattle.dwz_report.specs.Texts;
+ghost use Rattle.dwz_text.specs.Lines;
 
 use crate::words::places_text;
 use dwz_model::NoMemory;
-use dwz_report::{decimal, line};
+use dwz_text::{decimal, line};
 use std::alloc::Global;
 
 /// That two tops are alike.
 pub(crate) fn alike_line(alloc: Global) -> Result<Vec<u8>, NoMemory>
-    ensures { IfOk result (λ text. text.items ≡ Texts.line (codes "alike" ∷ [])) }
+    ensures { IfOk result (λ text. text.items ≡ Lines.line (codes "alike" ∷ [])) }
 {
     line(alloc, &[b"alike".as_slice()])
 }
 
 /// How deep the look is that first tells two tops apart: one more than a chain has references.
 pub(crate) fn depth_line(alloc: Global, chain: &[u32]) -> Result<Vec<u8>, NoMemory>
-    ensures { IfOk result (λ text. text.items ≡ Texts.line (codes "depth " ∷ decimal (suc (length chain.now)) ∷ [])) }
+    ensures { IfOk result (λ text. text.items ≡ Lines.line (codes "depth " ∷ decimal (suc (length chain.now)) ∷ [])) }
 {
     let depth = decimal(alloc, chain.len() as u64 + 1)?;
     line(alloc, &[b"depth ".as_slice(), &depth])
@@ -31,7 +31,7 @@ pub(crate) fn reference_line(
     first: u32,
     second: u32,
 ) -> Result<Vec<u8>, NoMemory>
-    ensures { IfOk result (λ text. text.items ≡ Texts.line (codes "reference " ∷ decimal number ∷ codes ": "
+    ensures { IfOk result (λ text. text.items ≡ Lines.line (codes "reference " ∷ decimal number ∷ codes ": "
         ∷ (Explained.code_text first ++ codes " " ++ Explained.code_text second) ∷ [])) }
 {
     let number = decimal(alloc, u64::from(number))?;
@@ -46,7 +46,7 @@ pub(crate) fn difference_line(
     second: u32,
     words: &[u8],
 ) -> Result<Vec<u8>, NoMemory>
-    ensures { IfOk result (λ text. text.items ≡ Texts.line ((Explained.code_text first ++ codes " " ++ Explained.code_text second)
+    ensures { IfOk result (λ text. text.items ≡ Lines.line ((Explained.code_text first ++ codes " " ++ Explained.code_text second)
         ∷ codes ": " ∷ words.now ∷ [])) }
 {
     let places = places_text(alloc, first, second)?;

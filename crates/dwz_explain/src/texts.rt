@@ -11,7 +11,7 @@ ghost use Rattle.dwz_explain.specs.Leading.{LeadsOn};
 ghost use Rattle.dwz_explain.specs.Reached.{IsAsked};
 ghost use Rattle.dwz_graph.specs.Files.{docs_of};
 ghost use Rattle.dwz_move_files.specs.Outlines.{IsOutline};
-ghost use Rattle.dwz_report.specs.Texts;
+ghost use Rattle.dwz_text.specs.Lines;
 
 use crate::asked::{Asked, asked_of};
 use crate::differences::{path_of, what_line};
@@ -43,7 +43,7 @@ fn line_of(run: &Asked, number: u32, first: u32, second: u32) -> Result<Vec<u8>,
     requires second { second < length (tops_of (units_of (docs_of run.now.graph.now.given))) }
     ensures { (t u : Top) → In t (tops_of (units_of (docs_of run.now.graph.now.given))) → In u (tops_of (units_of (docs_of run.now.graph.now.given)))
         → t.number ≡ first → u.number ≡ second
-        → IfOk result (λ text. text.items ≡ Texts.line (codes "reference " ∷ decimal number ∷ codes ": "
+        → IfOk result (λ text. text.items ≡ Lines.line (codes "reference " ∷ decimal number ∷ codes ": "
         ∷ places_text (docs_of run.now.graph.now.given) t.node u.node ∷ [])) }
 {
     let a = place_of_top(run, first).offset;
@@ -73,7 +73,7 @@ fn lines_of(run: &Asked, chain: &[u32], what: &What, a: u32, b: u32) -> Result<V
     requires first { a < length (tops_of (units_of (docs_of run.now.graph.now.given))) }
     requires second { b < length (tops_of (units_of (docs_of run.now.graph.now.given))) }
     ensures { (x y : Top) → LeadsOn (units_of (docs_of run.now.graph.now.given)) chain.now a b x y
-        → IfOk result (λ text. text.items ≡ Texts.line (codes "depth " ∷ decimal (suc (length chain.now)) ∷ [])
+        → IfOk result (λ text. text.items ≡ Lines.line (codes "depth " ∷ decimal (suc (length chain.now)) ∷ [])
         ++ reference_lines (docs_of run.now.graph.now.given) (tops_of (units_of (docs_of run.now.graph.now.given))) chain.now what.now x y) }
 {
     let mut text = depth_line(run.alloc, chain)?;

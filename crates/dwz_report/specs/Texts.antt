@@ -1,7 +1,6 @@
 -- The texts on the console, as they are read there. Each line ends with a newline, which is the byte 10.
-use Rattle.std.specs.Prelude.{ℕ, ◌*◌, List, [], ◌∷◌, ◌++◌, Option, Some, None, codes, decimal, false, get_or}
-use Rattle.std.specs.List.{concat, flat_map}
-use Rattle.std.specs.Fmt.{digits}
+use Rattle.std.specs.Prelude.{ℕ, ◌*◌, List, [], ◌∷◌, ◌++◌, Option, Some, None, codes, decimal, get_or}
+use Rattle.std.specs.List.{flat_map}
 use Rattle.dwz_model.specs.declared.fault.Reason.{Reason}
 use Rattle.dwz_model.specs.declared.fault.Reason.TheVariants.{NotElf, FileType, SectionTable, Compressed, NoDebugInfo, Index, Layout}
 use Rattle.dwz_model.specs.declared.fault.Reason.TheVariants.{TooLarge, BadAbbrev, UnsupportedForm, Truncated, BadNumber, BadString}
@@ -10,19 +9,8 @@ use Rattle.dwz_model.specs.declared.fault.Reason.TheVariants.{BadAranges, DwarfF
 use Rattle.dwz_model.specs.declared.fault.Reason.TheVariants.{TooDeep, TooMany, BadReference, BadOperand, Machine, OperandWidth, FileSize, BadSup}
 use Rattle.dwz_model.specs.declared.fault.Reason.TheVariants.{Checksum, NotMovable, NotImported, NoRow, SupMissing}
 use Rattle.dwz_model.specs.declared.fault.Refusal.{Refusal}
+use Rattle.dwz_text.specs.Lines.{Text, hexadecimal, line}
 use Rattle.dwz_report.specs.declared.summary.Summary.{Summary}
-
--- a text: its bytes
-abbrev pub Text : Type 0
-Text = List ℕ
-
--- a number in lower-case hexadecimal, without leading zeros
-abbrev pub hexadecimal : ℕ → Text
-hexadecimal n = digits 16 false n
-
--- parts one after the other, and the end of the line
-abbrev pub line : List Text → Text
-line parts = concat parts ++ 10 ∷ []
 
 -- ---- refusals
 

@@ -1,38 +1,13 @@
 //! The texts, each a line or some lines.
 
-ghost use Rattle.std.specs.Prelude.{◌≡◌, ◌≤◌, ◌∷◌, [], codes, IfOk, decimal, map};
+ghost use Rattle.std.specs.Prelude.{◌≡◌, ◌≤◌, IfOk};
 ghost use Rattle.dwz_report.specs.Texts;
 
 use crate::reasons::{reason_words, section_name};
 use crate::summary::Summary;
 use dwz_model::{Blob, NoMemory, Reason, Refusal};
+use dwz_text::{decimal, hexadecimal, line};
 use std::alloc::Global;
-
-/// These parts, and the end of the line.
-pub fn line(alloc: Global, parts: &[&[u8]]) -> Result<Vec<u8>, NoMemory>
-    ensures { IfOk result (λ v. v.items ≡ Texts.line (map (λ p. p.now) parts.now)) }
-{
-    let mut text = Vec::new(alloc);
-    for part in parts {
-        text.extend_from_slice(part)?;
-    }
-    text.push(b'\n')?;
-    Ok(text)
-}
-
-/// A number in decimal.
-pub fn decimal(alloc: Global, n: u64) -> Result<Vec<u8>, NoMemory>
-    ensures { IfOk result (λ v. v.items ≡ decimal n) }
-{
-    Ok(format!(in alloc; "{n}")?.into_bytes())
-}
-
-/// A number in lower-case hexadecimal.
-pub fn hexadecimal(alloc: Global, n: u64) -> Result<Vec<u8>, NoMemory>
-    ensures { IfOk result (λ v. v.items ≡ Texts.hexadecimal n) }
-{
-    Ok(format!(in alloc; "{n:x}")?.into_bytes())
-}
 
 // The number behind the words of a reason.
 fn reason_number(alloc: Global, reason: Reason) -> Result<Vec<u8>, NoMemory>

@@ -9,7 +9,7 @@ use Rattle.dwz_def_check.specs.declared.same.Same.{Same}
 use Rattle.dwz_def_check.specs.Texts.{check_text}
 use Rattle.dwz_graph.specs.Files.{FilesFail}
 use Rattle.dwz_outside.specs.declared.puts.Put.{Put}
-use Rattle.dwz_report.specs.Texts.{Text}
+use Rattle.dwz_text.specs.Lines.{Text}
 use Rattle.dwz_run_course.specs.declared.output.Output.{Output}
 use Rattle.dwz_run_course.specs.declared.output.Said.{Said}
 use Rattle.dwz_run_course.specs.declared.output.Said.TheVariants.{Parts}

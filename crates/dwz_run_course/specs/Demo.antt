@@ -2,7 +2,7 @@
 use Rattle.std.specs.Prelude.{ℕ, ◌+◌, ◌<◌, ◌^◌, [], ◌∷◌, Option, Some, None, codes, false, unwrap_or}
 use Rattle.std.specs.List.{sum_by}
 use Rattle.dwz_report.specs.declared.summary.Summary.{Summary}
-use Rattle.dwz_report.specs.Texts.{Text}
+use Rattle.dwz_text.specs.Lines.{Text}
 use Rattle.dwz_words.specs.declared.options.Options.{Options}
 
 -- the options of the work on the files that are made

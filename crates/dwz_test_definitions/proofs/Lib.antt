@@ -17,3 +17,4 @@ pub mod CommonText
 pub mod CommonPath
 pub mod CommonName
 pub mod Deep
+pub mod Refused

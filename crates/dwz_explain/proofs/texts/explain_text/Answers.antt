@@ -6,7 +6,7 @@ use Rattle.dwz_def_explain.specs.declared.verdict.Verdict.{Verdict}
 use Rattle.dwz_def_tops.specs.Spots.{tops_of, units_of}
 use Rattle.dwz_graph.specs.Files.{docs_of}
 use Rattle.dwz_label.proofs.NodeLooks.{movable_below}
-use Rattle.dwz_report.specs.Texts.{line}
+use Rattle.dwz_text.specs.Lines.{line}
 use Rattle.dwz_explain.specs.Leading.{LeadsOn}
 use Rattle.dwz_explain.proofs.ChainText.{explained_leads}
 use Rattle.dwz_explain.proofs.texts.explain_text.Goals as goal

@@ -2,7 +2,7 @@ use Rattle.std.proofs.Common.{ℕ, suc, [], ◌∷◌, ◌++◌, List, get_or, l
 use Rattle.std.specs.Prelude.{codes, decimal}
 use Rattle.std.proofs.lemmas.Option.{slice_get-get_or}
 use Rattle.dwz_graph.specs.Files.{docs_of}
-use Rattle.dwz_report.specs.Texts.{line}
+use Rattle.dwz_text.specs.Lines.{line}
 use Rattle.dwz_explain.proofs.ChainText.{printed_more}
 use Rattle.dwz_explain.proofs.texts.lines_of.Goals as goal
 

@@ -2,7 +2,7 @@ use Rattle.std.proofs.Common.{suc, ◌<◌, [], ◌∷◌, length}
 use Rattle.std.specs.Prelude.{codes, decimal}
 use Rattle.dwz_def_tops.specs.Spots.{tops_of, units_of}
 use Rattle.dwz_graph.specs.Files.{docs_of}
-use Rattle.dwz_report.specs.Texts.{line}
+use Rattle.dwz_text.specs.Lines.{line}
 use Rattle.dwz_explain.proofs.ChainText.{Printed}
 use Rattle.dwz_explain.proofs.texts.lines_of.Given as goal
 

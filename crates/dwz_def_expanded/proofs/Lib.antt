@@ -1,0 +1,2 @@
+pub mod OneRefusal
+pub mod EitherOne

@@ -1,0 +1,9 @@
+use Rattle.dwz_def_expanded.proofs.EitherOne.{either}
+use Rattle.dwz_def_expanded.proofs.OneRefusal.{one_refusal}
+use Rattle.dwz_def_expanded.proofs.laws.refusal_laws.Goals as goal
+
+pub returns-clause-one : goal.returns-clause-one
+returns-clause-one c = one_refusal
+
+pub returns-clause-either : goal.returns-clause-either
+returns-clause-either c = either

@@ -1,0 +1,13 @@
+-- Laws on the file that is written of one without its partial units, and on what refuses it.
+use Rattle.std.specs.Prelude.{◌≡◌, ◌⊎◌}
+use Rattle.dwz_model.specs.declared.fault.Refusal.{Refusal}
+use Rattle.dwz_def_expand.specs.OneFile.{OneFile}
+use Rattle.dwz_def_expanded.specs.NewFile.{NewRefusal}
+
+-- at most one refusal is the first
+abbrev pub OneRefusalLaw : Type 0
+OneRefusalLaw = (f : OneFile) (p q : Refusal) → NewRefusal f p → NewRefusal f q → p ≡ q
+
+-- and some is, or none is
+abbrev pub EitherLaw : Type 0
+EitherLaw = (f : OneFile) → ((q : Refusal) × NewRefusal f q) ⊎ ((q : Refusal) → ¬ NewRefusal f q)

@@ -1,0 +1,9 @@
+//! The first refusal of what is written.
+
+ghost use Rattle.dwz_def_expanded.specs.Laws.{EitherLaw, OneRefusalLaw};
+
+/// Of what is written of a file without its partial units at most one refusal is the first; and some is, or none is.
+pub fn refusal_laws()
+    ensures one { OneRefusalLaw }
+    ensures either { EitherLaw }
+{}

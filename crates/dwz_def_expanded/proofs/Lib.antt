@@ -1,2 +1,3 @@
 pub mod OneRefusal
 pub mod EitherOne
+pub mod OfSections

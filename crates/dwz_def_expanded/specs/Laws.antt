@@ -1,5 +1,5 @@
 -- Laws on the file that is written of one without its partial units, and on what refuses it.
-use Rattle.std.specs.Prelude.{◌≡◌, ◌⊎◌}
+use Rattle.std.specs.Prelude.{◌≡◌, ◌⊎◌, ◌≤◌}
 use Rattle.dwz_model.specs.declared.fault.Refusal.{Refusal}
 use Rattle.dwz_def_expand.specs.OneFile.{OneFile}
 use Rattle.dwz_def_expanded.specs.NewFile.{NewRefusal}
@@ -11,3 +11,7 @@ OneRefusalLaw = (f : OneFile) (p q : Refusal) → NewRefusal f p → NewRefusal 
 -- and some is, or none is
 abbrev pub EitherLaw : Type 0
 EitherLaw = (f : OneFile) → ((q : Refusal) × NewRefusal f q) ⊎ ((q : Refusal) → ¬ NewRefusal f q)
+
+-- each is of a file or of a section that has a name in a refusal
+abbrev pub SectionLaw : Type 0
+SectionLaw = (f : OneFile) (q : Refusal) → NewRefusal f q → q.section ≤ 9

@@ -1,4 +1,5 @@
 use Rattle.dwz_def_expanded.proofs.EitherOne.{either}
+use Rattle.dwz_def_expanded.proofs.OfSections.{of_section}
 use Rattle.dwz_def_expanded.proofs.OneRefusal.{one_refusal}
 use Rattle.dwz_def_expanded.proofs.laws.refusal_laws.Goals as goal
 
@@ -7,3 +8,6 @@ returns-clause-one c = one_refusal
 
 pub returns-clause-either : goal.returns-clause-either
 returns-clause-either c = either
+
+pub returns-clause-section : goal.returns-clause-section
+returns-clause-section c = of_section

@@ -1,5 +1,5 @@
--- Inner: a file of which `.debug_sup` (7.3.6) isn't kept. Where it is made anew, the header of that section is 64 zero bytes, and its content
--- isn't written. Only laws on it cite this.
+-- A file of which `.debug_sup` (7.3.6) isn't kept: where it is made anew, the header of that section is 64 zero bytes, and its content isn't
+-- written.
 use Rattle.std.specs.Prelude.{ℕ, max, List, [], ◌∷◌, ◌++◌, length, take, drop, replicate, if◌then◌else◌}
 use Rattle.dwz_def_reading.specs.declared.elf.Section.{Section}
 use Rattle.dwz_def_reading.specs.ElfHeaders.{file_header}

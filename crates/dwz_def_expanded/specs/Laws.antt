@@ -1,4 +1,4 @@
--- Laws on the file that is written of one without its partial units, and on what refuses it.
+-- Inner: laws on what refuses the file that is written of one without its partial units.
 use Rattle.std.specs.Prelude.{◌≡◌, ◌⊎◌, ◌≤◌}
 use Rattle.dwz_model.specs.declared.fault.Refusal.{Refusal}
 use Rattle.dwz_def_expand.specs.OneFile.{OneFile}

@@ -1,2 +1,3 @@
 pub mod NewFile
+pub mod After
 pub mod Laws

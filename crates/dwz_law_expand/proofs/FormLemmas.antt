@@ -26,7 +26,8 @@ use Rattle.dwz_def_expand.specs.Written.{expanded_sections, same_copy, written}
 use Rattle.dwz_def_expand.proofs.FileLemmas.{file_whole, test}
 use Rattle.dwz_def_expand.proofs.RefusalLemmas.{all_copied}
 use Rattle.dwz_law_expand.specs.FormLaws.{CanBeExpanded}
-use Rattle.dwz_law_expand.specs.Told.{IsOfBytes, new_units, told}
+use Rattle.dwz_def_expanded.specs.After.{new_units}
+use Rattle.dwz_law_expand.specs.Told.{IsOfBytes, told}
 use Rattle.dwz_law_expand.proofs.CopyLemmas.{chosen_keys, each_written}
 use Rattle.dwz_law_expand.proofs.FitLemmas.{NoneNarrow}
 use Rattle.dwz_law_expand.proofs.OriginLemmas.{apart, w}

@@ -43,7 +43,8 @@ use Rattle.dwz_def_expand.specs.OneFile.{OneFile, ReadsOne, around}
 use Rattle.dwz_def_expand.specs.Output.{new_lists, new_ranges, new_sections, sets}
 use Rattle.dwz_def_expand.specs.Dropped.{without_sup}
 use Rattle.dwz_law_expand.specs.MadeLaws.{CanBeLaid, IsMadeOf, MadeLaw, changes_of}
-use Rattle.dwz_law_expand.specs.ReadLaws.{HasExpanded, ReadsFreely, units_after}
+use Rattle.dwz_def_expanded.specs.After.{ReadsFreely, units_after}
+use Rattle.dwz_law_expand.specs.ReadLaws.{HasExpanded}
 use Rattle.dwz_law_expand.specs.Told.{IsOfBytes}
 use Rattle.dwz_def_reading.specs.ElfHeaders.{file_header}
 use Rattle.std.specs.Prelude.{◌+◌, ◌*◌, ◌≤◌, drop, replicate, slice_get, take}

@@ -21,9 +21,10 @@ use Rattle.dwz_def_expand.specs.Written.{written}
 use Rattle.dwz_def_expand.proofs.ChosenLemmas.{chosen_alone}
 use Rattle.dwz_def_expand.proofs.FileLemmas.{places_apart, test}
 use Rattle.dwz_def_expand.proofs.RefusalLemmas.{all_copied}
-use Rattle.dwz_law_expand.specs.ReadLaws.{units_after}
-use Rattle.dwz_law_expand.specs.SameLaws.{SpacesFit}
-use Rattle.dwz_law_expand.specs.Told.{IsOfBytes, new_units}
+use Rattle.dwz_def_expanded.specs.After.{units_after}
+use Rattle.dwz_def_expanded.specs.After.{SpacesFit}
+use Rattle.dwz_def_expanded.specs.After.{new_units}
+use Rattle.dwz_law_expand.specs.Told.{IsOfBytes}
 use Rattle.dwz_law_expand.proofs.AlikeLemmas.{cross_same}
 use Rattle.dwz_law_expand.proofs.FoundLemmas.{own_said}
 use Rattle.dwz_law_expand.proofs.SameLemmas.{AllShown, Shows}

@@ -45,8 +45,10 @@ use Rattle.dwz_def_expand.proofs.ChosenLemmas.{chosen_alone}
 use Rattle.dwz_def_expand.proofs.FileLemmas.{own_place, test}
 use Rattle.dwz_def_expand.proofs.RefusalLemmas.{all_copied}
 use Rattle.dwz_law_expand.specs.FormLaws.{CanBeExpanded}
-use Rattle.dwz_law_expand.specs.ReadLaws.{HasExpanded, ReadsFreely, units_after}
-use Rattle.dwz_law_expand.specs.Told.{IsOfBytes, new_units, told}
+use Rattle.dwz_def_expanded.specs.After.{ReadsFreely, units_after}
+use Rattle.dwz_law_expand.specs.ReadLaws.{HasExpanded}
+use Rattle.dwz_def_expanded.specs.After.{new_units}
+use Rattle.dwz_law_expand.specs.Told.{IsOfBytes, told}
 use Rattle.dwz_law_expand.proofs.CopyLemmas.{in_written}
 use Rattle.dwz_law_expand.proofs.FitLemmas.{NoneNarrow, start_is}
 use Rattle.dwz_law_expand.proofs.FormLemmas.{can_be, none_narrow}

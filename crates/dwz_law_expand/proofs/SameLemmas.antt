@@ -21,7 +21,7 @@ use Rattle.dwz_def_expand.specs.Refusals.{AllCopied, CanCopy, IsLost, nodes, sit
 use Rattle.dwz_def_expand.specs.Source.{Copy, copy_for, is_partial, source_places, source_unit, source_units, sources_below}
 use Rattle.dwz_def_expand.proofs.SourceLemmas.{in_whole}
 use Rattle.dwz_def_expand.proofs.WholeLemmas.{entry_there}
-use Rattle.dwz_law_expand.specs.SameLaws.{SpacesFit}
+use Rattle.dwz_def_expanded.specs.After.{SpacesFit}
 use Rattle.dwz_law_expand.proofs.CopyLemmas.{copied_to, nth_map, own_copied}
 use Rattle.dwz_law_expand.proofs.SiteLemmas.{site, site_from}
 use Rattle.dwz_law_expand.proofs.TopLemmas.{space_from, top_back, top_from, top_to}

@@ -6,7 +6,8 @@ use Rattle.dwz_def_encoding.specs.Fitting.{AreWritable, UnitFits}
 use Rattle.dwz_def_encoding.specs.Meant.{UnitsSay}
 use Rattle.dwz_def_expand.specs.OneFile.{OneFile, ReadsOne}
 use Rattle.dwz_def_expand.specs.Output.{ExpandRefusal, new_places}
-use Rattle.dwz_law_expand.specs.Told.{IsOfBytes, new_units, told}
+use Rattle.dwz_def_expanded.specs.After.{new_units}
+use Rattle.dwz_law_expand.specs.Told.{IsOfBytes, told}
 
 -- each unit is sound, stands at its place, and has room for its operands; numbers and sections fit; and each value says what its form says
 pub record CanBeExpanded (f : OneFile) : Type 0 where

@@ -12,7 +12,8 @@ use Rattle.dwz_def_output.specs.Rebuilt.{CanBeMade, new_file}
 use Rattle.dwz_def_expand.specs.OneFile.{OneFile, ReadsOne}
 use Rattle.dwz_def_expand.specs.Output.{ExpandRefusal, new_sections}
 use Rattle.dwz_def_expand.specs.Dropped.{without_sup}
-use Rattle.dwz_law_expand.specs.ReadLaws.{HasExpanded, ReadsFreely, units_after}
+use Rattle.dwz_def_expanded.specs.After.{ReadsFreely, units_after}
+use Rattle.dwz_law_expand.specs.ReadLaws.{HasExpanded}
 use Rattle.dwz_law_expand.specs.Told.{IsOfBytes}
 
 abbrev pub changes_of : OneFile → Changes

@@ -1,35 +1,15 @@
 -- What is written of a file without its partial units reads by the rule of files that are given, but for limits.
-use Rattle.std.specs.Prelude.{◌≡◌, ℕ, List, true, false}
+use Rattle.std.specs.Prelude.{◌≡◌, ℕ, List, false}
 use Rattle.dwz_model.specs.declared.fault.Fault.{Fault}
 use Rattle.dwz_model.specs.declared.fault.Refusal.{Refusal}
-use Rattle.dwz_def_reading.specs.Documents.{DwUnit}
 use Rattle.dwz_def_reading.specs.ElfFaults.{ElfManner, IsElfFaultFor}
-use Rattle.dwz_def_reading.specs.Entries.{Mode, own_forms}
-use Rattle.dwz_def_reading.specs.Files.{HaveGoodRanges, around_of, debug_abbrev, debug_aranges, debug_info, sources_of}
-use Rattle.dwz_def_reading.specs.Meanings.{MeanUnits}
-use Rattle.dwz_def_reading.specs.NamedLists.{lists_of_units}
-use Rattle.dwz_def_reading.specs.Shared.{NoneShared}
-use Rattle.dwz_def_reading.specs.Units.{RawUnit, SpellsUnits}
-use Rattle.dwz_def_encoding.specs.Meant.{placed_units}
+use Rattle.dwz_def_reading.specs.Files.{debug_abbrev, debug_aranges, debug_info, sources_of}
+use Rattle.dwz_def_reading.specs.Units.{RawUnit}
 use Rattle.dwz_def_expand.specs.OneFile.{OneFile, ReadsOne, said_by_file, same_place}
-use Rattle.dwz_def_expand.specs.Output.{ExpandRefusal, forms, new_lists, new_places, new_ranges}
+use Rattle.dwz_def_expand.specs.Output.{ExpandRefusal, forms, new_lists, new_ranges}
 use Rattle.dwz_def_expand.specs.Written.{expanded_sections}
-use Rattle.dwz_law_expand.specs.Told.{IsOfBytes, new_units}
-
--- A file that reads as one that is given (`given_rule`), where no limit is asked for, neither of its length and its machine, nor of how many
--- section headers it has, and how many entries and how deep.
-pub record ReadsFreely (bytes : List ℕ) (raw : List RawUnit) (units : List (DwUnit ℕ)) : Type 0 where
-  pub manner : ElfManner
-  pub alone : manner.sup ≡ false
-  pub elf : (x : Fault) → IsElfFaultFor manner bytes x → ⊥
-  pub mode : Mode
-  pub whole : mode.whole ≡ true
-  pub partial : mode.partial ≡ false
-  pub forms : mode.forms ≡ own_forms
-  pub spelled : SpellsUnits (debug_abbrev bytes) mode 0 raw 0 (debug_info bytes)
-  pub means : MeanUnits (around_of bytes raw) raw units
-  pub ranges : HaveGoodRanges bytes raw
-  pub lists : NoneShared (lists_of_units (around_of bytes raw) raw)
+use Rattle.dwz_def_expanded.specs.After.{ReadsFreely, units_after}
+use Rattle.dwz_law_expand.specs.Told.{IsOfBytes}
 
 -- an ELF file without `.debug_sup` that has the new sections, and else those of the file
 pub record HasExpanded (f : OneFile) (out : List ℕ) : Type 0 where
@@ -44,10 +24,6 @@ pub record HasExpanded (f : OneFile) (out : List ℕ) : Type 0 where
   pub line : (sources_of out).line ≡ (sources_of f.file.bytes).line
   pub lists : (sources_of out).lists ≡ new_lists f
   pub ranges : debug_aranges out ≡ new_ranges f
-
--- what it says: the new units, each entry at its place
-abbrev pub units_after : OneFile → List (DwUnit ℕ)
-units_after f = placed_units (new_places f) (new_places f).place (new_units f)
 
 -- where nothing refuses a file that reads, what has its new sections reads by itself, and says the new units
 abbrev pub ReadLaw : Type 0

@@ -1,6 +1,5 @@
 -- What the new units are written for, of a file without its partial units.
 use Rattle.std.specs.Prelude.{List, [], ◌∷◌, ◌++◌, Option, Some, None, ◌==◌, if◌then◌else◌}
-use Rattle.dwz_def_reading.specs.Documents.{DwUnit}
 use Rattle.dwz_def_reading.specs.Files.{sources_of}
 use Rattle.dwz_def_reading.specs.NamedLists.{list_of_attr}
 use Rattle.dwz_def_reading.specs.Places.{Place, at_file}
@@ -11,7 +10,7 @@ use Rattle.dwz_def_expand.specs.OneFile.{FileRead, OneFile, StoredAttr, said_by_
 use Rattle.dwz_def_expand.specs.Output.{forms, number_of_unit, sites_of_file, sources_by_file}
 use Rattle.dwz_def_expand.specs.Refusals.{Site}
 use Rattle.dwz_def_expand.specs.Source.{Copy, copy_for}
-use Rattle.dwz_def_expand.specs.Written.{written}
+use Rattle.dwz_def_expanded.specs.After.{new_units}
 
 -- a file, and the common file beside which it was read, are rows of bytes
 abbrev pub CommonIsBytes : Option FileRead → Type 0
@@ -20,10 +19,6 @@ CommonIsBytes (Some c) = AreBytes c.bytes
 
 abbrev pub IsOfBytes : OneFile → Type 0
 IsOfBytes f = AreBytes f.file.bytes × CommonIsBytes f.common
-
--- the units of the new file, with the forms of their values
-abbrev pub new_units : OneFile → List (DwUnit (Copy Place))
-new_units f = written same_place (forms f) (said_by_file f)
 
 -- the location lists that the values of sources name, in the file itself: the common file has none
 abbrev pub lists_of_value : Option StoredAttr → List NamedList

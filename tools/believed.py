@@ -30,7 +30,7 @@ ROOTS = [
     ("dwz_def_expand", "src/laws.rt", ["expand_laws", "refusal_laws"]),
     ("dwz_def_taken", "src/taken.rt", ["taken_laws", "over_laws"]),
 ]
-BELIEVED = ["model", "bytes", "codes", "outside", "words", "report", "gen", "run_course", "run"]
+BELIEVED = ["model", "bytes", "codes", "outside", "words", "text", "report", "gen", "run_course", "run"]
 MARK = "-- Inner:"
 # A word is a run of what may stand in a name; a word between « and » is the same word.
 SIGNATURE = re.compile(r"^(?:(?:pattern|unfoldable|abbrev|axiom|opaque|pub)\s+)*(record|data)?\s*(«?)([^\s(){}.;,@\"«»:]+)»?\s*(.*)$", re.S)

@@ -3,10 +3,9 @@
 ghost use Rattle.std.specs.Prelude.{◌≡◌, length};
 ghost use Rattle.dwz_expand.specs.Units.{AnswersOne, AreUnitsOf};
 
-use crate::file::new_file;
-use crate::units::{laid, units_written};
 use dwz_expand_known::{Plan, SourceFiles, UnitHeres, first_refusal, known_laws};
 use dwz_expand_layout::NewLayout;
+use dwz_expand_units::{laid, new_file, units_written};
 use dwz_graph::Graph;
 use dwz_model::GraphErr;
 use std::alloc::Global;

@@ -48,7 +48,7 @@ laid-requires c =
     let common = option_map (λ f. f.now) c.common-common.result in
     let k = c.known_laws.ensures.files r c.back.result.now c.index-back-0.result common c.of-files.result c.requires.one c.common-common.ensures c.back.ensures c.index-back-0.is c.of-files.ensures in
     let p = c.in_ok-plan.ensures r k in
-    let of = c.new_file-file.ensures r c.index-back-0.result common k p in
+    let of = c.new_file-file.ensures r _ c.index-back-0.result common k p c.common-common.ensures c.of-files.ensures in
     let free = c.in_ok-first_refusal.ensures r c.index-back-0.result common k p in
     record { copied = (k.f, of, free) }
 
@@ -58,7 +58,7 @@ units_written-requires c =
     let common = option_map (λ f. f.now) c.common-common.result in
     let k = c.known_laws.ensures.files r c.back.result.now c.index-back-0.result common c.of-files.result c.requires.one c.common-common.ensures c.back.ensures c.index-back-0.is c.of-files.ensures in
     let p = c.in_ok-plan.ensures r k in
-    let of = c.new_file-file.ensures r c.index-back-0.result common k p in
+    let of = c.new_file-file.ensures r _ c.index-back-0.result common k p c.common-common.ensures c.of-files.ensures in
     let free = c.in_ok-first_refusal.ensures r c.index-back-0.result common k p in
     record { copied = (k.f, of, free) }
 
@@ -68,7 +68,7 @@ returns c =
     let common = option_map (λ f. f.now) c.common-common.result in
     let k = c.known_laws.ensures.files r c.back.result.now c.index-back-0.result common c.of-files.result c.requires.one c.common-common.ensures c.back.ensures c.index-back-0.is c.of-files.ensures in
     let p = c.in_ok-plan.ensures r k in
-    let of = c.new_file-file.ensures r c.index-back-0.result common k p in
+    let of = c.new_file-file.ensures r _ c.index-back-0.result common k p c.common-common.ensures c.of-files.ensures in
     let free = c.in_ok-first_refusal.ensures r c.index-back-0.result common k p in
     let l = c.in_ok-layout.ensures k.f of in (
       k.f,

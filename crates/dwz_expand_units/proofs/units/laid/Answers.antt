@@ -1,7 +1,7 @@
 use Rattle.dwz_expand_known.specs.OneKnown.{stands_of}
 use Rattle.dwz_expand_layout.specs.Laid.{layout_view}
-use Rattle.dwz_expand.proofs.OneLemmas.{laid_of, never, refused_so}
-use Rattle.dwz_expand.proofs.units.laid.Goals as goal
+use Rattle.dwz_expand_units.proofs.OneLemmas.{laid_of, never, refused_so}
+use Rattle.dwz_expand_units.proofs.units.laid.Goals as goal
 
 pub unreachable-requires : goal.unreachable-requires
 unreachable-requires c =

@@ -3,7 +3,7 @@
 ghost use Rattle.std.specs.Prelude.{◌≡◌, IfOk};
 ghost use Rattle.dwz_def_expand.specs.OneFile.{OneFile};
 ghost use Rattle.dwz_def_expand.specs.Output.{new_sections};
-ghost use Rattle.dwz_expand.specs.Units.{CanBeCopied, IsLaidOf, IsOfOne};
+ghost use Rattle.dwz_expand_units.specs.Units.{CanBeCopied, IsLaidOf, IsOfOne};
 ghost use Rattle.dwz_expand_layout.specs.Laid.{layout_view};
 
 use dwz_expand_layout::NewLayout;

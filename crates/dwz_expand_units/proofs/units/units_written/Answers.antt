@@ -2,8 +2,8 @@ use Rattle.std.proofs.Common.{◌∙◌, ap}
 use Rattle.dwz_expand_known.specs.OneKnown.{stands_of}
 use Rattle.dwz_expand_layout.specs.Laid.{Made}
 use Rattle.dwz_expand_layout.specs.Written.{written}
-use Rattle.dwz_expand.proofs.OneLemmas.{never, refused_so}
-use Rattle.dwz_expand.proofs.units.units_written.Goals as goal
+use Rattle.dwz_expand_units.proofs.OneLemmas.{never, refused_so}
+use Rattle.dwz_expand_units.proofs.units.units_written.Goals as goal
 
 pub unreachable-requires : goal.unreachable-requires
 unreachable-requires c =

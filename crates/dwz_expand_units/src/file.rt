@@ -1,14 +1,15 @@
 //! A file whose new units are written.
 
-ghost use Rattle.dwz_expand_known.specs.OneKnown.{IsOneKnown};
+ghost use Rattle.dwz_expand_known.specs.OneKnown.{AreSourceFiles, IsOneKnown};
 ghost use Rattle.dwz_expand_known.specs.Plans.{IsPlanOf};
-ghost use Rattle.dwz_expand.specs.Units.{IsOfOne};
+ghost use Rattle.dwz_expand_units.specs.Units.{IsOfOne};
 ghost use Rattle.dwz_graph.specs.declared.file.File.{File};
-ghost use Rattle.dwz_graph.specs.Files.{FilesRead};
-ghost use Rattle.std.specs.Prelude.{Option};
+ghost use Rattle.dwz_graph.specs.Files.{FilesRead, HasCommon};
+ghost use Rattle.std.specs.Prelude.{ℕ, Option};
 
 use dwz_expand_known::{Plan, SourceFiles, known_laws};
 use dwz_expand_passes::NewFile;
+use dwz_graph::placed_laws;
 use std::alloc::Global;
 
 /// What is kept of a file and of its common one, with the sources of its new units.
@@ -17,10 +18,11 @@ pub fn new_file<'s, 'a>(
     files: &SourceFiles<'s, 'a>,
     plan: &'s Plan,
 ) -> NewFile<'s, 'a>
-    ensures { (r : FilesRead) (own : File) (common : Option File) (k : IsOneKnown r own common files.now) → IsPlanOf files.now k.w plan.now
-        → IsOfOne k.f result }
+    ensures { (r : FilesRead) (number : ℕ) (own : File) (common : Option File) (k : IsOneKnown r own common files.now)
+        → IsPlanOf files.now k.w plan.now → HasCommon number r.common common → AreSourceFiles own common files.now → IsOfOne k.f result }
 {
     known_laws();
+    placed_laws();
     NewFile {
         alloc,
         own: files.own,

@@ -3,7 +3,8 @@
 //! `first_narrow_copied` takes all new units once more, as they were laid and are written, and finds the first operands by place, in the
 //! file and in its common one, whose new numbers need more bytes than they have.
 //!
-//! Read first: `specs/Told.antt`; and `specs/Noted.antt` of `dwz_expand_passes`.
+//! Read first: `AreFirstOf` (`specs/Told.antt`), and `specs/Units.antt` of `dwz_expand_units`; then the rest of `specs/Told.antt`, and
+//! `specs/Noted.antt` of `dwz_expand_passes`.
 #![tactic(auto)]
 
 mod narrow;

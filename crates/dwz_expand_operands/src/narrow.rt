@@ -1,16 +1,20 @@
 //! The first operands of copied entries that are too narrow.
 
 ghost use Rattle.std.specs.Prelude.{◌≡◌, IfOk, List};
+ghost use Rattle.dwz_def_expand.specs.OneFile.{OneFile};
 ghost use Rattle.dwz_expand_layout.specs.Laid.{layout_view};
-ghost use Rattle.dwz_expand_operands.specs.Told.{AreFirst, common_told, own_told};
+ghost use Rattle.dwz_expand_operands.specs.Told.{AreFirst, AreFirstOf, common_told, own_told};
 ghost use Rattle.dwz_expand_passes.specs.Noted.{AreNoted, Noted};
 ghost use Rattle.dwz_expand_passes.specs.Passes.{IsReady, IsRefused};
 ghost use Rattle.dwz_expand_sections.specs.Narrow.{FirstPlace};
+ghost use Rattle.dwz_expand_units.specs.Units.{CanBeCopied, IsLaidOf, IsOfOne};
 
 use crate::told::{note_all, start_at};
 use dwz_expand_layout::{NewEntry, NewKind, NewLayout};
 use dwz_expand_passes::{NewFile, Pass, pass_units};
+use dwz_law_faults::fault_laws;
 use dwz_model::{NoMemory, ReadErr};
+use std::alloc::AllocError;
 
 /// The places of the first operands that are too narrow, in bytes from the first of `.debug_info`.
 #[derive(Clone, Copy)]
@@ -60,11 +64,12 @@ impl<'l> Pass for NarrowPass<'l> {
     }
 }
 
-/// The places of the first operands of expressions whose new numbers need more bytes than they have, of the entries of a file and of its
-/// common file that new units copy, where these are laid so. Refused as `lay` refuses.
-pub fn first_narrow_copied(file: &NewFile, layout: &NewLayout) -> Result<CopiedPlaces, ReadErr>
+// The places of the first operands of expressions whose new numbers need more bytes than they have, of the entries of a file and of its
+// common file that new units copy, where these are laid so. Refused as `lay` refuses.
+fn first_told(file: &NewFile, layout: &NewLayout) -> Result<CopiedPlaces, ReadErr>
     requires { IsReady file.now }
-    ensures places { IfOk result (λ places. (given : List Noted) × AreNoted file.now given × AreFirst (layout_view layout.now) given places) }
+    ensures places { IfOk result (λ places. (given : List Noted) × AreNoted file.now given
+        × AreFirst (layout_view layout.now) given places) }
     ensures refused { IsRefused file.now result }
 {
     let mut pass = NarrowPass {
@@ -76,4 +81,18 @@ pub fn first_narrow_copied(file: &NewFile, layout: &NewLayout) -> Result<CopiedP
     };
     pass_units(&mut pass, file)?;
     Ok(pass.places)
+}
+
+/// The places of the first operands of expressions whose new numbers need more bytes than they have, of the values of a file and of those
+/// of its common file, where its new units are laid so. Each value can be copied.
+pub fn first_narrow_copied(file: &NewFile, layout: &NewLayout) -> Result<CopiedPlaces, NoMemory>
+    requires copied { (f : OneFile) × IsOfOne f file.now × CanBeCopied f }
+    ensures { (f : OneFile) → IsOfOne f file.now → IsLaidOf f file.now (layout_view layout.now) → IfOk result (AreFirstOf f) }
+{
+    fault_laws();
+    match first_told(file, layout) {
+        Ok(places) => Ok(places),
+        Err(ReadErr::NoMemory) => Err(AllocError),
+        Err(ReadErr::Refused(_)) => unreachable!(),
+    }
 }

@@ -1,13 +1,16 @@
-use Rattle.std.proofs.Common.{◌≡◌, [], refl, subst}
-use Rattle.dwz_expand_layout.specs.Laid.{Made, layout_view}
-use Rattle.dwz_expand_operands.specs.Told.{AreFirst}
-use Rattle.dwz_expand_operands.proofs.ToldLemmas.{none_first}
+use Rattle.dwz_expand_known.specs.OneKnown.{stands_of}
+use Rattle.dwz_expand_layout.specs.Laid.{layout_view}
+use Rattle.dwz_expand_units.proofs.OneLemmas.{never, refused_so}
+use Rattle.dwz_expand_operands.proofs.SpokenTold.{first_of}
 use Rattle.dwz_expand_operands.proofs.narrow.first_narrow_copied.Goals as goal
 
-pub returns-clause-places : goal.returns-clause-places
-returns-clause-places c =
-    let n = c.in_ok-pass_units.ensures.noted in
-    let p = c.in_ok-pass_units.ensures.passed in
-    let made = layout_view c.args.layout.now in
-    let same : layout_view c.pass_units.new.pass.layout.now ≡ made = p.2 made refl in
-    (n.0, n.1, subst (λ (m : Made). AreFirst m n.0 c.pass_units.new.pass.places) same (n.2 [] (none_first made _ (λ o there. absurd there) (λ o there. absurd there))))
+pub unreachable-requires : goal.unreachable-requires
+unreachable-requires c =
+    let f = c.requires.copied.0 in
+    let k = c.requires.copied.1 in
+    never c.fault_laws.ensures.faults c.fault_laws.ensures.files f c.args.file.now k c.requires.copied.2 c.in-Err-Refused.field-0-0
+    (refused_so c.args.file.now c.first_told.result c.in-Err-Refused.field-0 c.in-Err-Refused.field-0-0 c.in-Err-Refused.is c.in-Err-Refused.field-0-is c.first_told.ensures.refused k.w
+    (stands_of f k.place) k.says)
+
+pub returns-in-Ok : goal.returns-in-Ok
+returns-in-Ok c = λ f k l. (let h = c.in-Ok.ensures.places in first_of f c.args.file.now k (layout_view c.args.layout.now) l h.0 h.1 c.in-Ok.places h.2)

@@ -1,0 +1,4 @@
+pub mod Giving
+pub mod Without
+pub mod Answers
+pub mod Laws

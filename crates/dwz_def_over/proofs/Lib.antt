@@ -1,0 +1,13 @@
+pub mod OneFault
+pub mod NoneTooNarrow
+pub mod EitherFault
+pub mod FaultSections
+pub mod SectionsOver
+pub mod SlotsOver
+pub mod FilesOver
+pub mod LocalParts
+pub mod OutsOver
+pub mod LinesOver
+pub mod FreeOver
+pub mod OperandsOver
+pub mod WithinOver

@@ -1,0 +1,437 @@
+-- Over a finished common file references of what stands in a file after name entries of that file, or of the common file.
+use Rattle.std.proofs.Common.{◌≡◌, ◌⊎◌, ℕ, ◌+◌, length, Bool, true, false, List, [], ◌++◌, ◌==◌, map, refl, sym, ap, subst, ◌∙◌, arith, inl, inr, eq-eqb, eqb-true}
+use Rattle.dwz_def_reading.specs.Documents.{Attr, Compile, Doc, DwUnit, Entries, Kind, Node, OfType, Partial, entries_map, language}
+use Rattle.dwz_def_reading.specs.Lists.{In}
+use Rattle.dwz_def_reading.specs.Trees.{End, Entry}
+use Rattle.dwz_def_reading.proofs.ListFacts.{in_cases, in_left, in_map, in_right}
+use Rattle.dwz_def_tops.specs.Lists.{Nth}
+use Rattle.dwz_def_tops.specs.Seen.{Closed, Named, Seen, all_seen, named_map, named_value, see, seen, seen_below, seen_map, seen_roots}
+use Rattle.dwz_def_tops.proofs.Members.{each_in, in_filter, in_filter_from, in_map_from, in_nth, nth_in, nth_one}
+use Rattle.dwz_def_tops.proofs.SeenLemmas.{entry_seen, names_map, root_from, root_seen, seen_entries, seen_from, seen_in}
+use Rattle.dwz_def_tops.proofs.ShownLemmas.{attr_from}
+use Rattle.dwz_def_tops.specs.Spaces.{IsUnder}
+use Rattle.dwz_def_tops.specs.Spots.{FileUnit, PartialRoot, EntryName, Top, name_list, rows_of_root, row_tops, tops_of, units_of, LabelledTop, Row, Within, file_numbers}
+use Rattle.dwz_def_tops.proofs.RowLemmas.{unit_row, row_unit}
+use Rattle.dwz_def_tops.proofs.Tops.{row_top, unit_of}
+use Rattle.dwz_def_plan.specs.Homes.{Common, Home, Local, Rule, Stay, file_of, is_home, moves, users}
+use Rattle.dwz_def_plan.specs.IsPlan.{IsHome, IsPart, OfSpace, OfTop}
+use Rattle.dwz_def_plan.specs.Moves.{Move, image_in, seen_top}
+use Rattle.dwz_def_plan.specs.Plan.{PartialUnit, import_of, imports, kept_row, image_by, part_row, stand_in, partials}
+use Rattle.dwz_def_plan.proofs.HomeLemmas.{file_at, home_is, file_of_top}
+use Rattle.dwz_def_plan.proofs.KeptLemmas.{are_imports}
+use Rattle.dwz_def_plan.proofs.PlanLemmas.{are_parts, has_rep}
+use Rattle.dwz_def_plan.proofs.RowParts.{kept_is}
+use Rattle.dwz_def_plan.proofs.PartRows.{part_is}
+use Rattle.dwz_def_plan.proofs.UserLemmas.{moving, moves_self, rep_is, stands_same, used}
+use Rattle.dwz_def_images.specs.After.{AreOld, IsNamedBelow}
+use Rattle.dwz_def_images.specs.Held.{NameNone}
+use Rattle.dwz_def_images.specs.Units.{changes, common_units, kept_unit, kept_units, out_units, partial_unit, partial_units, tree, units_of_file}
+use Rattle.dwz_def_images.proofs.ClosedLemmas.{none_seen, row_seen}
+use Rattle.dwz_def_images.proofs.EntryLemmas.{kept_compile, kept_still, kept_type}
+use Rattle.dwz_def_images.proofs.KindLemmas.{kept_kinded}
+use Rattle.dwz_def_images.proofs.OldRows.{InTop, IsSpaceSeen, Origin, item_under, raw_seen, raw_top, row_kinded, seen_origin, tops_among}
+use Rattle.dwz_def_images.proofs.TreeLemmas.{Behind, OfASpace, OfATop, TreeOrigin, seen_top_map, tree_origin, tree_seen}
+use Rattle.std.specs.List.{filter}
+use Rattle.dwz_def_encoding.specs.Meant.{all_entry_keys}
+use Rattle.dwz_def_encoding.proofs.ChosenNames.{all_seen_key}
+use Rattle.dwz_def_readback.proofs.HomeLemmas.{kept_from, parts_from}
+use Rattle.dwz_def_readback.proofs.KeptLemmas.{mapped_kept, space_kept, top_kept}
+use Rattle.dwz_def_readback.proofs.WithinLemmas.{kept_to, none_mapped, parts_to}
+use Rattle.dwz_def_images.proofs.HeldLemmas.{root_none}
+use Rattle.dwz_def_images.proofs.FileLemmas.{files_are}
+use Rattle.dwz_def_images.proofs.OldFiles.{nth_cases}
+use Rattle.dwz_def_images.proofs.OldLemmas.{top_at}
+use Rattle.dwz_def_taken.proofs.CommonUnits.{common_stands, not_shared}
+use Rattle.dwz_def_taken.proofs.CommonParts.{common_nth, length-common}
+use Rattle.dwz_def_taken.proofs.ClosedOver.{local_rows}
+use Rattle.dwz_def_taken.proofs.OverLemmas.{fair, free_none, free_two, image_is, moving_seen, stand, taken_seen}
+use Rattle.dwz_def_taken.proofs.PlaceLemmas.{nth_move, nth_right, part_nth}
+use Rattle.dwz_def_taken.specs.Beside.{Reused, reused_of, together}
+use Rattle.dwz_def_taken.specs.Over.{as_part, common_parts, move_over, standing_unit}
+use Rattle.dwz_def_taken.specs.Takes.{IsFixed, free_rule, free_test, image_at}
+use Rattle.std.specs.Prelude.{unwrap_or, ◌||◌, Option, Some, None}
+use Rattle.std.specs.Option.{is_some}
+use Rattle.dwz_def_taken.specs.Laws.{ArePlacedOver, IsReused}
+use Rattle.dwz_def_taken.specs.declared.fixed.Fixed.{Fixed}
+use Rattle.dwz_def_over.proofs.LocalParts.{IsLocal, in_part, local_file, local_kinds, local_part, space_plain, tops_there}
+use Rattle.dwz_def_taken.proofs.NamesOver.{named_over}
+
+-- an entry in spaces is seen
+under_seen : (names : List (List ℕ)) (e : Node EntryName) (g : Entries EntryName) → IsUnder names e g → (d : Seen EntryName) × In d (seen g) × (d.attrs ≡ map named_value e.attrs)
+unfolding seen
+under_seen names e End h = absurd h
+under_seen names e (Entry d g k) (inl x) = (see d g, inl refl, ap (λ (w : Node EntryName). map named_value w.attrs) x.1)
+under_seen names e (Entry d g k) (inr (inl i)) = let o = under_seen i.1 e g i.4 in (o.0, inr (in_left o.0 (seen g) (seen k) o.1), o.2)
+under_seen names e (Entry d g k) (inr (inr r)) = let o = under_seen names e k r in (o.0, inr (in_right o.0 (seen g) (seen k) o.1), o.2)
+
+module _ (docs : List (Doc ℕ)) (common : Doc ℕ) (fixed : Fixed) (p : ArePlacedOver docs common) (fx : IsFixed (reused_of docs common) fixed) (file : ℕ) where
+  abbrev r : Reused
+  r = reused_of docs common
+
+  abbrev units : List (FileUnit EntryName)
+  units = units_of docs
+
+  abbrev files : List ℕ
+  files = file_numbers 0 docs
+
+  abbrev m : Move
+  m = move_over (reused_of docs common) fixed (file_numbers 0 docs)
+
+  abbrev rule : Rule
+  rule = free_rule (reused_of docs common) fixed
+
+  abbrev firsts : List PartialUnit
+  firsts = common_parts (reused_of docs common) fixed 0 (reused_of docs common).commons
+
+  abbrev locals : List PartialUnit
+  locals = partials (free_rule (reused_of docs common) fixed) (units_of docs) (file_numbers 0 docs)
+
+  re : IsReused r
+  re = named_over docs common p
+
+  old : AreOld units
+  old = re.own
+
+  abbrev f : EntryName → EntryName
+  f = image_in m
+
+  -- what stands in the common file, and in the file
+  abbrev outs : List (DwUnit EntryName)
+  outs = common_units m ++ out_units m units file
+
+  kept_in : (i : ℕ) (u : FileUnit EntryName) → Nth 0 units i u → u.file ≡ file → In (kept_unit m units i u) outs
+  unfolding out_units
+  kept_in i u nth e =
+      in_right (kept_unit m units i u) (common_units m) (partial_units m (Local file) 0 m.parts ++ kept_units m units file 0 units)
+      (in_right (kept_unit m units i u) (partial_units m (Local file) 0 m.parts) (kept_units m units file 0 units) (kept_to m units file 0 units i u nth e))
+
+  -- a unit of the common file
+  standing_in : (k : FileUnit EntryName) → In k r.commons → In (standing_unit r k) outs
+  standing_in k there =
+      in_left (standing_unit r k) (common_units m) (out_units m units file)
+      (subst (In (standing_unit r k)) (sym (common_stands docs common fixed p fx)) (in_map (standing_unit r) k r.commons there))
+
+  -- a partial unit of a file whose units use it
+  local_in : (n : ℕ) (part : PartialUnit) → Nth 0 m.parts n part → In part locals → (i : ℕ) → In i part.users → file_of units i ≡ file → In (partial_unit m n) outs
+  unfolding out_units
+  local_in n part nth there i user e = by part.home refl found where
+    is : IsPart rule units part
+    is = each_in (IsPart rule units) part locals (are_parts rule units files) there
+
+    found : IsHome units part.users part.home
+    found =
+        let t = is.some.0 in
+        let b = (is.tops t).0 is.some.1 in
+        let moved : moves rule units t.number ≡ true = ap is_home b.home ∙ is.moves in
+        let own = subst (IsHome units (users rule.alike units t.number)) (sym (moving units rule t.number moved).at_home ∙ b.home) (home_is rule.alike units t.number) in
+        subst (λ (us : List ℕ). IsHome units us part.home) b.users own
+
+    by : (h : Home) → part.home ≡ h → IsHome units part.users h → In (partial_unit m n) outs
+    by Common q is_at = absurd (not_shared docs common fixed p fx part there q)
+    by (Local own) q is_at =
+        (let same : own ≡ file = sym (is_at.5 i user) ∙ e in
+        in_right (partial_unit m n) (common_units m) (partial_units m (Local file) 0 m.parts ++ kept_units m units file 0 units)
+        (in_left (partial_unit m n) (partial_units m (Local file) 0 m.parts) (kept_units m units file 0 units) (parts_to m (Local file) 0 m.parts n part nth (q ∙ ap (λ (x : ℕ). Local x) same))))
+    by Stay q is_at = absurd (let no = sym (ap is_home q) ∙ is.moves in cc)
+
+  -- a partial unit that a unit of the file uses
+  new_in : (n : ℕ) (part : PartialUnit) → Nth 0 m.parts n part → (i : ℕ) → In i part.users → file_of units i ≡ file → In (partial_unit m n) outs
+  unfolding common_units
+  new_in n part nth i user e = elim (nth_cases 0 firsts locals n part nth) [
+    | inl a ↦ in_left (partial_unit m n) (partial_units m Common 0 m.parts) (out_units m units file)
+        (parts_to m Common 0 m.parts n part nth (ap (λ (w : PartialUnit). w.home) (common_nth r fixed 0 r.commons n part a).2))
+    | inr b ↦ local_in n part nth (nth_in (0 + length firsts) locals n part b) i user e
+  ]
+
+  -- ---- the images of what stood in the file
+
+  abbrev Stands : EntryName → Type 0
+  Stands q = (d : Seen EntryName) × In d (all_seen outs) × (d.at ≡ q)
+
+  abbrev stand_one : ℕ → ℕ
+  stand_one = stand (reused_of docs common) fixed (file_numbers 0 docs) (named_over docs common p) fx
+
+  -- the entry at the path of another top that is seen the same, where copies are one
+  record AtPath (t u : Top) (d : Seen EntryName) : Type 0 where
+    entry : Seen EntryName
+    there : In entry (raw_top u)
+    path : List ℕ
+    own : d.at ≡ Within t.number path
+    at : entry.at ≡ Within u.number path
+
+  at_path : (s : ℕ → ℕ) (t u : Top) → LabelledTop t → LabelledTop u → seen_top (image_by s) t ≡ seen_top (image_by s) u → (d : Seen EntryName) → In d (raw_top t) → AtPath t u d
+  at_path s t u l k same d is =
+      let f : EntryName → EntryName = image_by s in
+      let here = in_map (seen_map f) d (raw_top t) is in
+      let o = in_map_from (seen_map f) (seen_map f d) (raw_top u)
+      (subst (λ (w : List (Seen EntryName)). In (seen_map f d) w) (sym (seen_top_map f t) ∙ same ∙ seen_top_map f u) here) in
+      let x = top_at t l d is in
+      let y = top_at u k o.source o.there in
+      let images : f o.source.at ≡ f d.at = ap (λ (w : Seen EntryName). w.at) o.is in
+      let both : Within (s u.number) y.path ≡ Within (s t.number) x.path = sym (ap f y.is) ∙ images ∙ ap f x.is in
+      let paths : y.path ≡ x.path = (let z = both in cc) in
+      record { entry = o.source; there = o.there; path = x.path; own = x.is; at = y.is ∙ ap (Within u.number) paths }
+
+  taken_there : (t : Top) → In t (tops_of units) → (c : ℕ) → image_at fixed t.number ≡ Some c → (d : Seen EntryName) → In d (raw_top t) → Stands (f d.at)
+  taken_there t there c e d is =
+      let im = image_is r fixed files re fx t there c e in
+      let top = im.top in
+      let same = taken_seen r fixed files re fx t top there im.taken in
+      let x = at_path stand_one t top (re.own.tops_named t there) (re.all.tops_named top im.taken.in_part.0) same d is in
+      let o = unit_of (together r) top im.taken.in_part.0 in
+      let row = unit_row (together r) top.unit o.unit o.nth o.compile in
+      let below = raw_seen o.unit.file top.unit (language o.unit.unit) [] row.first (rows_of_root (together r) top.unit) o.unit.unit.below row.is top o.in_row x.entry x.there in
+      let k = part_nth r re im.taken.part top im.taken.in_part in
+      let unit_is : o.unit ≡ k.0 = nth_one 0 (together r) top.unit o.unit k.0 o.nth k.2 in
+      let first = as_part (length r.units) in
+      let entry = seen_map first x.entry in
+      let in_unit : In entry (seen (standing_unit r k.0).below) = subst (λ (w : List (Seen EntryName)). In entry w) (sym (seen_entries first k.0.unit.below))
+      (in_map (seen_map first) x.entry (seen k.0.unit.below) (subst (λ (w : FileUnit EntryName). In x.entry (seen w.unit.below)) unit_is below)) in
+      let stands : m.stand t.number ≡ c = ap (λ (w : Option ℕ). unwrap_or w (stand_in (free_rule r fixed) units t.number)) e in
+      let at : entry.at ≡ f d.at = ap first x.at ∙ ap (λ (n : ℕ). Within n x.path) (im.number ∙ sym stands) ∙ ap f (sym x.own) in
+      (entry, entry_seen outs (standing_unit r k.0) entry (standing_in k.0 (nth_in 0 r.commons im.taken.part k.0 k.1)) in_unit, at)
+
+  moved_there : (t : Top) → In t (tops_of units) → t.file ≡ file → image_at fixed t.number ≡ None → moves (free_rule r fixed) units t.number ≡ true → (d : Seen EntryName) → In d (raw_top t)
+      → Stands (f d.at)
+  moved_there t there of_file none mv d is =
+      let fair_is = fair r fixed files re fx in
+      let k = has_rep rule units fair_is files (files_are docs) t there mv in
+      let self = moves_self units rule fair_is t.number mv in
+      let same : free_test r fixed t.number k.top.number ≡ true = ap (free_test r fixed t.number) k.is_rep ∙ (rep_is (free_test r fixed) units t.number t there self).alike_is in
+      let two = free_two r fixed files re fx t.number k.top.number same in
+      let part_fits = each_in (IsPart rule units) k.part locals (are_parts rule units files) k.there in
+      let top_there = ((part_fits.tops k.top).0 k.holds).there in
+      let seen_same = moving_seen r fixed files re fx t k.top there top_there mv same in
+      let x = at_path stand_one t k.top (re.own.tops_named t there) (re.own.tops_named k.top top_there) seen_same d is in
+      let n = in_nth 0 locals k.part k.there in
+      let number : ℕ = length firsts + n.number in
+      let nth : Nth 0 (firsts ++ locals) number k.part = nth_right 0 firsts locals number k.part (nth_move 0 (0 + length firsts) locals n.number number k.part n.nth (omega arith)) in
+      let rows = local_rows docs common fixed p fx number k.part nth (omega (arith, length-common r fixed 0 r.commons)) in
+      let entry = seen_map f x.entry in
+      let has = ((part_is number k.part).tops_are (name_list k.top) k.top).1 (k.holds, refl) in
+      let in_tree = tree_seen f (part_row number k.part) End (name_list k.top) k.top has entry
+      (subst (λ (w : List (Seen EntryName)). In entry w) (sym (seen_top_map f k.top)) (in_map (seen_map f) x.entry (raw_top k.top) x.there)) in
+      let in_unit : In entry (seen (partial_unit m number).below) = subst (λ (w : Row). In entry (seen (tree f w End))) (sym rows) in_tree in
+      let own : m.stand k.top.number ≡ m.stand t.number =
+      ap (λ (w : Option ℕ). unwrap_or w (stand_in rule units k.top.number)) (free_none r fixed files re fx k.top.number two.second)
+      ∙ sym (stands_same units rule fair_is t.number k.top.number t there refl same mv) ∙ sym (ap (λ (w : Option ℕ). unwrap_or w (stand_in rule units t.number)) none) in
+      let at : entry.at ≡ f d.at = ap f x.at ∙ ap (λ (w : ℕ). Within w x.path) own ∙ ap f (sym x.own) in
+      let user = subst (In t.unit) (sym k.users) (used rule.alike units t.number t there self) in
+      (entry, entry_seen outs (partial_unit m number) entry (local_in number k.part nth k.there t.unit user (file_of_top units t there ∙ of_file)) in_unit, at)
+
+  gone_there : (t : Top) → In t (tops_of units) → t.file ≡ file → m.gone t.number ≡ true → (d : Seen EntryName) → In d (raw_top t) → Stands (f d.at)
+  gone_there t there of_file gone d is = go (image_at fixed t.number) refl gone where
+    go : (o : Option ℕ) → image_at fixed t.number ≡ o → (is_some (image_at fixed t.number) || moves (free_rule r fixed) units t.number) ≡ true → Stands (f d.at)
+    go (Some c) q h = taken_there t there c q d is
+    go None q h = moved_there t there of_file q (subst (λ (o : Option ℕ). (is_some o || moves (free_rule r fixed) units t.number) ≡ true) q h) d is
+
+  module _ (i : ℕ) (u : FileUnit EntryName) (nth : Nth 0 units i u) (of_file : u.file ≡ file) where
+    top_there : u.unit.kind ≡ Compile → (t : Top) → In t (row_tops (rows_of_root units i)) → (b : Bool) → m.gone t.number ≡ b → changes m units u.file ≡ true → (e : Seen EntryName) → In e (raw_top t)
+        → Stands (f e.at)
+    top_there kind t in_row true mv change e h =
+        let own = row_top units i t in_row in
+        let file_is = (row_unit u.file i (language u.unit) [] (unit_row units i u nth kind).first (rows_of_root units i) u.unit.below (unit_row units i u nth kind).is t in_row).0 in
+        gone_there t own.0 (file_is ∙ of_file) mv e h
+    top_there kind t in_row false mv change e h = (
+      seen_map f e,
+      in_right (seen_map f e) (seen_roots outs) (seen_below outs) (seen_in outs (kept_unit m units i u) (seen_map f e) (kept_in i u nth of_file)
+          (top_kept units m old i u nth kind t in_row mv change e h)),
+      refl,
+    )
+
+    mapped_there : (d : Seen EntryName) → In d (seen u.unit.below) → (kept_unit m units i u).below ≡ entries_map f u.unit.below → Stands (f d.at)
+    mapped_there d h below = (seen_map f d, entry_seen outs (kept_unit m units i u) (seen_map f d) (kept_in i u nth of_file) (mapped_kept units m old i u nth d h below), refl)
+
+    below_there : (d : Seen EntryName) → In d (seen u.unit.below) → (k : Kind EntryName) → u.unit.kind ≡ k → (b : Bool) → changes m units u.file ≡ b → Stands (f d.at)
+    below_there d h k kind false c = mapped_there d h (kept_still m units i u c)
+    below_there d h (OfType signature main) kind true c = mapped_there d h (kept_type m units i u signature main kind)
+    below_there d h Partial kind true c = absurd (subst (λ (w : Kind EntryName). IsNamedBelow i w (rows_of_root units i) u.unit.below) kind (old.units_named i u nth).below)
+    below_there d h Compile kind true c =
+        go (seen_origin u.file i (language u.unit) [] (unit_row units i u nth kind).first (rows_of_root units i) u.unit.below (unit_row units i u nth kind).is d h)
+      where
+        go : Origin u.file i (language u.unit) (rows_of_root units i) u.unit.below d → Stands (f d.at)
+        go (InTop t there x) = top_there kind t there (m.gone t.number) refl c d x
+        go (IsSpaceSeen names c' has at) =
+            let o = space_kept units m old i u nth kind names c' has c in
+            (o.0, entry_seen outs (kept_unit m units i u) o.0 (kept_in i u nth of_file) o.1, o.2 ∙ ap f (sym at))
+
+    root_there : Stands (f u.unit.root.at)
+    root_there = (let v = kept_unit m units i u in (see v.root v.below, root_seen outs v (kept_in i u nth of_file), refl))
+
+  -- ---- where what stands in the file comes from
+
+  -- an entry of the file before
+  pub record OldIn (d : Seen EntryName) : Type 0 where
+    pub number : ℕ
+    pub unit : FileUnit EntryName
+    pub nth : Nth 0 units number unit
+    pub of_file : unit.file ≡ file
+    pub is_in : (see unit.unit.root unit.unit.below ≡ d) ⊎ In d (seen unit.unit.below)
+
+  image_there : (d : Seen EntryName) → OldIn d → Stands (f d.at)
+  image_there d o = elim o.is_in [
+    | inl e ↦ subst (λ (w : Seen EntryName). Stands (f w.at)) e (root_there o.number o.unit o.nth o.of_file)
+    | inr h ↦ below_there o.number o.unit o.nth o.of_file d h o.unit.unit.kind refl (changes m units o.unit.file) refl
+  ]
+
+  data Comes (e : Seen EntryName) : Type 0 where
+    OfOld : (d : Seen EntryName) → OldIn d → e.attrs ≡ map (named_map f) d.attrs → Comes e
+    OfImport : (n : ℕ) → In (partial_unit m n) outs → (unit : ℕ) → e.attrs ≡ map named_value (import_of unit n).attrs → Comes e
+    OfNone : NameNone e.attrs → Comes e
+
+  top_origin : (t : Top) → In t (tops_of units) → t.file ≡ file → (e : Seen EntryName) → In e (seen_top f t) → Comes e
+  top_origin t there of_file e h =
+      let o = in_map_from (seen_map f) e (raw_top t) (subst (λ (w : List (Seen EntryName)). In e w) (seen_top_map f t) h) in
+      let u = unit_of units t there in
+      let r = unit_row units t.unit u.unit u.nth u.compile in
+      let below = raw_seen u.unit.file t.unit (language u.unit.unit) [] r.first (rows_of_root units t.unit) u.unit.unit.below r.is t u.in_row o.source o.there in
+      OfOld o.source (record { number = t.unit; unit = u.unit; nth = u.nth; of_file = sym u.file_is ∙ of_file; is_in = inr below }) (sym (ap (λ (w : Seen EntryName). w.attrs) o.is))
+
+  new_origin : (n : ℕ) (part : PartialUnit) → Nth 0 m.parts n part → part.home ≡ Local file → (e : Seen EntryName) → In e (seen (tree f (m.rows n) End)) → Comes e
+  new_origin n part nth at e h = go (tree_origin f (m.rows n) End (local_kinds docs common fixed p fx n part l) e h) where
+    l : IsLocal docs common fixed p fx n part
+    l = local_part docs common fixed p fx file n part nth at
+
+    go : TreeOrigin f (m.rows n) End e → Comes e
+    go (OfATop names t has x) =
+        (let in_tops = in_part docs common fixed p fx n part l names t has in
+        top_origin t (tops_there docs common fixed p fx n part l t in_tops) (local_file docs common fixed p fx n part l file at t in_tops) e x)
+    go (OfASpace names d has attrs) = OfNone (subst NameNone (sym attrs) (none_mapped f d.attrs (space_plain docs common fixed p fx n part l names d has)))
+    go (Behind x) = absurd (none_seen e x)
+
+  module _ (i : ℕ) (u : FileUnit EntryName) (nth : Nth 0 units i u) (of_file : u.file ≡ file) where
+    old_in : (d : Seen EntryName) → In d (seen u.unit.below) → OldIn d
+    old_in d h = record { number = i; unit = u; nth = nth; of_file = of_file; is_in = inr h }
+
+    import_origin : (e : Seen EntryName) → In e (seen (imports i 0 m.parts)) → Comes e
+    import_origin e h =
+        let a = are_imports i m.parts in
+        let o = row_seen (map (import_of i) a.parts_imported) e (subst (λ (w : Entries EntryName). In e (seen w)) a.entries_are h) in
+        let n = in_map_from (import_of i) o.0 a.parts_imported o.1 in
+        let p = (a.are n.source).0 n.there in
+        OfImport n.source (new_in n.source p.0 p.1 i p.2 (file_at units 0 i i u nth (omega arith) ∙ of_file)) i (o.2 ∙ ap (λ (w : Node EntryName). map named_value w.attrs) (sym n.is))
+
+    mapped_origin : (e : Seen EntryName) → In e (seen (entries_map f u.unit.below)) → Comes e
+    mapped_origin e h =
+        let o = in_map_from (seen_map f) e (seen u.unit.below) (subst (λ (w : List (Seen EntryName)). In e w) (seen_entries f u.unit.below) h) in
+        OfOld o.source (old_in o.source o.there) (sym (ap (λ (w : Seen EntryName). w.attrs) o.is))
+
+    changed_origin : u.unit.kind ≡ Compile → (e : Seen EntryName) → In e (seen (tree f (kept_row m.gone units i) (imports i 0 m.parts))) → Comes e
+    changed_origin kind e h =
+        go (tree_origin f (kept_row m.gone units i) (imports i 0 m.parts)
+        (kept_kinded m.gone units i (row_kinded u.file i (language u.unit) [] (unit_row units i u nth kind).first (rows_of_root units i) u.unit.below (unit_row units i u nth kind).is)) e h)
+      where
+        go : TreeOrigin f (kept_row m.gone units i) (imports i 0 m.parts) e → Comes e
+        go (OfATop names t has x) =
+            (let r = unit_row units i u nth kind in
+            let in_row = tops_among (rows_of_root units i) names t ((kept_is m.gone units i names (OfTop t)).0 has).0 in
+            let o = in_map_from (seen_map f) e (raw_top t) (subst (λ (w : List (Seen EntryName)). In e w) (seen_top_map f t) x) in
+            OfOld o.source (old_in o.source (raw_seen u.file i (language u.unit) [] r.first (rows_of_root units i) u.unit.below r.is t in_row o.source o.there)) (sym (ap (λ (w : Seen EntryName).
+            w.attrs)
+            o.is)))
+        go (OfASpace names d has attrs) =
+            (let r = unit_row units i u nth kind in
+            let under = item_under u.file i (language u.unit) [] r.first (rows_of_root units i) u.unit.below r.is names (OfSpace d) ((kept_is m.gone units i names (OfSpace d)).0 has).0 in
+            let w = under_seen names d u.unit.below under in
+            OfOld w.0 (old_in w.0 w.1) (attrs ∙ names_map f d.attrs ∙ ap (map (named_map f)) (sym w.2)))
+        go (Behind x) = import_origin e x
+
+    kept_origin : (e : Seen EntryName) → In e (seen (kept_unit m units i u).below) → (k : Kind EntryName) → u.unit.kind ≡ k → (b : Bool) → changes m units u.file ≡ b → Comes e
+    kept_origin e h Compile kind true c = changed_origin kind e (subst (λ (w : Entries EntryName). In e (seen w)) (kept_compile m units i u kind c) h)
+    kept_origin e h k kind false c = mapped_origin e (subst (λ (w : Entries EntryName). In e (seen w)) (kept_still m units i u c) h)
+    kept_origin e h (OfType signature main) kind true c = mapped_origin e (subst (λ (w : Entries EntryName). In e (seen w)) (kept_type m units i u signature main kind) h)
+    kept_origin e h Partial kind true c = absurd (subst (λ (w : Kind EntryName). IsNamedBelow i w (rows_of_root units i) u.unit.below) kind (old.units_named i u nth).below)
+
+  below_origin : (v : DwUnit EntryName) → In v (out_units m units file) → (e : Seen EntryName) → In e (seen v.below) → Comes e
+  unfolding out_units
+  below_origin v there e h = elim (in_cases v (partial_units m (Local file) 0 m.parts) (kept_units m units file 0 units) there) [
+    | inl a ↦ (let o = parts_from m (Local file) 0 m.parts v a in new_origin o.number o.part o.nth o.home_is e (subst (λ (w : DwUnit EntryName). In e (seen w.below)) (sym o.is) h))
+    | inr b ↦
+        let o = kept_from m units file 0 units v b in
+        kept_origin o.number o.unit o.nth o.file_is e (subst (λ (w : DwUnit EntryName). In e (seen w.below)) (sym o.is) h) o.unit.unit.kind refl (changes m units o.unit.file) refl
+  ]
+
+  root_origin : (v : DwUnit EntryName) → In v (out_units m units file) → (e : Seen EntryName) → see v.root v.below ≡ e → Comes e
+  unfolding out_units
+  root_origin v there e same = elim (in_cases v (partial_units m (Local file) 0 m.parts) (kept_units m units file 0 units) there) [
+    | inl a ↦
+        let o = parts_from m (Local file) 0 m.parts v a in
+        let l = local_part docs common fixed p fx file o.number o.part o.nth o.home_is in
+        let none = subst (λ (w : List (Attr EntryName)). NameNone (map named_value w)) (sym l.roots) (root_none units (Some o.part)) in
+        OfNone (subst NameNone (ap (λ (w : DwUnit EntryName). map named_value w.root.attrs) o.is ∙ ap (λ (w : Seen EntryName). w.attrs) same) none)
+    | inr b ↦
+        let o = kept_from m units file 0 units v b in
+        let u = o.unit.unit in
+        OfOld (see u.root u.below) (record { number = o.number; unit = o.unit; nth = o.nth; of_file = o.file_is; is_in = inl refl })
+        (ap (λ (w : Seen EntryName). w.attrs) (sym same) ∙ ap (λ (w : DwUnit EntryName). map named_value w.root.attrs) (sym o.is) ∙ names_map f u.root.attrs)
+  ]
+
+  origin : (e : Seen EntryName) → In e (all_seen (out_units m units file)) → Comes e
+  origin e h = elim (in_cases e (seen_roots (out_units m units file)) (seen_below (out_units m units file)) h) [
+    | inl a ↦ (let o = root_from (out_units m units file) e a in root_origin o.unit o.there e o.is)
+    | inr b ↦ (let o = seen_from (out_units m units file) e b in below_origin o.unit o.there e o.is)
+  ]
+
+  -- before, each reference of the file named an entry of it
+  abbrev pub ClosedBefore : Type 0
+  ClosedBefore = (d : Seen EntryName) (a : Named EntryName) (k : EntryName) → OldIn d → In a d.attrs → In k a.value.refs → (c : Seen EntryName) × OldIn c × (c.at ≡ k)
+
+  import_ref : (i n : ℕ) (a : Named EntryName) (q : EntryName) → In a (map named_value (import_of i n).attrs) → In q a.value.refs → PartialRoot n ≡ q
+  import_ref i n a q (inl x) there = elim (subst (λ (w : Named EntryName). In q w.value.refs) (sym x) there) [ inl e ↦ e | inr r ↦ absurd r ]
+  import_ref i n a q (inr r) there = absurd r
+
+  -- after, each names an entry of it, or of the common file
+  pub refs_stand : ClosedBefore → (e : Seen EntryName) (a : Named EntryName) (q : EntryName) → In e (all_seen (out_units m units file)) → In a e.attrs → In q a.value.refs
+      → (d : Seen EntryName) × In d (all_seen outs) × (d.at ≡ q)
+  refs_stand closed e a q there attr ref = go (origin e there) where
+    go : Comes e → Stands q
+    go (OfOld d is_old attrs) =
+        (let o = attr_from f d.attrs a q (subst (λ (w : List (Named EntryName)). In a w) attrs attr) ref in
+        let target = closed d o.attr o.place is_old o.there o.refs in
+        let new = image_there target.0 target.1 in
+        (new.0, new.1, new.2 ∙ ap f target.2 ∙ o.image_is))
+    go (OfImport n new i attrs) =
+        (let v = partial_unit m n in
+        (see v.root v.below, root_seen outs v new, import_ref i n a q (subst (λ (w : List (Named EntryName)). In a w) attrs attr) ref))
+    go (OfNone none) = absurd (subst (λ (w : List EntryName). In q w) (each_in (λ b. b.value.refs ≡ []) a e.attrs none attr) ref)
+
+  -- ---- the units of the file, as a list
+
+  to_seen : (d : Seen EntryName) → OldIn d → In d (all_seen (units_of_file file units))
+  unfolding units_of_file
+  to_seen d o =
+      let some = filter (λ (u : FileUnit EntryName). u.file == file) units in
+      let there = in_map (λ (u : FileUnit EntryName). u.unit) o.unit some (in_filter (λ u. u.file == file) o.unit units (nth_in 0 units o.number o.unit o.nth) (eq-eqb o.unit.file file o.of_file)) in
+      let all = map (λ (u : FileUnit EntryName). u.unit) some in
+      elim o.is_in [
+        | inl e ↦ subst (λ (w : Seen EntryName). In w (all_seen all)) e (root_seen all o.unit.unit there)
+        | inr h ↦ entry_seen all o.unit.unit d there h
+      ]
+
+  from_unit : (d : Seen EntryName) (w : DwUnit EntryName) → In w (units_of_file file units) → (see w.root w.below ≡ d) ⊎ In d (seen w.below) → OldIn d
+  unfolding units_of_file
+  from_unit d w there h =
+      let some = filter (λ (u : FileUnit EntryName). u.file == file) units in
+      let o = in_map_from (λ (u : FileUnit EntryName). u.unit) w some there in
+      let p = in_filter_from (λ u. u.file == file) o.source units o.there in
+      let n = in_nth 0 units o.source p.0 in
+      record {
+        number = n.number;
+        unit = o.source;
+        nth = n.nth;
+        of_file = eqb-true o.source.file file p.1;
+        is_in = subst (λ (v : DwUnit EntryName). (see v.root v.below ≡ d) ⊎ In d (seen v.below)) (sym o.is) h;
+      }
+
+  from_seen : (d : Seen EntryName) → In d (all_seen (units_of_file file units)) → OldIn d
+  from_seen d h = elim (in_cases d (seen_roots (units_of_file file units)) (seen_below (units_of_file file units)) h) [
+    | inl a ↦ (let o = root_from (units_of_file file units) d a in from_unit d o.unit o.there (inl o.is))
+    | inr b ↦ (let o = seen_from (units_of_file file units) d b in from_unit d o.unit o.there (inr o.is))
+  ]
+
+  pub refs_within_over : Closed (units_of_file file units) → (e : Seen EntryName) (a : Named EntryName) (q : EntryName) → In e (all_seen (out_units m units file)) → In a e.attrs → In q a.value.refs
+      → In q (all_entry_keys (common_units m ++ out_units m units file))
+  refs_within_over closed e a q there attr ref =
+      let before : ClosedBefore = λ d b k is_old b_in k_in. (let c = closed d b k (to_seen d is_old) b_in k_in in (c.0, from_seen c.0 c.1, c.2)) in
+      let o = refs_stand before e a q there attr ref in
+      subst (λ (x : EntryName). In x (all_entry_keys outs)) o.2 (all_seen_key outs o.0 o.1)

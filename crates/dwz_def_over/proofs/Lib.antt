@@ -11,3 +11,11 @@ pub mod LinesOver
 pub mod FreeOver
 pub mod OperandsOver
 pub mod WithinOver
+pub mod ReadOver
+pub mod CanOver
+pub mod CommonAgain
+pub mod PlacedOver
+pub mod RoomOver
+pub mod StillOver
+pub mod PlacesOver
+pub mod SameOver

@@ -19,3 +19,10 @@ pub mod RoomOver
 pub mod StillOver
 pub mod PlacesOver
 pub mod SameOver
+pub mod MapsOver
+pub mod TextsOver
+pub mod CommonOver
+pub mod OneOver
+pub mod AllOver
+pub mod OneRead
+pub mod TakenOver

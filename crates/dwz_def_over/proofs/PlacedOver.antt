@@ -103,11 +103,11 @@ module _ (number : ℕ) (l : Limits) (bytes : List ℕ) (raw : List RawUnit) (sa
       let b = ((units_agree given raw).ok (map (unit_map (at_file number)) units)).1 (units_there (at_file number) None around refl raw units means_offsets) in
       ok_same (units_meaning given raw) said.units (map (unit_map (at_file number)) units) a b
 
-  partial : (v : DwUnit ℕ) → In v units → IsPartial v.kind
-  partial = all_partial around raw units (debug_abbrev bytes) (of_common l.entries) (debug_info bytes) refl reads.spelled means_offsets
+  pub common_partial : (v : DwUnit ℕ) → In v (offsets_doc said).units → IsPartial v.kind
+  common_partial = all_partial around raw units (debug_abbrev bytes) (of_common l.entries) (debug_info bytes) refl reads.spelled means_offsets
 
   pub common_tags : Each (λ u. u.root.tag ≡ 0x3c) (offsets_doc said).units
-  common_tags = tags_are around (debug_abbrev bytes) (of_common l.entries) 0 raw 0 (debug_info bytes) units reads.spelled means_offsets partial
+  common_tags = tags_are around (debug_abbrev bytes) (of_common l.entries) 0 raw 0 (debug_info bytes) units reads.spelled means_offsets common_partial
 
   pub offsets_keys : units_keys (offsets_doc said).units ≡ map (λ (n : ℕ). n) (all_raw_keys raw)
   offsets_keys = means_keys around raw units means_offsets
@@ -117,8 +117,8 @@ module _ (number : ℕ) (l : Limits) (bytes : List ℕ) (raw : List RawUnit) (sa
       let rise = units_rise (debug_abbrev bytes) (of_common l.entries) 0 raw 0 (debug_info bytes) reads.spelled in
       subst NoneTwice (sym offsets_keys) (none_map (λ (n : ℕ). n) (λ a b e. e) (all_raw_keys raw) (rise_none 0 (all_raw_keys raw) (0 + length (debug_info bytes)) rise))
 
-  closed : Closed units
-  closed = λ e a p is attr r. elim (refs_named around raw units means_offsets refl e a p is attr r) [
+  pub common_closed : Closed (offsets_doc said).units
+  common_closed = λ e a p is attr r. elim (refs_named around raw units means_offsets refl e a p is attr r) [
     | inl d ↦ d
     | inr c ↦ absurd (none_common c.2)
   ]
@@ -133,7 +133,7 @@ module _ (number : ℕ) (l : Limits) (bytes : List ℕ) (raw : List RawUnit) (sa
     apart = subst NoneTwice (sym (compile_keys units)) keys_once;
     kinds = λ u is h. (let o = in_map_from as_compile u units is in subst (λ (w : DwUnit ℕ). IsPartial w.kind) (sym o.is) h);
     closed = λ e a p is attr r. (
-        let d = closed e a p (subst (λ (w : List (Seen ℕ)). In e w) (compile_seen units) is) attr r in
+        let d = common_closed e a p (subst (λ (w : List (Seen ℕ)). In e w) (compile_seen units) is) attr r in
         (d.0, subst (λ (w : List (Seen ℕ)). In d.0 w) (sym (compile_seen units)) d.1, d.2));
     mains = mains;
   }

@@ -83,7 +83,7 @@ module _ {P Q : Type 0} (f g : P → Q) (us : List (DwUnit P)) (same : (k : P) �
   kind_as u is (OfType s t) e = ap (OfType s) (same t (unit_key us u t is (inr (mains u is s t e))))
   kind_as u is Partial e = refl
 
-  some_as : (some : List (DwUnit P)) (others : List (DwUnit Q)) → ((u : DwUnit P) → In u some → In u us) → UnitsShown f some others → UnitsShown g some others
+  pub some_as : (some : List (DwUnit P)) (others : List (DwUnit Q)) → ((u : DwUnit P) → In u some → In u us) → UnitsShown f some others → UnitsShown g some others
   some_as [] [] h s = tt
   some_as (u ∷ some) (v ∷ others) h s =
       let is = h u (inl refl) in

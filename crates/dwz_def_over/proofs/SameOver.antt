@@ -1,5 +1,5 @@
 -- Over a finished common file what all files say is shown by the units after, and each name has one place.
-use Rattle.std.proofs.Common.{◌≡◌, ◌⊎◌, ℕ, suc, ◌+◌, Bool, true, false, List, [], ◌∷◌, ◌++◌, refl, sym, ap, subst, ◌∙◌, arith}
+use Rattle.std.proofs.Common.{◌<◌, length, ◌≡◌, ◌⊎◌, ℕ, suc, ◌+◌, Bool, true, false, List, [], ◌∷◌, ◌++◌, refl, sym, ap, subst, ◌∙◌, arith}
 use Rattle.std.proofs.Math.Logic.{inl, inr}
 use Rattle.dwz_def_reading.specs.Documents.{Doc, DwUnit}
 use Rattle.dwz_def_reading.specs.Lists.{In}
@@ -23,6 +23,7 @@ use Rattle.dwz_def_taken.specs.declared.fixed.Fixed.{Fixed}
 use Rattle.dwz_def_taken.specs.Takes.{IsFixed}
 use Rattle.dwz_def_taken.specs.Over.{move_over}
 use Rattle.dwz_def_taken.specs.Beside.{reused_of}
+use Rattle.dwz_def_taken.specs.declared.fixed.Fixed.{Fixed}
 
 module _ (docs : List (Doc ℕ)) (common : Doc ℕ) (fixed : Fixed) (p : ArePlacedOver docs common) (fx : IsFixed (reused_of docs common) fixed) (input : Stored) (c : Finished)
     (can : CanWriteBy (Stands c) (run_by (move_over (reused_of docs common) fixed (file_numbers 0 docs)) docs input)) (g : EntryName → Place)
@@ -106,6 +107,13 @@ module _ (docs : List (Doc ℕ)) (common : Doc ℕ) (fixed : Fixed) (p : ArePlac
       let number : r.common ≡ o.file = ap (λ (q : Place). q.file) (common_place k a ∙ e) ∙ number_of l o in
       let less = numbers_in 0 docs o.file o.there in
       omega (arith, number, less)
+
+  -- it is that of a file, or of the common one
+  pub name_file : (k : EntryName) → In k (units_keys (all_units r.move r.units r.files)) → (g k).file < suc (length docs)
+  name_file k h = elim (name_in k h) [
+    | inl a ↦ (let e = ap (λ (q : Place). q.file) (common_place k a) in omega (arith, e))
+    | inr b ↦ (let e = number_of k b in let less = numbers_in 0 docs b.file b.there in omega (arith, e, less))
+  ]
 
   pub one_over : OnePlace g (all_units r.move r.units r.files)
   one_over x y a b e = elim (name_in x a) [

@@ -1,18 +1,34 @@
 -- Laws on what is written of files over a finished common file.
-use Rattle.std.specs.Prelude.{◌≡◌, ◌⊎◌, ℕ, ◌≤◌, List}
+use Rattle.std.specs.Prelude.{◌≡◌, ◌⊎◌, ◌↔◌, ℕ, ◌<◌, ◌≤◌, List, length}
 use Rattle.dwz_model.specs.declared.fault.Refusal.{Refusal}
-use Rattle.dwz_def_reading.specs.Lists.{Each}
+use Rattle.dwz_def_reading.specs.Finished.{FirstBeside}
+use Rattle.dwz_def_reading.specs.Lists.{Each, In}
 use Rattle.dwz_def_reading.specs.Texts.{NoZero}
 use Rattle.dwz_def_reading.specs.Values.{AreBytes}
+use Rattle.dwz_def_plan.specs.IsPlan.{AreImports}
+use Rattle.dwz_def_plan.specs.Plan.{imports}
+use Rattle.dwz_def_readback.specs.Back.{CanWriteBy}
 use Rattle.dwz_def_taken.specs.Beside.{offsets_doc}
 use Rattle.dwz_def_taken.specs.Laws.{ArePlacedOver}
-use Rattle.dwz_def_over.specs.Over.{AreOverFiles, OverFiles}
+use Rattle.dwz_def_taken.specs.Takes.{Takes}
+use Rattle.dwz_def_over.specs.Over.{AreOverFiles, OverFiles, move_of, reused, run_over, stands}
 use Rattle.dwz_def_over.specs.Written.{AreTiedOver, CanBeWrittenOver, OverFault, ReadBackOver, file_over}
 
--- what is read, and taken, is fixed by the bytes of the common file and of the files
+-- ---- what is read
+
+-- What is read, and taken, is fixed by the bytes of the common file and of the files.
 abbrev pub OneReadLaw : Type 0
-OneReadLaw =
-    (a b : OverFiles) → a.common ≡ b.common → a.contents ≡ b.contents → AreOverFiles a → AreOverFiles b → a ≡ b
+OneReadLaw = (a b : OverFiles) → a.common ≡ b.common → a.contents ≡ b.contents → AreOverFiles a → AreOverFiles b → a ≡ b
+
+-- and then nothing of it is refused
+abbrev pub ReadNotRefusedLaw : Type 0
+ReadNotRefusedLaw = (o : OverFiles) → AreOverFiles o → (q : Refusal) → ¬ FirstBeside o.common o.contents q
+
+-- no two units or entries of a file have one place, of the common one neither, and each reference names an entry
+abbrev pub PlacedLaw : Type 0
+PlacedLaw = (o : OverFiles) → Each AreBytes o.contents → AreOverFiles o → ArePlacedOver o.said.docs (offsets_doc o.said.common)
+
+-- ---- what refuses it
 
 -- at most one refusal is the first
 abbrev pub OneOverFaultLaw : Type 0
@@ -26,19 +42,22 @@ EitherOverLaw = (name : List ℕ) (o : OverFiles) → ((q : Refusal) × OverFaul
 abbrev pub SectionOverLaw : Type 0
 SectionOverLaw = (name : List ℕ) (o : OverFiles) (q : Refusal) → OverFault name o q → q.section ≤ 9
 
--- all bytes are bytes
-abbrev pub AreAllBytes : OverFiles → Type 0
-AreAllBytes o = AreBytes o.common × Each AreBytes o.contents
+-- ---- what is written
 
--- files that read, and a common file that does, have places
-abbrev pub PlacedLaw : Type 0
-PlacedLaw = (o : OverFiles) → AreAllBytes o → AreOverFiles o → ArePlacedOver o.said.docs (offsets_doc o.said.common)
+-- a unit imports a partial unit of the common file exactly if it takes it
+abbrev pub ImportsLaw : Type 0
+ImportsLaw =
+    (o : OverFiles) → AreOverFiles o → (u p : ℕ) → p < length (reused o).commons
+    → (a : AreImports u (move_of o).parts (imports u 0 (move_of o).parts)) → In p a.parts_imported ↔ Takes (reused o) u p
 
--- what is written reads back beside the common file as what was read, copies counted as one place
+-- Where nothing refuses it, all that is asked of what is written holds,
+abbrev pub CanWriteOverLaw : Type 0
+CanWriteOverLaw = (name : List ℕ) (o : OverFiles) → Each AreBytes o.contents → CanBeWrittenOver name o → CanWriteBy (stands o) (run_over o)
+
+-- and so it reads back beside the common file as what was read, where copies count as one place;
 abbrev pub ReadBackOverLaw : Type 0
-ReadBackOverLaw =
-    (name : List ℕ) (o : OverFiles) → AreAllBytes o → CanBeWrittenOver name o → ReadBackOver o (file_over name o)
+ReadBackOverLaw = (name : List ℕ) (o : OverFiles) → Each AreBytes o.contents → CanBeWrittenOver name o → ReadBackOver o (file_over name o)
 
--- and what imports from it is tied to it
+-- and what imports from the common file is tied to it.
 abbrev pub TiedOverLaw : Type 0
-TiedOverLaw = (name : List ℕ) (o : OverFiles) → AreAllBytes o → CanBeWrittenOver name o → NoZero name → AreTiedOver name o
+TiedOverLaw = (name : List ℕ) (o : OverFiles) → Each AreBytes o.contents → CanBeWrittenOver name o → NoZero name → AreTiedOver name o

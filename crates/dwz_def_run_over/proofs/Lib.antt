@@ -1,0 +1,3 @@
+pub mod OneReuse
+pub mod Stopping
+pub mod NotPut

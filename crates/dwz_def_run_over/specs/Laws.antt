@@ -1,0 +1,34 @@
+-- Laws on what comes of files that are written over a finished common file.
+use Rattle.std.specs.Prelude.{◌≡◌, ℕ, List, Some, take}
+use Rattle.dwz_def_reading.specs.Finished.{BesideDocs, ReadBeside}
+use Rattle.dwz_outside.specs.Store.{Store, done}
+use Rattle.dwz_words.specs.declared.options.Options.{Options}
+use Rattle.dwz_run_course.specs.Outcome.{Outcome}
+use Rattle.dwz_run_course.specs.Puts.{AreOthers, Prefixes}
+use Rattle.dwz_def_taken.specs.declared.fixed.Fixed.{Fixed}
+use Rattle.dwz_def_taken.specs.Takes.{IsFixedOf}
+use Rattle.dwz_def_over.specs.Over.{OverFiles}
+use Rattle.dwz_def_run_over.specs.Reuses.{Reuses, common_got, files_got, puts_over}
+use Rattle.dwz_def_run_over.specs.Stops.{AreHeld, AreOldOrMadeOver, FitOver}
+
+-- at most one thing comes of options and contents
+abbrev pub OneReuseLaw : Type 0
+OneReuseLaw = (o : Options) (contents : List (List ℕ)) (a b : Outcome) → Reuses o contents a → Reuses o contents b → a ≡ b
+
+-- and something does, where it is said what is taken of files that read
+abbrev pub SomeReuseLaw : Type 0
+SomeReuseLaw =
+    (o : Options) (contents : List (List ℕ))
+    → ((said : BesideDocs) → ReadBeside (common_got contents) (files_got o contents) said → (fixed : Fixed) × IsFixedOf said fixed)
+    → (outcome : Outcome) × Reuses o contents outcome
+
+-- no put is of the common file, so that this keeps its bytes
+abbrev pub NotPutLaw : Type 0
+NotPutLaw = (o : Options) (x : OverFiles) → FitOver o → (common : List ℕ) → o.common ≡ Some common
+    → AreOthers common (puts_over o x) × ((store : Store) (k : ℕ) → done (take k (puts_over o x)) store common ≡ store common)
+
+-- after the first puts, however many, each FILE is as it was, or as it is made
+abbrev pub StopOverLaw : Type 0
+StopOverLaw =
+    (o : Options) (x : OverFiles) → FitOver o → (store : Store) → AreHeld o x store
+    → Prefixes (puts_over o x) store (AreOldOrMadeOver o x)

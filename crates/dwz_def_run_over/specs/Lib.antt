@@ -1,0 +1,3 @@
+pub mod Reuses
+pub mod Stops
+pub mod Laws

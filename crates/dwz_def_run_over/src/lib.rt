@@ -1,0 +1,14 @@
+//! What comes of options that ask to write files over a finished common file, which is never put (DWARF 5, 7.3.6).
+//!
+//! There is no running code here. `Reuses` says what comes of options and contents: puts and a summary, or the first refusal, of reading or of
+//! what is written. `Stops` says what each prefix of the puts leaves.
+//!
+//! The laws (`reuses_laws`): at most one thing comes of options and contents, and something does where it is said what is taken; no put is of
+//! the common file; and after the first puts, however many, each FILE is as it was, or as it is made.
+//!
+//! Read first: `specs/Reuses.antt`, `specs/Stops.antt`.
+#![tactic(auto)]
+
+mod reuses;
+
+pub use reuses::reuses_laws;

@@ -43,8 +43,8 @@ use Rattle.dwz_def_taken.specs.Over.{copy_of}
 use Rattle.dwz_def_taken.specs.Takes.{IsFixed}
 use Rattle.dwz_def_taken.proofs.Copies.{copies_law}
 use Rattle.dwz_def_taken.proofs.FilesOver.{files_over}
-use Rattle.dwz_def_over.specs.Over.{AreOverFiles, OverFiles, finished, limits_over, reused, run_over, standing_units, stands}
-use Rattle.dwz_def_over.specs.Written.{CanBeWrittenOver, Changes, CopiesAreOne, ReadBackOver, file_over, given_over, names_after}
+use Rattle.dwz_def_over.specs.Over.{AreOverFiles, OverFiles, standing_file, limits_over, reused, run_over, standing_units, stands}
+use Rattle.dwz_def_over.specs.Written.{CanBeWrittenOver, IsAnew, CopiesAreOne, ReadBackOver, file_over, given_over, names_after}
 use Rattle.dwz_def_over.proofs.CanOver.{can_write_over, still_says_over}
 use Rattle.dwz_def_over.proofs.CommonOver.{common_is, common_one_at, common_shown_at, entry_low, entry_there, has_names, same_number, texts_short}
 use Rattle.dwz_def_over.proofs.FilesOver.{has_sections, sections_fit}
@@ -94,7 +94,7 @@ module _ (name : List ℕ) (o : OverFiles) (are : Each AreBytes o.contents) (w :
   abbrev fx : IsFixed (reused_of docs common) o.fixed
   fx = is.taken.lists
 
-  read : AreRead input docs
+  pub read : AreRead input docs
   read = over_read o are is
 
   -- ---- nothing refuses it
@@ -102,25 +102,25 @@ module _ (name : List ℕ) (o : OverFiles) (are : Each AreBytes o.contents) (w :
   abbrev Files : Refusal → Type 0
   Files = OrElse (OfFirst (InFile (SectionsFaultBy cf r)) r.files) (OfFirst (InFile (FileFaultBy cf name r)) r.files)
 
-  sections_free : (file : ℕ) → In file r.files → Nothing (SectionsFaultBy cf r file)
+  pub sections_free : (file : ℕ) → In file r.files → Nothing (SectionsFaultBy cf r file)
   sections_free file there f h =
       not_any (InFile (SectionsFaultBy cf r)) r.files (not_first (OfFirst (InFile (SectionsFaultBy cf r)) r.files) _ (not_then (CommonRefusalBy cf r) Files w.free)) file there _ (f, h, refl)
 
-  file_free : (file : ℕ) → In file r.files → Nothing (FileFaultBy cf name r file)
+  pub file_free : (file : ℕ) → In file r.files → Nothing (FileFaultBy cf name r file)
   file_free file there f h =
       not_any (InFile (FileFaultBy cf name r)) r.files (not_then (OfFirst (InFile (SectionsFaultBy cf r)) r.files) (OfFirst (InFile (FileFaultBy cf name r)) r.files) (not_then
       (CommonRefusalBy cf r) Files w.free)) file there _ (f, h, refl)
 
-  changed : (file : ℕ) → changes r.move r.units file ≡ true → IsChanged docs input read r.move.gone file
+  pub changed : (file : ℕ) → changes r.move r.units file ≡ true → IsChanged docs input read r.move.gone file
   unfolding changes
   changed file moves = changed_file docs input read r.move.gone file moves
 
-  made : (file : ℕ) → Changes o file → HasSectionsBy cf r file (file_over name o file)
+  made : (file : ℕ) → IsAnew o file → HasSectionsBy cf r file (file_over name o file)
   made file c =
       let d = changed file c.1 in
       has_sections name cf r file d.doc d.read (content_bytes o.contents are file) d.some c.1 (sections_free file c.0) (file_free file c.0)
 
-  fits : (file : ℕ) → Changes o file → FitsSections (sections_by cf r file)
+  fits : (file : ℕ) → IsAnew o file → FitsSections (sections_by cf r file)
   fits file c =
       let d = changed file c.1 in
       sections_fit name cf r file d.doc d.read (content_bytes o.contents are file) d.some c.1 (sections_free file c.0) (file_free file c.0)
@@ -151,27 +151,27 @@ module _ (name : List ℕ) (o : OverFiles) (are : Each AreBytes o.contents) (w :
   -- ---- places
 
   abbrev first_place : EntryName → Place
-  first_place = over_place docs common o.fixed p fx input (finished o) can
+  first_place = over_place docs common o.fixed p fx input (standing_file o) can
 
   first_ok : IsPlacingBy cf r first_place
-  first_ok = over_placing docs common o.fixed p fx input (finished o) can
+  first_ok = over_placing docs common o.fixed p fx input (standing_file o) can
 
   first_old : AreAtOld r first_place docs
-  first_old = over_old docs common o.fixed p fx input (finished o) can
+  first_old = over_old docs common o.fixed p fx input (standing_file o) can
 
   abbrev shared_units : List (DwUnit Place)
   shared_units = o.said.common.units
 
   shown : UnitsShown first_place (all_units r.move r.units r.files) (shared_units ++ files_back_by cf r first_place 0 docs)
-  shown = all_shown_over docs common o.fixed p fx input (finished o) can first_place first_ok first_old shared_units (common_shown_at o are is first_place first_ok) (common_one_at o are is first_place
+  shown = all_shown_over docs common o.fixed p fx input (standing_file o) can first_place first_ok first_old shared_units (common_shown_at o are is first_place first_ok) (common_one_at o are is first_place
       first_ok)
 
   once : OnePlace first_place (all_units r.move r.units r.files)
-  once = one_over docs common o.fixed p fx input (finished o) can first_place first_ok first_old shared_units (common_shown_at o are is first_place first_ok) (common_one_at o are is first_place
+  once = one_over docs common o.fixed p fx input (standing_file o) can first_place first_ok first_old shared_units (common_shown_at o are is first_place first_ok) (common_one_at o are is first_place
       first_ok)
 
   file_of : (s : EntryName) → In s (names_after o) → (first_place s).file < suc (length docs)
-  file_of s there = name_file docs common o.fixed p fx input (finished o) can first_place first_ok first_old shared_units (common_shown_at o are is first_place first_ok) (common_one_at o are is first_place
+  file_of s there = name_file docs common o.fixed p fx input (standing_file o) can first_place first_ok first_old shared_units (common_shown_at o are is first_place first_ok) (common_one_at o are is first_place
       first_ok) s there
 
   nowhere : Place
@@ -246,7 +246,7 @@ module _ (name : List ℕ) (o : OverFiles) (are : Each AreBytes o.contents) (w :
 
   all_shown : UnitsShown g (all_units r.move r.units r.files) said
   unfolding said
-  all_shown = all_shown_over docs common o.fixed p fx input (finished o) can g ok old shared_units (common_shown_at o are is g ok) (common_one_at o are is g ok)
+  all_shown = all_shown_over docs common o.fixed p fx input (standing_file o) can g ok old shared_units (common_shown_at o are is g ok) (common_one_at o are is g ok)
 
   -- ---- copies as one
 
@@ -291,8 +291,8 @@ module _ (name : List ℕ) (o : OverFiles) (are : Each AreBytes o.contents) (w :
   common_back =
       subst (λ (n : ℕ). SaysUnits None n o.common o.raw shared_units) (sym (same_number o are is)) (common_says (length o.contents) no_files_before o.common o.raw o.said.common is.common)
 
-  file_says : (file : ℕ) → Changes o file → SaysPlacedBy cf r g (Some (given_over o)) file (file_over name o file) (fitted_by cf r file)
-  file_says file c = with_common cf r can g ok (files_stand (finished o) r can) (Some (given_over o)) (file_over name o file) file c.0 c.1 (made file c) (fits file c) (entry_low o are is)
+  file_says : (file : ℕ) → IsAnew o file → SaysPlacedBy cf r g (Some (given_over o)) file (file_over name o file) (fitted_by cf r file)
+  file_says file c = with_common cf r can g ok (files_stand (standing_file o) r can) (Some (given_over o)) (file_over name o file) file c.0 c.1 (made file c) (fits file c) (entry_low o are is)
       (λ k key. (given_over o, refl, entry_there o are is k key, ok.common k (entries_are_keys (standing_units o) k key)))
       (shared_few (section_of o.common 3) (texts_short o are is) (imports_common r.move r.units file))
       (λ at text stands. (given_over o, refl, shared_there (section_of o.common 3) (imports_common r.move r.units file) at text stands))
@@ -306,7 +306,7 @@ module _ (name : List ℕ) (o : OverFiles) (are : Each AreBytes o.contents) (w :
     back = record {
       common = common_back;
       file = file_says;
-      ranges = λ file c. ranges_by cf r can g ok (files_stand (finished o) r can) (Some (given_over o)) (file_over name o file) file c.0 c.1 (made file c) (fits file c) (file_says file c);
+      ranges = λ file c. ranges_by cf r can g ok (files_stand (standing_file o) r can) (Some (given_over o)) (file_over name o file) file c.0 c.1 (made file c) (fits file c) (file_says file c);
       still = λ file doc nth. still_says_over docs common o.fixed p fx input read cf (Some (given_over o)) file doc nth;
       one = at_one;
       copies = copies;

@@ -40,7 +40,7 @@ use Rattle.dwz_def_taken.specs.Takes.{IsFixed}
 use Rattle.dwz_def_taken.proofs.CommonUnits.{common_stands}
 use Rattle.dwz_def_taken.proofs.KeptOwn.{over_apart}
 use Rattle.dwz_def_taken.proofs.NamesOver.{common_spots}
-use Rattle.dwz_def_over.specs.Over.{AreOverFiles, OverFiles, finished, limits_over, run_over, standing_units, stands}
+use Rattle.dwz_def_over.specs.Over.{AreOverFiles, OverFiles, standing_file, limits_over, run_over, standing_units, stands}
 use Rattle.dwz_def_over.proofs.MapsOver.{below_twice, keys_mapped, root_twice, shown_of, units_keys_mapped}
 use Rattle.dwz_def_over.proofs.PlacedOver.{common_closed, common_partial, means_offsets, placed_over, said_is}
 use Rattle.dwz_def_over.proofs.PlacesOver.{some_as}
@@ -152,7 +152,7 @@ module _ (o : OverFiles) (are : Each AreBytes o.contents) (is : AreOverFiles o) 
       let all = subst NoneTwice (keys_joined (common_units (run_over o).move) (file_units (run_over o).move (run_over o).units (run_over o).files)) (over_apart docs common o.fixed placed fx) in
       subst NoneTwice (ap units_keys common_is ∙ names_are) (none_left (units_keys (common_units (run_over o).move)) (units_keys (file_units (run_over o).move (run_over o).units (run_over o).files)) all)
 
-  pub has_names : HasItsNames (finished o) (run_over o)
+  pub has_names : HasItsNames (standing_file o) (run_over o)
   has_names = record {
     rows = firsts-zip (units_keys (standing_units o)) places (sym (length-map places name_at) ∙ ap length (sym names_are));
     names = ap units_keys (sym common_is);

@@ -10,6 +10,7 @@ pub mod OutsOver
 pub mod LinesOver
 pub mod FreeOver
 pub mod OperandsOver
+pub mod ImagesOver
 pub mod WithinOver
 pub mod ReadOver
 pub mod CanOver

@@ -2,16 +2,15 @@
 use Rattle.std.specs.Prelude.{◌≡◌, ◌⊎◌, ◌↔◌, ℕ, ◌<◌, ◌≤◌, List, length}
 use Rattle.dwz_model.specs.declared.fault.Refusal.{Refusal}
 use Rattle.dwz_def_reading.specs.Finished.{FirstBeside}
-use Rattle.dwz_def_reading.specs.Lists.{Each, In}
+use Rattle.dwz_def_reading.specs.Lists.{Each}
 use Rattle.dwz_def_reading.specs.Texts.{NoZero}
 use Rattle.dwz_def_reading.specs.Values.{AreBytes}
-use Rattle.dwz_def_plan.specs.IsPlan.{AreImports}
-use Rattle.dwz_def_plan.specs.Plan.{imports}
-use Rattle.dwz_def_readback.specs.Back.{CanWriteBy}
+use Rattle.dwz_def_plan.specs.Plan.{import_of, imports}
+use Rattle.dwz_def_images.specs.After.{IsBelow}
 use Rattle.dwz_def_taken.specs.Beside.{offsets_doc}
 use Rattle.dwz_def_taken.specs.Laws.{ArePlacedOver}
 use Rattle.dwz_def_taken.specs.Takes.{Takes}
-use Rattle.dwz_def_over.specs.Over.{AreOverFiles, OverFiles, move_of, reused, run_over, stands}
+use Rattle.dwz_def_over.specs.Over.{AreOverFiles, OverFiles, move_of, reused}
 use Rattle.dwz_def_over.specs.Written.{AreTiedOver, CanBeWrittenOver, OverFault, ReadBackOver, file_over}
 
 -- ---- what is read
@@ -44,17 +43,13 @@ SectionOverLaw = (name : List ℕ) (o : OverFiles) (q : Refusal) → OverFault n
 
 -- ---- what is written
 
--- a unit imports a partial unit of the common file exactly if it takes it
+-- among the imports of a unit is one of a partial unit of the common file exactly if it takes that (DWARF 5, 3.2.5)
 abbrev pub ImportsLaw : Type 0
 ImportsLaw =
     (o : OverFiles) → AreOverFiles o → (u p : ℕ) → p < length (reused o).commons
-    → (a : AreImports u (move_of o).parts (imports u 0 (move_of o).parts)) → In p a.parts_imported ↔ Takes (reused o) u p
+    → IsBelow (import_of u p) (imports u 0 (move_of o).parts) ↔ Takes (reused o) u p
 
--- Where nothing refuses it, all that is asked of what is written holds,
-abbrev pub CanWriteOverLaw : Type 0
-CanWriteOverLaw = (name : List ℕ) (o : OverFiles) → Each AreBytes o.contents → CanBeWrittenOver name o → CanWriteBy (stands o) (run_over o)
-
--- and so it reads back beside the common file as what was read, where copies count as one place;
+-- Where nothing refuses it, all files read back beside the common file as what was read, where copies count as one place,
 abbrev pub ReadBackOverLaw : Type 0
 ReadBackOverLaw = (name : List ℕ) (o : OverFiles) → Each AreBytes o.contents → CanBeWrittenOver name o → ReadBackOver o (file_over name o)
 

@@ -1,3 +1,4 @@
 pub mod Over
 pub mod Written
 pub mod Laws
+pub mod WriteLaws

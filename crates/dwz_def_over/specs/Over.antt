@@ -57,8 +57,8 @@ abbrev pub standing_units : OverFiles → List (DwUnit EntryName)
 standing_units o = map (standing_unit (reused o)) (reused o).commons
 
 -- each of these names has the place at which it was read
-abbrev pub finished : OverFiles → Finished
-finished o = record {
+abbrev pub standing_file : OverFiles → Finished
+standing_file o = record {
   bytes = o.common;
   raw = o.raw;
   units = standing_units o;
@@ -66,4 +66,4 @@ finished o = record {
 }
 
 abbrev pub stands : OverFiles → CommonFile
-stands o = Stands (finished o)
+stands o = Stands (standing_file o)

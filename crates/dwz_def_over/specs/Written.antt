@@ -34,8 +34,8 @@ pub record CanBeWrittenOver (name : List ℕ) (o : OverFiles) : Type 0 where
   pub free : IsFreeBy (stands o) name (run_over o)
 
 -- something of the file moves, or is taken, so that it is written anew
-abbrev pub Changes : OverFiles → ℕ → Type 0
-Changes o file = In file (run_over o).files × (changes (run_over o).move (run_over o).units file ≡ true)
+abbrev pub IsAnew : OverFiles → ℕ → Type 0
+IsAnew o file = In file (run_over o).files × (changes (run_over o).move (run_over o).units file ≡ true)
 
 -- the bytes of such a file
 abbrev pub file_over : List ℕ → OverFiles → ℕ → List ℕ
@@ -60,9 +60,9 @@ CopiesAreOne o at = (s t : EntryName) → In s (names_after o) → In t (names_a
 -- the common file count as one place.
 pub record BackOver (o : OverFiles) (output : ℕ → List ℕ) (g : EntryName → Place) : Type 0 where
   pub common : SaysUnits None (run_over o).common o.common o.raw o.said.common.units
-  pub file : (file : ℕ) → Changes o file
+  pub file : (file : ℕ) → IsAnew o file
       → SaysPlacedBy (stands o) (run_over o) g (Some (given_over o)) file (output file) (fitted_by (stands o) (run_over o) file)
-  pub ranges : (number : ℕ) → (changed : Changes o number)
+  pub ranges : (number : ℕ) → (changed : IsAnew o number)
       → RangesBackBy (stands o) (run_over o) number (output number) (file number changed).raw
   pub still : (file : ℕ) (doc : Doc ℕ) → Nth 0 o.said.docs file doc
       → SaysStill (Some (given_over o)) file ((run_over o).input.bytes file) doc
@@ -86,5 +86,5 @@ sup_over name o = record { supplementary = false; name = name; sum = sum_of o.co
 
 abbrev pub AreTiedOver : List ℕ → OverFiles → Type 0
 AreTiedOver name o =
-    (file : ℕ) → Changes o file → imports_common (run_over o).move (run_over o).units file ≡ true
+    (file : ℕ) → IsAnew o file → imports_common (run_over o).move (run_over o).units file ≡ true
     → SaysSup (file_over name o file) (sup_over name o)

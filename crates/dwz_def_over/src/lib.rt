@@ -14,4 +14,4 @@
 
 mod over;
 
-pub use over::{over_laws, read_laws, refused_laws};
+pub use over::{over_laws, read_laws, refused_laws, write_laws};

@@ -1,7 +1,8 @@
 //! What is written of files over a finished common file.
 
-ghost use Rattle.dwz_def_over.specs.Laws.{CanWriteOverLaw, EitherOverLaw, ImportsLaw, OneOverFaultLaw, OneReadLaw, PlacedLaw, ReadBackOverLaw};
+ghost use Rattle.dwz_def_over.specs.Laws.{EitherOverLaw, ImportsLaw, OneOverFaultLaw, OneReadLaw, PlacedLaw, ReadBackOverLaw};
 ghost use Rattle.dwz_def_over.specs.Laws.{ReadNotRefusedLaw, SectionOverLaw, TiedOverLaw};
+ghost use Rattle.dwz_def_over.specs.WriteLaws.{CanWriteOverLaw};
 
 /// Laws on what is read of files over a finished common file, and taken of that: it is fixed by their bytes; where it is read nothing of it
 /// is refused; and all has places.
@@ -24,7 +25,11 @@ pub fn refused_laws()
 /// one place. Each that imports from it has its name and its checksum.
 pub fn over_laws()
     ensures imports { ImportsLaw }
-    ensures can { CanWriteOverLaw }
     ensures back { ReadBackOverLaw }
     ensures tied { TiedOverLaw }
+{}
+
+/// All that is asked of a run, so that what it writes reads back, holds where nothing refuses it.
+pub fn write_laws()
+    ensures { CanWriteOverLaw }
 {}

@@ -1,12 +1,9 @@
-use Rattle.dwz_def_over.proofs.AllOver.{can, read_back_over, tied_over}
+use Rattle.dwz_def_over.proofs.AllOver.{read_back_over, tied_over}
 use Rattle.dwz_def_over.proofs.TakenOver.{imports_law}
 use Rattle.dwz_def_over.proofs.over.over_laws.Goals as goal
 
 pub returns-clause-imports : goal.returns-clause-imports
 returns-clause-imports c = imports_law
-
-pub returns-clause-can : goal.returns-clause-can
-returns-clause-can c name o are w = can name o are w
 
 pub returns-clause-back : goal.returns-clause-back
 returns-clause-back c name o are w = read_back_over name o are w

@@ -1,5 +1,5 @@
 -- No put of files over a finished common file is of that; and what each prefix of the puts leaves.
-use Rattle.std.proofs.Common.{◌≡◌, ◌⊎◌, ◌||◌, ◌==◌, ℕ, zero, suc, Bool, true, false, List, [], ◌∷◌, length, take, get_or, Option, Some, None, refl, sym, ap, subst, ◌∙◌, inl, inr, eqb-true}
+use Rattle.std.proofs.Common.{◌≡◌, ◌⊎◌, ◌||◌, ◌==◌, ℕ, zero, suc, Bool, true, false, List, [], ◌∷◌, length, take, get_or, Option, Some, None, refl, sym, ap, ◌∙◌, inl, inr, eqb-true}
 use Rattle.std.specs.Prelude.{not, is_none}
 use Rattle.std.specs.Option.{option_map_or}
 use Rattle.std.specs.Str.{bytes_eq}
@@ -12,11 +12,13 @@ use Rattle.dwz_words.specs.Conditions.{is_among}
 use Rattle.dwz_words.specs.declared.options.Options.{Options}
 use Rattle.dwz_run_course.specs.Puts.{AreOthers, Prefixes}
 use Rattle.dwz_run_course.proofs.StopLemmas.{text_of_same}
-use Rattle.dwz_def_over.specs.Over.{OverFiles, run_over, stands}
+use Rattle.dwz_def_over.specs.Over.{AreOverFiles, OverFiles, run_over, stands}
+use Rattle.dwz_run_course.specs.Gets.{gets}
+use Rattle.dwz_def_run_over.proofs.Gotten.{files_held}
 use Rattle.dwz_def_over.specs.Written.{file_over}
 use Rattle.dwz_def_run.specs.Out.{sup_name}
 use Rattle.dwz_def_run_over.specs.Reuses.{puts_over}
-use Rattle.dwz_def_run_over.specs.Stops.{AreHeld, AreOldOrMadeOver, FitOver, IsMadeOver}
+use Rattle.dwz_def_run_over.specs.Stops.{AreOldOrMadeOver, FitOver, IsMadeOver}
 use Rattle.dwz_def_run_over.proofs.Stopping.{elsewhere_over, in_place_over, others, others_elsewhere}
 
 not_false : (b : Bool) → not b ≡ true → b ≡ false
@@ -50,10 +52,10 @@ module _ (o : Options) (x : OverFiles) (fit : FitOver o) where
 
   -- ---- the files
 
-  held_as : (store : Store) → AreHeld o x store → (file : ℕ) (name : List ℕ) → Nth 0 o.files file name → store name ≡ Some ((run_over x).input.bytes file)
-  held_as store held = held
+  abbrev AreHeld : Store → Type 0
+  AreHeld store = (file : ℕ) (name : List ℕ) → Nth 0 o.files file name → store name ≡ Some (get_or x.contents file [])
 
-  pub stops_at : (store : Store) → AreHeld o x store → Prefixes (puts_over o x) store (AreOldOrMadeOver o x)
+  stops_at : (store : Store) → AreHeld store → Prefixes (puts_over o x) store (AreOldOrMadeOver o x)
   stops_at store held k file name nth = by o.out refl where
     as_made : (now : Store) → (now name ≡ Some ((run_over x).input.bytes file)) ⊎ ((changes (run_over x).move (run_over x).units file ≡ true) × (now name ≡ Some (file_over (sup_name o) x file))) → (now name ≡ Some (get_or x.contents file [])) ⊎ IsMadeOver o x now file name
     as_made now (inl same) = inl same
@@ -63,8 +65,9 @@ module _ (o : Options) (x : OverFiles) (fit : FitOver o) where
     by None e = as_made (done (take k (puts_over o x)) store) (in_place_over (stands x) o (run_over x) e fit.distinct store held k file name nth)
     by (Some out) e = as_made (done (take k (puts_over o x)) store) (elsewhere_over (stands x) o (run_over x) out e store held (one_file out e) k file name nth)
 
-pub stops_over : (o : Options) (x : OverFiles) → FitOver o → (store : Store) → AreHeld o x store → Prefixes (puts_over o x) store (AreOldOrMadeOver o x)
-stops_over o x fit store held = stops_at o x fit store held
+pub stops_over : (o : Options) (x : OverFiles) → FitOver o → AreOverFiles x → (store : Store) (common : List ℕ) → gets store 0 (common ∷ o.files) ≡ Some (x.common ∷ x.contents)
+    → Prefixes (puts_over o x) store (AreOldOrMadeOver o x)
+stops_over o x fit are store common is = stops_at o x fit store (files_held store common o.files x are is)
 
 keeps : (common : List ℕ) (puts : List Put) (store : Store) → AreOthers common puts → (k : ℕ) → done (take k puts) store common ≡ store common
 keeps common puts store others zero = refl

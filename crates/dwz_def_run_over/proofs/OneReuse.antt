@@ -12,7 +12,7 @@ use Rattle.dwz_words.specs.declared.options.Options.{Options}
 use Rattle.dwz_run_course.specs.Outcome.{Outcome, refuses, writes}
 use Rattle.dwz_def_taken.specs.declared.fixed.Fixed.{Fixed}
 use Rattle.dwz_def_taken.specs.Takes.{IsFixedOf}
-use Rattle.dwz_def_over.specs.Over.{AreOverFiles, OverFiles, finished, run_over}
+use Rattle.dwz_def_over.specs.Over.{AreOverFiles, OverFiles, standing_file, run_over}
 use Rattle.dwz_def_over.specs.Written.{OverFault}
 use Rattle.dwz_def_over.proofs.EitherFault.{either_over}
 use Rattle.dwz_def_over.proofs.OneFault.{one_fault}
@@ -57,7 +57,7 @@ module _ (o : Options) (common : List ℕ) (contents : List (List ℕ)) where
   one_of (refuses p) (refuses q) (inl x) (inr y) = absurd (not_both y.0 y.1 y.2 p x)
   one_of (refuses p) (refuses q) (inr x) (inl y) = absurd (not_both x.0 x.1 x.2 q y)
   one_of (refuses p) (refuses q) (inr x) (inr y) =
-      ap refuses (one_fault (sup_name o) (finished y.0) (run_over y.0) p q (fault_of x.0 y.0 (one_files x.0 y.0 x.1 y.1 x.2 y.2) p x.3) y.3)
+      ap refuses (one_fault (sup_name o) (standing_file y.0) (run_over y.0) p q (fault_of x.0 y.0 (one_files x.0 y.0 x.1 y.1 x.2 y.2) p x.3) y.3)
 
   pub some_of : ((said : BesideDocs) → ReadBeside common contents said → (fixed : Fixed) × IsFixedOf said fixed) → (outcome : Outcome) × ReusesOf o common contents outcome
   some_of taken = by (beside_meaning common contents) refl where
@@ -69,7 +69,7 @@ module _ (o : Options) (common : List ℕ) (contents : List (List ℕ)) where
         let flags = flags_of (limits_after no_files_before common read.0) contents said.docs read.2 in
         let x : OverFiles = record { common = common; contents = contents; raw = read.0; said = said; prunes = flags.0; fixed = fixed.0 } in
         let are : AreOverFiles x = record { common = read.1; files = read.2; prunable = flags.1; taken = fixed.1 } in
-        elim (either_over (sup_name o) (finished x) (run_over x)) [
+        elim (either_over (sup_name o) (standing_file x) (run_over x)) [
           | inl q ↦ (refuses q.0, inr (x, (refl, refl), are, q.1))
           | inr free ↦ (writes (output_over o x), (x, (refl, refl), record { read = are; free = free }, refl))
         ]

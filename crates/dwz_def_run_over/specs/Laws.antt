@@ -1,15 +1,21 @@
 -- Laws on what comes of files that are written over a finished common file.
-use Rattle.std.specs.Prelude.{◌≡◌, ℕ, List, Some, take}
+use Rattle.std.specs.Prelude.{◌≡◌, ℕ, ◌≤◌, List, ◌∷◌, Some, length, take}
 use Rattle.dwz_def_reading.specs.Finished.{BesideDocs, ReadBeside}
+use Rattle.dwz_def_reading.specs.Lists.{Each}
+use Rattle.dwz_def_reading.specs.Values.{AreBytes}
 use Rattle.dwz_outside.specs.Store.{Store, done}
 use Rattle.dwz_words.specs.declared.options.Options.{Options}
+use Rattle.dwz_run_course.specs.Demo.{HasLengths}
+use Rattle.dwz_run_course.specs.Gets.{gets}
 use Rattle.dwz_run_course.specs.Outcome.{Outcome}
 use Rattle.dwz_run_course.specs.Puts.{AreOthers, Prefixes}
 use Rattle.dwz_def_taken.specs.declared.fixed.Fixed.{Fixed}
 use Rattle.dwz_def_taken.specs.Takes.{IsFixedOf}
-use Rattle.dwz_def_over.specs.Over.{OverFiles}
-use Rattle.dwz_def_run_over.specs.Reuses.{Reuses, common_got, files_got, puts_over}
-use Rattle.dwz_def_run_over.specs.Stops.{AreHeld, AreOldOrMadeOver, FitOver}
+use Rattle.dwz_def_over.specs.Over.{AreOverFiles, OverFiles}
+use Rattle.dwz_def_over.specs.Written.{CanBeWrittenOver}
+use Rattle.dwz_def_run.specs.Out.{sup_name}
+use Rattle.dwz_def_run_over.specs.Reuses.{Reuses, common_got, files_got, puts_over, summary_over}
+use Rattle.dwz_def_run_over.specs.Stops.{AreOldOrMadeOver, FitOver}
 
 -- at most one thing comes of options and contents
 abbrev pub OneReuseLaw : Type 0
@@ -27,8 +33,15 @@ abbrev pub NotPutLaw : Type 0
 NotPutLaw = (o : Options) (x : OverFiles) → FitOver o → (common : List ℕ) → o.common ≡ Some common
     → AreOthers common (puts_over o x) × ((store : Store) (k : ℕ) → done (take k (puts_over o x)) store common ≡ store common)
 
--- after the first puts, however many, each FILE is as it was, or as it is made
+-- Where the common file and FILEs were got and read, and after the first puts, however many, each FILE is as it was, or as it is made.
 abbrev pub StopOverLaw : Type 0
 StopOverLaw =
-    (o : Options) (x : OverFiles) → FitOver o → (store : Store) → AreHeld o x store
+    (o : Options) (x : OverFiles) → FitOver o → AreOverFiles x → (store : Store) (common : List ℕ)
+    → gets store 0 (common ∷ o.files) ≡ Some (x.common ∷ x.contents)
     → Prefixes (puts_over o x) store (AreOldOrMadeOver o x)
+
+-- where the files are written, the lengths of all of them together are numbers of 64 bits
+abbrev pub LengthsOverLaw : Type 0
+LengthsOverLaw =
+    (o : Options) (x : OverFiles) → Each AreBytes x.contents → CanBeWrittenOver (sup_name o) x → length o.files ≤ 256
+    → HasLengths (summary_over o x)

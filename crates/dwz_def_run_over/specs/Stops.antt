@@ -16,10 +16,6 @@ pub record FitOver (o : Options) : Type 0 where
   pub one : IsTrue (is_none o.out || length o.files == 1)
   pub elsewhere : (out : List ℕ) → o.out ≡ Some out → ¬ o.common ≡ Some out
 
--- each FILE holds what was read of it
-abbrev pub AreHeld : Options → OverFiles → Store → Type 0
-AreHeld o x store = (file : ℕ) (name : List ℕ) → Nth 0 o.files file name → store name ≡ Some (get_or x.contents file [])
-
 -- something of the file moves or is taken, and its name holds what is made of it
 pub record IsMadeOver (o : Options) (x : OverFiles) (now : Store) (file : ℕ) (name : List ℕ) : Type 0 where
   pub changed : changes (run_over x).move (run_over x).units file ≡ true

@@ -4,7 +4,7 @@
 //! what is written. `Stops` says what each prefix of the puts leaves.
 //!
 //! The laws (`reuses_laws`): at most one thing comes of options and contents, and something does where it is said what is taken; no put is of
-//! the common file; and after the first puts, however many, each FILE is as it was, or as it is made.
+//! the common file; after the first puts, however many, each FILE is as it was, or as it is made; and all lengths are numbers of 64 bits.
 //!
 //! Read first: `specs/Reuses.antt`, `specs/Stops.antt`.
 #![tactic(auto)]

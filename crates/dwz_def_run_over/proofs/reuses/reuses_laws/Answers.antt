@@ -1,3 +1,4 @@
+use Rattle.dwz_def_run_over.proofs.Lengths.{lengths_over}
 use Rattle.dwz_def_run_over.proofs.OneReuse.{one_reuse, some_reuse}
 use Rattle.dwz_def_run_over.proofs.NotPut.{not_put, stops_over}
 use Rattle.dwz_def_run_over.proofs.reuses.reuses_laws.Goals as goal
@@ -13,3 +14,6 @@ returns-clause-not_put c = not_put
 
 pub returns-clause-stops : goal.returns-clause-stops
 returns-clause-stops c = stops_over
+
+pub returns-clause-lengths : goal.returns-clause-lengths
+returns-clause-lengths c o x bytes written few = lengths_over o x bytes written few

@@ -5,7 +5,7 @@ use Rattle.dwz_def_reading.specs.Documents.{Doc, DwUnit}
 use Rattle.dwz_def_reading.specs.Entries.{given}
 use Rattle.dwz_def_reading.specs.Files.{around_of, debug_abbrev, debug_info, sources_of}
 use Rattle.dwz_def_reading.specs.Meanings.{Common as CommonGiven, Sources, text_sections_of}
-use Rattle.dwz_def_tops.specs.Spots.{EntryName, FileUnit, file_numbers, named, units_of}
+use Rattle.dwz_def_tops.specs.Spots.{EntryName, FileUnit, file_numbers, units_of}
 use Rattle.dwz_def_tops.specs.Lists.{Nth}
 use Rattle.dwz_def_tops.proofs.Members.{each_more, nth_in}
 use Rattle.dwz_def_images.specs.After.{ArePlaced, Place, at_file, name_of_place, AreOld}
@@ -23,7 +23,7 @@ use Rattle.dwz_def_readback.specs.Prunable.{IsPrunable}
 use Rattle.dwz_def_readback.proofs.FewTexts.{read_few}
 use Rattle.dwz_def_readback.specs.AllFiles.{AreRead, SaysStill}
 use Rattle.dwz_def_readback.specs.Back.{IsReady, WasReadFrom, CanWriteBy, CommonReady, FileOverBy, run_by}
-use Rattle.dwz_def_readback.specs.Files.{uses_by, fitted_by, formed_by, Run, Stored, file_forms, lists_named, origin_in, paths, places, sources, texts, CommonFile, file_forms_by, fitted_if_by, places_by, tells_by}
+use Rattle.dwz_def_readback.specs.Files.{uses_by, fitted_by, formed_by, Run, Stored, file_forms, lists_named, origin_in, sources, CommonFile, file_forms_by, fitted_if_by, places_by, tells_by}
 use Rattle.dwz_def_readback.proofs.BasesLemmas.{out_bases}
 use Rattle.dwz_def_readback.proofs.ReadMode.{units_again, wider}
 use Rattle.dwz_def_readback.proofs.NamedOperands.{IsTold, files_read}
@@ -35,7 +35,6 @@ use Rattle.dwz_def_readback.proofs.RangeLemmas.{named_at, stand_after}
 use Rattle.dwz_def_readback.proofs.StillLists.{still_none}
 use Rattle.dwz_def_readback.proofs.StillMeans.{units_there}
 use Rattle.dwz_def_readback.proofs.StillPlaces.{number_nth}
-use Rattle.dwz_def_readback.proofs.WithinLemmas.{within}
 use Rattle.dwz_def_taken.specs.Laws.{ArePlacedOver}
 use Rattle.dwz_def_taken.specs.declared.fixed.Fixed.{Fixed}
 use Rattle.dwz_def_taken.specs.Takes.{IsFixed}

@@ -22,8 +22,8 @@ use Rattle.dwz_def_encoding.specs.Placing.{FitsSections}
 use Rattle.dwz_def_encoding.proofs.ReadAgain.{section_bytes}
 use Rattle.dwz_def_readback.specs.AllFiles.{FileReads}
 use Rattle.dwz_def_readback.specs.Files.{Run, sources, AreRangedBy, CommonFile, HasSectionsBy, OffsetsIfBy, places_by, sections_by, tells_by}
-use Rattle.dwz_def_output.specs.Contents.{sections_after_by, strs_after_by, ranges_after, listed, lists_after_by, offsets_after_by, ranges_after_by}
-use Rattle.dwz_def_output.specs.FilesAfter.{file_after_by, order_of, sup_after, changes_after_by, sup_after_by}
+use Rattle.dwz_def_output.specs.Contents.{sections_after_by, strs_after_by, listed, lists_after_by, offsets_after_by, ranges_after_by}
+use Rattle.dwz_def_output.specs.FilesAfter.{file_after_by, order_of, changes_after_by, sup_after_by}
 use Rattle.dwz_def_output.specs.Refusals.{IsLargeSection, spoken, too_large_at, FileFaultBy, FirstNarrowBy, IsLargeFileBy, IsUnplacedBy, SectionsFaultBy}
 use Rattle.dwz_def_reading.specs.FirstOf.{OfFirst, OrElse}
 use Rattle.dwz_def_output.proofs.FreeLemmas.{Nothing, is_short, not_first, not_then}

@@ -10,7 +10,7 @@ use Rattle.dwz_def_tops.specs.Spaces.{space_text, tops_under}
 use Rattle.dwz_def_tops.proofs.SpaceLemmas.{text_map, under_count}
 use Rattle.dwz_def_tops.specs.Spots.{ASpace, ATop, FileUnit, InChain, InType, Import, Nothing, PartialOf, PartialRoot, RootOf, Row, SpaceAt, SpaceName, EntryName, Top, UnitOf, Within, below_spots, entry_spots, in_file, name_of, named_files, named_in, no_name, row_below, row_in, row_tops, spot_in, spots_from, top_count, top_spots, tops_among, tops_from, tops_of, units_of, file_numbers}
 use Rattle.dwz_def_tops.proofs.RowLemmas.{RowIs, row_is}
-use Rattle.dwz_def_plan.specs.Homes.{Home, Local, home, moves, same_home}
+use Rattle.dwz_def_plan.specs.Homes.{Home, Local, moves, same_home}
 use Rattle.dwz_def_plan.specs.Moves.{Move, image_in}
 use Rattle.dwz_def_plan.specs.Plan.{PartialUnit, image_by}
 use Rattle.dwz_def_plan.proofs.PlanLemmas.{home_true}

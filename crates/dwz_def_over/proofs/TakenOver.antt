@@ -1,5 +1,5 @@
 -- Among the imports of a unit is one of a partial unit of a finished common file exactly if it takes that.
-use Rattle.std.proofs.Common.{◌≡◌, ◌++◌, ℕ, suc, ◌+◌, ◌<◌, ◌≤◌, List, [], ◌∷◌, arith, length, map, refl, sym, ap, subst, inl, inr}
+use Rattle.std.proofs.Common.{◌≡◌, ℕ, suc, ◌+◌, ◌<◌, ◌≤◌, List, [], ◌∷◌, arith, length, map, refl, sym, ap, subst, inl, inr}
 use Rattle.std.proofs.lemmas.Bool.{cases_lt}
 use Rattle.dwz_def_reading.specs.Documents.{Entries, Node}
 use Rattle.dwz_def_reading.specs.Lists.{In}

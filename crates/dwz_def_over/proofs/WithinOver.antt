@@ -1,28 +1,25 @@
 -- Over a finished common file references of what stands in a file after name entries of that file, or of the common file.
-use Rattle.std.proofs.Common.{◌≡◌, ◌⊎◌, ℕ, ◌+◌, length, Bool, true, false, List, [], ◌++◌, ◌==◌, map, refl, sym, ap, subst, ◌∙◌, arith, inl, inr, eq-eqb, eqb-true}
+use Rattle.std.proofs.Common.{◌≡◌, ◌⊎◌, ℕ, Bool, true, false, List, [], ◌++◌, ◌==◌, map, refl, sym, ap, subst, ◌∙◌, arith, inl, inr, eq-eqb, eqb-true}
 use Rattle.dwz_def_reading.specs.Documents.{Attr, Compile, Doc, DwUnit, Entries, Kind, Node, OfType, Partial, entries_map, language}
 use Rattle.dwz_def_reading.specs.Lists.{In}
 use Rattle.dwz_def_reading.specs.Trees.{End, Entry}
 use Rattle.dwz_def_reading.proofs.ListFacts.{in_cases, in_left, in_map, in_right}
 use Rattle.dwz_def_tops.specs.Lists.{Nth}
 use Rattle.dwz_def_tops.specs.Seen.{Closed, Named, Seen, all_seen, named_map, named_value, see, seen, seen_below, seen_map, seen_roots}
-use Rattle.dwz_def_tops.proofs.Members.{each_in, in_filter, in_filter_from, in_map_from, in_nth, nth_in, nth_one}
+use Rattle.dwz_def_tops.proofs.Members.{each_in, in_filter, in_filter_from, in_map_from, in_nth, nth_in}
 use Rattle.dwz_def_tops.proofs.SeenLemmas.{entry_seen, names_map, root_from, root_seen, seen_entries, seen_from, seen_in}
 use Rattle.dwz_def_tops.proofs.ShownLemmas.{attr_from}
 use Rattle.dwz_def_tops.specs.Spaces.{IsUnder}
-use Rattle.dwz_def_tops.specs.Spots.{FileUnit, PartialRoot, EntryName, Top, name_list, rows_of_root, row_tops, tops_of, units_of, LabelledTop, Row, Within, file_numbers}
+use Rattle.dwz_def_tops.specs.Spots.{FileUnit, PartialRoot, EntryName, Top, rows_of_root, row_tops, tops_of, units_of, file_numbers}
 use Rattle.dwz_def_tops.proofs.RowLemmas.{unit_row, row_unit}
 use Rattle.dwz_def_tops.proofs.Tops.{row_top, unit_of}
-use Rattle.dwz_def_plan.specs.Homes.{Common, Home, Local, Rule, Stay, file_of, is_home, moves, users}
-use Rattle.dwz_def_plan.specs.IsPlan.{IsHome, IsPart, OfSpace, OfTop}
+use Rattle.dwz_def_plan.specs.Homes.{Local}
+use Rattle.dwz_def_plan.specs.IsPlan.{OfSpace, OfTop}
 use Rattle.dwz_def_plan.specs.Moves.{Move, image_in, seen_top}
-use Rattle.dwz_def_plan.specs.Plan.{PartialUnit, import_of, imports, kept_row, image_by, part_row, stand_in, partials}
-use Rattle.dwz_def_plan.proofs.HomeLemmas.{file_at, home_is, file_of_top}
+use Rattle.dwz_def_plan.specs.Plan.{PartialUnit, import_of, imports, kept_row}
+use Rattle.dwz_def_plan.proofs.HomeLemmas.{file_at}
 use Rattle.dwz_def_plan.proofs.KeptLemmas.{are_imports}
-use Rattle.dwz_def_plan.proofs.PlanLemmas.{are_parts, has_rep}
 use Rattle.dwz_def_plan.proofs.RowParts.{kept_is}
-use Rattle.dwz_def_plan.proofs.PartRows.{part_is}
-use Rattle.dwz_def_plan.proofs.UserLemmas.{moving, moves_self, rep_is, stands_same, used}
 use Rattle.dwz_def_images.specs.After.{AreOld, IsNamedBelow}
 use Rattle.dwz_def_images.specs.Held.{NameNone}
 use Rattle.dwz_def_images.specs.Units.{changes, common_units, kept_unit, kept_units, out_units, partial_unit, partial_units, tree, units_of_file}
@@ -30,28 +27,19 @@ use Rattle.dwz_def_images.proofs.ClosedLemmas.{none_seen, row_seen}
 use Rattle.dwz_def_images.proofs.EntryLemmas.{kept_compile, kept_still, kept_type}
 use Rattle.dwz_def_images.proofs.KindLemmas.{kept_kinded}
 use Rattle.dwz_def_images.proofs.OldRows.{InTop, IsSpaceSeen, Origin, item_under, raw_seen, raw_top, row_kinded, seen_origin, tops_among}
-use Rattle.dwz_def_images.proofs.TreeLemmas.{Behind, OfASpace, OfATop, TreeOrigin, seen_top_map, tree_origin, tree_seen}
+use Rattle.dwz_def_images.proofs.TreeLemmas.{Behind, OfASpace, OfATop, TreeOrigin, seen_top_map, tree_origin}
 use Rattle.std.specs.List.{filter}
 use Rattle.dwz_def_encoding.specs.Meant.{all_entry_keys}
 use Rattle.dwz_def_encoding.proofs.ChosenNames.{all_seen_key}
 use Rattle.dwz_def_readback.proofs.HomeLemmas.{kept_from, parts_from}
 use Rattle.dwz_def_readback.proofs.KeptLemmas.{mapped_kept, space_kept, top_kept}
-use Rattle.dwz_def_readback.proofs.WithinLemmas.{kept_to, none_mapped, parts_to}
+use Rattle.dwz_def_readback.proofs.WithinLemmas.{none_mapped}
 use Rattle.dwz_def_images.proofs.HeldLemmas.{root_none}
-use Rattle.dwz_def_images.proofs.FileLemmas.{files_are}
-use Rattle.dwz_def_images.proofs.OldFiles.{nth_cases}
-use Rattle.dwz_def_images.proofs.OldLemmas.{top_at}
-use Rattle.dwz_def_taken.proofs.CommonUnits.{common_stands, not_shared}
-use Rattle.dwz_def_taken.proofs.CommonParts.{common_nth, length-common}
-use Rattle.dwz_def_taken.proofs.ClosedOver.{local_rows}
-use Rattle.dwz_def_taken.proofs.OverLemmas.{fair, free_none, free_two, image_is, moving_seen, stand, taken_seen}
-use Rattle.dwz_def_taken.proofs.PlaceLemmas.{nth_move, nth_right, part_nth}
-use Rattle.dwz_def_taken.specs.Beside.{Reused, reused_of, together}
-use Rattle.dwz_def_taken.specs.Over.{as_part, common_parts, move_over, standing_unit}
-use Rattle.dwz_def_taken.specs.Takes.{IsFixed, free_rule, free_test, image_at}
-use Rattle.std.specs.Prelude.{unwrap_or, ◌||◌, Option, Some, None}
-use Rattle.std.specs.Option.{is_some}
-use Rattle.dwz_def_taken.specs.Laws.{ArePlacedOver, IsReused}
+use Rattle.dwz_def_taken.specs.Beside.{reused_of}
+use Rattle.dwz_def_taken.specs.Over.{move_over}
+use Rattle.dwz_def_taken.specs.Takes.{IsFixed}
+use Rattle.std.specs.Prelude.{Some}
+use Rattle.dwz_def_taken.specs.Laws.{ArePlacedOver}
 use Rattle.dwz_def_taken.specs.declared.fixed.Fixed.{Fixed}
 use Rattle.dwz_def_over.proofs.LocalParts.{IsLocal, in_part, local_file, local_kinds, local_part, space_plain, tops_there}
 use Rattle.dwz_def_taken.proofs.NamesOver.{named_over}

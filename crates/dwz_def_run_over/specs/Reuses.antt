@@ -1,6 +1,5 @@
 -- What comes of options that ask to write files over a finished common file, whose name is that of the common file in them.
 use Rattle.std.specs.Prelude.{◌≡◌, ◌⊎◌, ℕ, suc, false, List, [], length, map, get_or, None}
-use Rattle.dwz_model.specs.declared.fault.Refusal.{Refusal}
 use Rattle.dwz_def_reading.specs.Finished.{FirstBeside}
 use Rattle.dwz_def_plan.specs.Homes.{numbers_from}
 use Rattle.dwz_outside.specs.declared.puts.Put.{Put}

@@ -1,0 +1,7 @@
+pub mod ApartLemmas
+pub mod FoundLemmas
+pub mod MarkCodes
+pub mod MarkLemmas
+pub mod NameLemmas
+pub mod PieceLemmas
+pub mod ToldLemmas

@@ -1,0 +1,4 @@
+pub mod Marks
+pub mod Told
+pub mod Found
+pub mod Shown

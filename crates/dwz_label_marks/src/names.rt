@@ -1,6 +1,6 @@
 //! Names: bytes that have numbers.
 
-ghost use Rattle.std.specs.Prelude.{◌≡◌, [], Some, IfOk, OnOk};
+ghost use Rattle.std.specs.Prelude.{◌≡◌, [], Some, IfOk};
 ghost use Rattle.dwz_def_reading.specs.TextRows.{text_number};
 ghost use Rattle.dwz_label_marks.specs.Told.{Keeps};
 
@@ -34,8 +34,9 @@ impl Names {
     }
 
     /// The number of bytes: the one that they have, or the next. `NoMemory` also where there would be 2^32 names, or 2^64 bytes of them.
+    /// Numbers stay, after an error too.
     pub fn number(&mut self, bytes: &[u8]) -> Result<u32, NoMemory>
-        ensures kept { OnOk result (Keeps self.old self.new) }
+        ensures kept { Keeps self.old self.new }
         ensures number { IfOk result (λ n. text_number self.new bytes.now ≡ Some n) }
     {
         if self.texts.len() == u32::MAX {

@@ -1,3 +1,4 @@
 mod SpaceRows
 mod UnitsFew
 mod AllInside
+mod LookSizes

@@ -35,10 +35,10 @@ over_common = record { common = of_common (then (short_unsigned 0x0d) End); docs
 abbrev pub over_both : BesideDocs
 over_both = record { common = of_common (then (long_unsigned 0x0d) (then (short_unsigned 0x27) End)); docs = three_doc ∷ [] }
 
-common_said : beside_meaning common_file (three_file ∷ []) ≡ Ok over_common
+pub common_said : beside_meaning common_file (three_file ∷ []) ≡ Ok over_common
 unfolding said beside_meaning common_sup_fault read_sup compress digest_bytes first_words hash_after rounds schedule sha256
 common_said = refl
 
-both_said : beside_meaning both_file (three_file ∷ []) ≡ Ok over_both
+pub both_said : beside_meaning both_file (three_file ∷ []) ≡ Ok over_both
 unfolding said beside_meaning common_sup_fault read_sup compress digest_bytes first_words hash_after rounds schedule sha256
 both_said = refl

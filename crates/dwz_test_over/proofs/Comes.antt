@@ -6,6 +6,7 @@ use Rattle.sha2.specs.Sha256.{compress, digest_bytes, first_words, hash_after, r
 use Rattle.dwz_def_reading.specs.Units.{RawUnit}
 use Rattle.dwz_words.specs.declared.options.Options.{Options}
 use Rattle.dwz_report.specs.Texts.{summary_text}
+use Rattle.dwz_def_taken.specs.declared.fixed.Fixed.{Fixed}
 use Rattle.dwz_def_taken.specs.Beside.{all_attrs, all_below, then_entries}
 use Rattle.dwz_def_taken.specs.Over.{common_parts, row_map}
 use Rattle.dwz_def_over.specs.Over.{OverFiles}
@@ -16,17 +17,31 @@ use Rattle.dwz_test_over.proofs.Beside.{over_both, over_common}
 
 -- the one FILE is `three`; the common file is `common`
 abbrev options : Options
-options = record { quiet = false; common = Some (codes "common"); name = None; out = None; workers = 4; files = codes "three" ∷ []; demo = None; explain = false; check = false; sup = None }
+options = record {
+  quiet = false;
+  common = Some (codes "common");
+  name = None;
+  out = None;
+  workers = 4;
+  files = codes "three" ∷ [];
+  demo = None;
+  explain = false;
+  check = false;
+  sup = None;
+}
 
 -- the type is taken: it stands for the common file's, the next top
-abbrev taken : List RawUnit → OverFiles
+abbrev pub taken_fixed : Fixed
+taken_fixed = record { roots = 0x0c ∷ []; takes = (0 ∷ []) ∷ [] ∷ []; images = Some 1 ∷ None ∷ []; blocked = false ∷ false ∷ [] }
+
+abbrev pub taken : List RawUnit → OverFiles
 taken raw = record {
   common = common_file;
   contents = three_file ∷ [];
   raw = raw;
   said = over_common;
   prunes = true ∷ [];
-  fixed = record { roots = 0x0c ∷ []; takes = (0 ∷ []) ∷ [] ∷ []; images = Some 1 ∷ None ∷ []; blocked = false ∷ false ∷ [] };
+  fixed = taken_fixed;
 }
 
 taken_put : (raw : List RawUnit) → puts_over options (taken raw) ≡ record { name = codes "three"; bytes = three_new } ∷ []

@@ -1,3 +1,4 @@
 pub mod Bytes
 pub mod Beside
 pub mod Comes
+pub mod Taken

@@ -16,7 +16,7 @@ use Rattle.dwz_test_over.proofs.Bytes.{both_file, common_file, three_file, three
 use Rattle.dwz_test_over.proofs.Beside.{over_both, over_common}
 
 -- the one FILE is `three`; the common file is `common`
-abbrev options : Options
+abbrev pub options : Options
 options = record {
   quiet = false;
   common = Some (codes "common");

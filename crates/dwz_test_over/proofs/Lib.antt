@@ -2,3 +2,4 @@ pub mod Bytes
 pub mod Beside
 pub mod Comes
 pub mod Taken
+pub mod Whole

@@ -1,7 +1,14 @@
 -- The file over the first common file is as it was read, and what is said to be taken is just what its unit takes.
-use Rattle.std.proofs.Common.{◌≡◌, ◌⊎◌, ◌∙◌, ℕ, zero, suc, ◌<◌, true, false, List, [], ◌∷◌, None, Some, MatchOption, arith, length, refl, sym, ap, subst, inl, inr}
+use Rattle.std.proofs.Common.{Result, Ok, Err, ◌≡◌, ◌⊎◌, ◌∙◌, ℕ, zero, suc, ◌<◌, true, false, List, [], ◌∷◌, None, Some, MatchOption, arith, length, refl, sym, ap, subst, inl, inr}
 use Rattle.dwz_def_reading.specs.Units.{RawUnit}
-use Rattle.dwz_def_reading.proofs.FinishedLemmas.{beside_agrees}
+use Rattle.dwz_def_reading.proofs.FileLemmas.{file_agrees_by, files_agree}
+use Rattle.dwz_model.specs.declared.fault.Fault.{Fault}
+use Rattle.sha2.specs.Sha256.{compress, digest_bytes, first_words, hash_after, rounds, schedule, sha256}
+use Rattle.dwz_def_reading.specs.Documents.{Doc}
+use Rattle.dwz_def_reading.specs.Files.{file_meaning_by, files_meaning, limits_after, no_files_before}
+use Rattle.dwz_def_reading.specs.Finished.{common_sup_fault, rule_of_common}
+use Rattle.dwz_def_reading.specs.Places.{Place}
+use Rattle.dwz_def_reading.specs.Supplementary.{read_sup}
 use Rattle.dwz_model.specs.Lists.{In, Nth, Rising}
 use Rattle.dwz_def_tops.specs.Alike.{Together}
 use Rattle.dwz_def_tops.specs.Deciding.{alike_test}
@@ -13,9 +20,9 @@ use Rattle.dwz_def_readback.proofs.PrunableDecided.{prunable_decided}
 use Rattle.dwz_def_taken.specs.Beside.{CommonAlike, Reused, all_attrs, all_below, look_units, own_tops, reused_beside, then_entries, together}
 use Rattle.dwz_def_taken.specs.Takes.{Blocked, CanTake, CanTakeAlong, HasSpace, IsFixed, IsImage, IsTaken, PartRefers, Takes, image_at, is_blocked, is_of_unit, part_unit, takes_of, unit_goes_to}
 use Rattle.dwz_def_over.specs.Over.{AreOverFiles}
-use Rattle.dwz_test_definitions.proofs.Comes.{come}
+use Rattle.dwz_test_definitions.proofs.Comes.{come, said}
 use Rattle.dwz_test_over.proofs.Bytes.{common_file, three_file}
-use Rattle.dwz_test_over.proofs.Beside.{common_said, over_common, three_doc}
+use Rattle.dwz_test_over.proofs.Beside.{over_common, three_doc}
 use Rattle.dwz_test_over.proofs.Comes.{taken, taken_fixed}
 
 abbrev r : Reused
@@ -201,15 +208,27 @@ prunable : is_prunable three_file three_doc.units ≡ true
 unfolding come tables_lack_strp
 prunable = refl
 
+-- the units of the common file, as they are stored
+abbrev units_read : Result (List RawUnit × Doc Place) Fault → List RawUnit
+units_read (Ok x) = x.0
+units_read (Err f) = []
+
+abbrev pub common_units : List RawUnit
+common_units = units_read (file_meaning_by (rule_of_common 1) no_files_before common_file)
+
+common_reads : file_meaning_by (rule_of_common 1) no_files_before common_file ≡ Ok (common_units, over_common.common)
+unfolding said common_sup_fault read_sup compress digest_bytes first_words hash_after rounds schedule sha256
+common_reads = refl
+
+three_reads : files_meaning (limits_after no_files_before common_file common_units) 0 (three_file ∷ []) ≡ Ok (three_doc ∷ [])
+unfolding said common_sup_fault read_sup compress digest_bytes first_words hash_after rounds schedule sha256
+three_reads = refl
+
 -- it reads so
-pub taken_over : (raw : List RawUnit) × AreOverFiles (taken raw)
-taken_over =
-    let x = ((beside_agrees common_file (three_file ∷ [])).ok over_common).0 common_said in (
-      x.0,
-      record {
-        common = x.1;
-        files = x.2;
-        prunable = (((λ e. (prunable_decided three_file three_doc.units).0 prunable), (λ p. refl)), tt);
-        taken = record { roots = refl; lists = fixed_is };
-      },
-    )
+pub taken_over : AreOverFiles (taken common_units)
+taken_over = record {
+  common = ((file_agrees_by (rule_of_common 1) no_files_before common_file).ok (common_units, over_common.common)).0 common_reads;
+  files = ((files_agree (limits_after no_files_before common_file common_units) 0 (three_file ∷ [])).ok (three_doc ∷ [])).0 three_reads;
+  prunable = (((λ e. (prunable_decided three_file three_doc.units).0 prunable), (λ p. refl)), tt);
+  taken = record { roots = refl; lists = fixed_is };
+}

@@ -1,6 +1,6 @@
 -- What options come to that fit together, by the task that they ask for.
-use Rattle.std.proofs.Common.{◌≡◌, ◌≤◌, ◌+◌, refl, ap, subst, ℕ, Bool, true, false, Option, Some, None, arith, length}
-use Rattle.std.specs.Prelude.{if◌then◌else◌, is_none, is_some, nat_le, nat_lt, ◌==◌, ◌&&◌, ◌||◌}
+use Rattle.std.proofs.Common.{◌≡◌, ◌⊎◌, ◌≤◌, ◌+◌, refl, ap, subst, inl, inr, ℕ, Bool, true, false, Option, Some, None, arith, length}
+use Rattle.std.specs.Prelude.{if◌then◌else◌, is_none, is_some, nat_le, nat_lt, not, ◌==◌, ◌&&◌, ◌||◌}
 use Rattle.std.proofs.lemmas.Bool.{eqb-true, leb-true}
 use Rattle.clap.proofs.WalkLemmas.{both}
 use Rattle.dwz_words.specs.Conditions.{FitTogether, Word, are_distinct, task_count}
@@ -21,74 +21,104 @@ not_given (Some x) none = absurd (omega arith)
 given : {X : Type 0} (o : Option X) (x : X) → o ≡ Some x → weight (is_some o) ≡ 1
 given o x e = ap (λ o. weight (is_some o)) e
 
+one_of_two : (a b : Bool) → (a || b) ≡ true → (a ≡ true) ⊎ (b ≡ true)
+one_of_two true b e = inl refl
+one_of_two false b e = inr e
+
 module _ (o : Options) (fit : FitTogether o) where
-  count_is : task_count o ≡ weight (is_some o.common) + weight o.explain + weight o.check + weight (is_some o.demo)
+  count_is : task_count o ≡ weight (is_some o.common) + weight o.explain + weight o.check + weight o.expand + weight (is_some o.demo)
   count_is = omega arith
 
   at_most_one : task_count o ≤ 1
   at_most_one = leb-true (task_count o) 1 fit.one_task
 
-  -- with COMMON nothing is explained, demonstrated or compared
-  pub with_common : (common : Word) → o.common ≡ Some common → (o.explain ≡ false) × (o.demo ≡ None) × (o.check ≡ false)
+  -- with COMMON nothing is explained, demonstrated, compared or expanded
+  pub with_common : (common : Word) → o.common ≡ Some common
+      → (o.explain ≡ false) × (o.demo ≡ None) × (o.check ≡ false) × (o.expand ≡ false)
   with_common common e =
       let one = given o.common common e in (
         adds_none o.explain (omega (arith, count_is, at_most_one)),
         not_given o.demo (omega (arith, count_is, at_most_one)),
         adds_none o.check (omega (arith, count_is, at_most_one)),
+        adds_none o.expand (omega (arith, count_is, at_most_one)),
       )
 
-  -- with `--explain` there is no COMMON and no demonstration, and nothing is compared
-  pub with_explain : o.explain ≡ true → (o.common ≡ None) × (o.demo ≡ None) × (o.check ≡ false)
+  -- with `--explain` there is no COMMON and no demonstration, and nothing is compared or expanded
+  pub with_explain : o.explain ≡ true → (o.common ≡ None) × (o.demo ≡ None) × (o.check ≡ false) × (o.expand ≡ false)
   with_explain e =
       let one : weight o.explain ≡ 1 = ap weight e in (
         not_given o.common (omega (arith, count_is, at_most_one)),
         not_given o.demo (omega (arith, count_is, at_most_one)),
         adds_none o.check (omega (arith, count_is, at_most_one)),
+        adds_none o.expand (omega (arith, count_is, at_most_one)),
       )
 
-  -- with `--check` no common file is made, and there is no demonstration, and nothing is explained
-  pub with_check : o.check ≡ true → (o.common ≡ None) × (o.demo ≡ None) × (o.explain ≡ false)
+  -- with `--check` no common file is made, and there is no demonstration, and nothing is explained or expanded
+  pub with_check : o.check ≡ true → (o.common ≡ None) × (o.demo ≡ None) × (o.explain ≡ false) × (o.expand ≡ false)
   with_check e =
       let one : weight o.check ≡ 1 = ap weight e in (
         not_given o.common (omega (arith, count_is, at_most_one)),
         not_given o.demo (omega (arith, count_is, at_most_one)),
         adds_none o.explain (omega (arith, count_is, at_most_one)),
+        adds_none o.expand (omega (arith, count_is, at_most_one)),
       )
 
-  -- with `--demo` there is no FILE and no COMMON, and nothing is explained or compared
-  pub with_demo : (n : ℕ) → o.demo ≡ Some n → (length o.files ≡ 0) × (o.common ≡ None) × (o.explain ≡ false) × (o.check ≡ false)
+  -- with `--demo` there is no FILE and no COMMON, and nothing is explained, compared or expanded
+  pub with_demo : (n : ℕ) → o.demo ≡ Some n
+      → (length o.files ≡ 0) × (o.common ≡ None) × (o.explain ≡ false) × (o.check ≡ false) × (o.expand ≡ false)
   with_demo n e =
       let one = given o.demo n e in
       let none = subst (λ (d : Option ℕ). (if is_some d then length o.files == 0
       else (if o.explain then length o.files == 4
-      else (if o.check then length o.files == 2 else (nat_lt 0 (length o.files) && nat_le (length o.files) 256)))) ≡ true) e fit.file_count in (
+      else (if o.check then length o.files == 2
+      else (if o.expand then length o.files == 1 else (nat_lt 0 (length o.files) && nat_le (length o.files) 256))))) ≡ true) e fit.file_count in (
         eqb-true (length o.files) 0 none,
         not_given o.common (omega (arith, count_is, at_most_one)),
         adds_none o.explain (omega (arith, count_is, at_most_one)),
         adds_none o.check (omega (arith, count_is, at_most_one)),
+        adds_none o.expand (omega (arith, count_is, at_most_one)),
       )
 
-  -- with OUT there is one FILE and no task
+  -- with OUT there is one FILE and no task, but that it may be expanded
   pub with_out : (out : Word) → o.out ≡ Some out
       → (length o.files ≡ 1) × (o.common ≡ None) × (o.explain ≡ false) × (o.demo ≡ None) × (o.check ≡ false)
   with_out out e =
-      let alone = subst (λ (w : Option Word). (is_none w || (length o.files == 1 && task_count o == 0)) ≡ true) e fit.out_only_for_one in
-      let parts = both (length o.files == 1) (task_count o == 0) alone in
-      let none : task_count o ≡ 0 = eqb-true (task_count o) 0 parts.1 in (
+      let alone = subst (λ (w : Option Word). (is_none w || (length o.files == 1 && (task_count o == 0 || o.expand))) ≡ true) e fit.out_only_for_one in
+      let parts = both (length o.files == 1) (task_count o == 0 || o.expand) alone in
+      let rest : weight (is_some o.common) + weight o.explain + weight o.check + weight (is_some o.demo) ≡ 0 =
+      elim (one_of_two (task_count o == 0) o.expand parts.1) [
+        | inl none ↦ omega (arith, count_is, eqb-true (task_count o) 0 none)
+        | inr expands ↦ omega (arith, count_is, at_most_one, ap weight expands)
+      ] in (
         eqb-true (length o.files) 1 parts.0,
-        not_given o.common (omega (arith, count_is)),
-        adds_none o.explain (omega (arith, count_is)),
-        not_given o.demo (omega (arith, count_is)),
-        adds_none o.check (omega (arith, count_is)),
+        not_given o.common (omega (arith, rest)),
+        adds_none o.explain (omega (arith, rest)),
+        not_given o.demo (omega (arith, rest)),
+        adds_none o.check (omega (arith, rest)),
       )
+
+  -- with `--expand` there are one FILE and OUT; no common file is made, and nothing is explained, demonstrated or compared
+  pub with_expand : o.expand ≡ true
+      → (length o.files ≡ 1) × (o.common ≡ None) × (o.explain ≡ false) × (o.demo ≡ None) × (o.check ≡ false)
+      × ((out : Word) × (o.out ≡ Some out))
+  with_expand e = go o.out refl (subst (λ (b : Bool). (not b || is_some o.out) ≡ true) e fit.out_with_expand) where
+    go : (out : Option Word) → o.out ≡ out → is_some o.out ≡ true
+        → (length o.files ≡ 1) × (o.common ≡ None) × (o.explain ≡ false) × (o.demo ≡ None) × (o.check ≡ false)
+        × ((out : Word) × (o.out ≡ Some out))
+    go None is given = cc
+    go (Some out) is given =
+        let rest = with_out out is in
+        (rest.0, rest.1, rest.2, rest.3, rest.4, (out, is))
 
   -- where nothing is explained, FILEs differ
   pub files_differ : o.explain ≡ false → are_distinct o.files ≡ true
   files_differ e = subst (λ (b : Bool). (b || are_distinct o.files) ≡ true) e fit.distinct_files
 
-  -- where nothing is compared, no common file is read
-  pub no_sup : o.check ≡ false → o.sup ≡ None
-  no_sup e = go o.sup (subst (λ (b : Bool). (is_none o.sup || b) ≡ true) e fit.sup_only_with_check) where
-    go : (sup : Option Word) → (is_none sup || false) ≡ true → sup ≡ None
-    go None lawful = refl
-    go (Some common) lawful = cc
+  -- where nothing is compared or expanded, no common file is read
+  pub no_sup : o.check ≡ false → o.expand ≡ false → o.sup ≡ None
+  no_sup e f =
+      let only = subst (λ (b : Bool). (is_none o.sup || (b || o.expand)) ≡ true) e fit.sup_only_with_check_or_expand in
+      go o.sup (subst (λ (b : Bool). (is_none o.sup || b) ≡ true) f only) where
+        go : (sup : Option Word) → (is_none sup || false) ≡ true → sup ≡ None
+        go None lawful = refl
+        go (Some common) lawful = cc

@@ -18,7 +18,7 @@ use Rattle.clap.proofs.ValueTestLemmas.{Accepts-accepts}
 use Rattle.clap.proofs.WalkLemmas.{both}
 use Rattle.dwz_words.specs.Command.{dwz_command}
 use Rattle.dwz_words.specs.Lawful.{is_set, number_of_text, option_number, options_of}
-use Rattle.dwz_words.specs.Plain.{ArePlain, Argument, are_once, check, common, demo, dwarf, explain, file, is_file, is_option, is_plain, is_plain_number, name, options_said, out, quiet, sup, value_at, value_of, workers}
+use Rattle.dwz_words.specs.Plain.{ArePlain, Argument, are_once, check, common, demo, dwarf, expand, explain, file, is_file, is_option, is_plain, is_plain_number, name, options_said, out, quiet, sup, value_at, value_of, workers}
 use Rattle.dwz_words.proofs.PlainLemmas.{plain_matches}
 use Rattle.dwz_words.proofs.PlainRows.{files_at-all_after, row_at-all_after, row_of, values_in}
 use Rattle.dwz_words.proofs.PlainWalk.{all_after, rule_for, rules}
@@ -71,6 +71,10 @@ check_text : (p : Argument) → is_option (codes "check") p ≡ true → row_tex
 check_text check e = refl
 check_text _ e = cc
 
+expand_text : (p : Argument) → is_option (codes "expand") p ≡ true → row_text (row_of p) ≡ Some (codes "true")
+expand_text expand e = refl
+expand_text _ e = cc
+
 flag_value : (id : Text) → ((p : Argument) → is_option id p ≡ true → row_text (row_of p) ≡ Some (codes "true")) → (ps : List Argument)
     → is_true_in (Some (flag_row id ps)) ≡ is_some (value_at id ps)
 flag_value id text [] = refl
@@ -99,6 +103,7 @@ workers_value (workers text ∷ ps) plain =
 workers_value (demo text ∷ ps) plain = workers_value ps (both (is_plain (demo text)) _ plain).1
 workers_value (explain ∷ ps) plain = workers_value ps (both (is_plain explain) _ plain).1
 workers_value (check ∷ ps) plain = workers_value ps (both (is_plain check) _ plain).1
+workers_value (expand ∷ ps) plain = workers_value ps (both (is_plain expand) _ plain).1
 workers_value (sup text ∷ ps) plain = workers_value ps (both (is_plain (sup text)) _ plain).1
 workers_value (file text ∷ ps) plain = workers_value ps (both (is_plain (file text)) _ plain).1
 
@@ -115,6 +120,7 @@ demo_value (workers text ∷ ps) plain = demo_value ps (both (is_plain (workers 
 demo_value (demo text ∷ ps) plain = number_of-plain 2 10000 text (both (is_plain (demo text)) _ plain).0 (omega arith)
 demo_value (explain ∷ ps) plain = demo_value ps (both (is_plain explain) _ plain).1
 demo_value (check ∷ ps) plain = demo_value ps (both (is_plain check) _ plain).1
+demo_value (expand ∷ ps) plain = demo_value ps (both (is_plain expand) _ plain).1
 demo_value (sup text ∷ ps) plain = demo_value ps (both (is_plain (sup text)) _ plain).1
 demo_value (file text ∷ ps) plain = demo_value ps (both (is_plain (file text)) _ plain).1
 
@@ -167,6 +173,12 @@ module _ (ps : List Argument) (plain : list_all is_plain ps ≡ true) (once : ar
       ∙ flag_row_is (codes "check") 9 refl refl)
       ∙ flag_value (codes "check") check_text ps
 
+  expand_is : is_set (codes "expand") (end_rows ps) ≡ is_some (value_at (codes "expand") ps)
+  expand_is = ap is_true_in
+      (row_at-defaults (codes "expand") (drop 12 rules) (with_default (rows_before 11 ps) (rule_for expand)) refl
+      ∙ flag_row_is (codes "expand") 11 refl refl)
+      ∙ flag_value (codes "expand") expand_text ps
+
   workers_are : unwrap_or (option_number (codes "j") (end_rows ps)) 4 ≡ option_map_or (digits_value 10) (value_at (codes "j") ps) 4
   workers_are =
       let found : row_at (codes "j") (end_rows ps) ≡ Some (workers_row ps) =
@@ -198,5 +210,6 @@ plain_said words few ps h =
       demo_is ps h.plain h.once,
       explain_is ps h.plain h.once,
       check_is ps h.plain h.once,
+      expand_is ps h.plain h.once,
       first_is ps h.plain h.once (codes "sup") refl refl,
     ) refl

@@ -21,8 +21,8 @@ use Rattle.clap.specs.declared.builder.value_parser.ValueParser.TheVariants as v
 use Rattle.clap.specs.declared.parser.matches.ValueSource.{ValueSource}
 use Rattle.clap.specs.declared.parser.matches.ValueSource.TheVariants.{CommandLine, DefaultValue}
 use Rattle.clap.proofs.OnLiterals.{clap_on_literals}
-use Rattle.dwz_words.specs.Command.{check_rule, common_rule, demo_rule, dwarf_rule, dwz_command, explain_rule, file_rule, name_rule, out_rule, quiet_rule, sup_rule, workers_rule}
-use Rattle.dwz_words.specs.Plain.{Argument, begins_with_dash, check, common, demo, dwarf, explain, file, option_name, name, out, quiet, sup, words_of, workers}
+use Rattle.dwz_words.specs.Command.{check_rule, common_rule, demo_rule, dwarf_rule, dwz_command, expand_rule, explain_rule, file_rule, name_rule, out_rule, quiet_rule, sup_rule, workers_rule}
+use Rattle.dwz_words.specs.Plain.{Argument, begins_with_dash, check, common, demo, dwarf, expand, explain, file, option_name, name, out, quiet, sup, words_of, workers}
 
 -- ---- the command
 
@@ -47,6 +47,7 @@ rule_for (workers text) = built_rule workers_rule
 rule_for (demo text) = built_rule demo_rule
 rule_for explain = built_rule explain_rule
 rule_for check = built_rule check_rule
+rule_for expand = built_rule expand_rule
 rule_for (sup text) = built_rule sup_rule
 rule_for (file text) = built_rule file_rule
 
@@ -61,6 +62,7 @@ values_for (workers text) = text ∷ []
 values_for (demo text) = text ∷ []
 values_for explain = []
 values_for check = []
+values_for expand = []
 values_for (sup text) = text ∷ []
 values_for (file text) = text ∷ []
 
@@ -193,6 +195,13 @@ module _ (rows : List Row) (pending : Pending) (settles : settle_fault rules fal
   check_leads idle e fresh = leads_by _ _ _ (rw (settles, fresh) refl) refl
   check_leads positional e fresh = leads_by _ _ _ (rw (settles, fresh) refl) refl
   check_leads (option id) e fresh = cc
+
+  pub expand_leads : (waiting : Waiting) → is_ready waiting ≡ true → has_row (codes "expand") (full_rows rows pending) ≡ false
+      → Leads (between rows pending waiting) (codes "--expand" ∷ []) (between (row_after expand (full_rows rows pending)) None idle)
+  unfolding clap_on_literals
+  expand_leads idle e fresh = leads_by _ _ _ (rw (settles, fresh) refl) refl
+  expand_leads positional e fresh = leads_by _ _ _ (rw (settles, fresh) refl) refl
+  expand_leads (option id) e fresh = cc
 
   pub common_word : (waiting : Waiting) → is_ready waiting ≡ true
       → Leads (between rows pending waiting) (codes "-m" ∷ []) (awaiting (full_rows rows pending) (codes "m"))

@@ -71,10 +71,14 @@ check_rule = long_flag_rule (codes "check")
 abbrev pub sup_rule : Rule
 sup_rule = long_rule (codes "sup")
 
+-- `--expand`
+abbrev pub expand_rule : Rule
+expand_rule = long_flag_rule (codes "expand")
+
 -- all rules, FILE the only one without a letter or a name
 abbrev pub command_rules : List Rule
 command_rules = quiet_rule ∷ dwarf_rule ∷ common_rule ∷ name_rule ∷ out_rule ∷ workers_rule ∷ demo_rule
-    ∷ file_rule ∷ explain_rule ∷ check_rule ∷ sup_rule ∷ []
+    ∷ file_rule ∷ explain_rule ∷ check_rule ∷ sup_rule ∷ expand_rule ∷ []
 
 -- the command: no name of the program before the words, and no words for help and version
 abbrev pub dwz_command : App

@@ -1,6 +1,6 @@
 -- What options have to meet beside the rules of single words: which of them may stand together, which words can
 -- name a file, and which spell an offset.
-use Rattle.std.specs.Prelude.{ℕ, Bool, List, [], ◌∷◌, Option, true, false, not, codes, count_by, drop, length, if◌then◌else◌}
+use Rattle.std.specs.Prelude.{ℕ, Bool, List, [], ◌∷◌, Option, Some, true, false, not, codes, count_by, drop, length, if◌then◌else◌}
 use Rattle.std.specs.Prelude.{IsTrue, is_some, is_none, nat_eq, nat_le, nat_lt, ◌==◌, ◌&&◌, ◌||◌}
 use Rattle.std.specs.Char.{is_ascii_hexdigit, is_ascii_uppercase}
 use Rattle.std.specs.List.{list_all, list_any, starts_with}
@@ -14,9 +14,9 @@ Word = List ℕ
 
 -- ---- which stand together
 
--- the tasks that may be asked for: to make a common file, to explain, to compare, to demonstrate
+-- the tasks that may be asked for: to make a common file, to explain, to compare, to expand, to demonstrate
 abbrev pub tasks : Options → List Bool
-tasks o = is_some o.common ∷ o.explain ∷ o.check ∷ is_some o.demo ∷ []
+tasks o = is_some o.common ∷ o.explain ∷ o.check ∷ o.expand ∷ is_some o.demo ∷ []
 
 -- how many of them are asked for; where none is, each FILE is worked on by itself
 abbrev pub task_count : Options → ℕ
@@ -26,24 +26,29 @@ task_count o = count_by (λ is. is) (tasks o)
 abbrev pub has_one_task : Options → Bool
 has_one_task o = nat_le (task_count o) 1
 
--- no FILE with `--demo`, four with `--explain`, two with `--check`, and else 1 to 256
+-- no FILE with `--demo`, four with `--explain`, two with `--check`, one with `--expand`, and else 1 to 256
 abbrev pub has_file_count : Options → Bool
 has_file_count o = if is_some o.demo then length o.files == 0
     else (if o.explain then length o.files == 4
     else (if o.check then length o.files == 2
-    else (nat_lt 0 (length o.files) && nat_le (length o.files) 256)))
+    else (if o.expand then length o.files == 1
+    else (nat_lt 0 (length o.files) && nat_le (length o.files) 256))))
 
 -- NAME only with COMMON
 abbrev pub has_name_only_with_common : Options → Bool
 has_name_only_with_common o = is_none o.name || is_some o.common
 
--- OUT only where no task is asked for, and with one FILE
+-- OUT only with one FILE, and where no task but `--expand` is asked for
 abbrev pub has_out_only_for_one : Options → Bool
-has_out_only_for_one o = is_none o.out || (length o.files == 1 && task_count o == 0)
+has_out_only_for_one o = is_none o.out || (length o.files == 1 && (task_count o == 0 || o.expand))
 
--- the COMMON of `--sup` only where two files are compared
-abbrev pub has_sup_only_with_check : Options → Bool
-has_sup_only_with_check o = is_none o.sup || o.check
+-- and `--expand` only with OUT
+abbrev pub has_out_with_expand : Options → Bool
+has_out_with_expand o = not o.expand || is_some o.out
+
+-- the COMMON of `--sup` only where two files are compared, or one is expanded
+abbrev pub has_sup_only_with_check_or_expand : Options → Bool
+has_sup_only_with_check_or_expand o = is_none o.sup || (o.check || o.expand)
 
 -- ---- names of files
 
@@ -70,6 +75,15 @@ has_common_apart o = is_apart o.files o.common
 
 abbrev pub has_sup_apart : Options → Bool
 has_sup_apart o = is_apart o.files o.sup
+
+-- where both are given, they differ
+abbrev pub are_other : Option Word → Option Word → Bool
+are_other (Some one) (Some two) = not (bytes_eq one two)
+are_other _ _ = true
+
+-- the COMMON of `--sup` isn't OUT either
+abbrev pub has_sup_apart_from_out : Options → Bool
+has_sup_apart_from_out o = are_other o.sup o.out
 
 -- the word can name a file: it isn't empty and holds no zero byte
 abbrev pub is_file_name : Word → Bool
@@ -108,9 +122,11 @@ pub record FitTogether (o : Options) : Type 0 where
   pub file_count : IsTrue (has_file_count o)
   pub name_only_with_common : IsTrue (has_name_only_with_common o)
   pub out_only_for_one : IsTrue (has_out_only_for_one o)
-  pub sup_only_with_check : IsTrue (has_sup_only_with_check o)
+  pub out_with_expand : IsTrue (has_out_with_expand o)
+  pub sup_only_with_check_or_expand : IsTrue (has_sup_only_with_check_or_expand o)
   pub distinct_files : IsTrue (has_distinct_files o)
   pub common_apart : IsTrue (has_common_apart o)
   pub sup_apart : IsTrue (has_sup_apart o)
+  pub sup_apart_from_out : IsTrue (has_sup_apart_from_out o)
   pub file_names : IsTrue (has_file_names o)
   pub offsets : IsTrue (has_offsets o)

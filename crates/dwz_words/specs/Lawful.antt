@@ -42,6 +42,7 @@ options_of rows = record {
   demo = option_number (codes "demo") rows;
   explain = is_set (codes "explain") rows;
   check = is_set (codes "check") rows;
+  expand = is_set (codes "expand") rows;
   sup = first_of (codes "sup") rows;
 }
 

@@ -21,6 +21,7 @@ pub data Argument : Type 0 where
   demo : Word → Argument
   explain : Argument
   check : Argument
+  expand : Argument
   sup : Word → Argument
   file : Word → Argument
 
@@ -35,6 +36,7 @@ words_of (workers word) = codes "-j" ∷ word ∷ []
 words_of (demo word) = codes "--demo" ∷ word ∷ []
 words_of explain = codes "--explain" ∷ []
 words_of check = codes "--check" ∷ []
+words_of expand = codes "--expand" ∷ []
 words_of (sup word) = codes "--sup" ∷ word ∷ []
 words_of (file word) = word ∷ []
 
@@ -60,6 +62,7 @@ is_plain (workers word) = is_plain_number 1 64 word
 is_plain (demo word) = is_plain_number 2 10000 word
 is_plain explain = true
 is_plain check = true
+is_plain expand = true
 is_plain (sup word) = not (begins_with_dash word)
 is_plain (file word) = not (begins_with_dash word)
 
@@ -74,6 +77,7 @@ option_name (workers word) = Some (codes "j")
 option_name (demo word) = Some (codes "demo")
 option_name explain = Some (codes "explain")
 option_name check = Some (codes "check")
+option_name expand = Some (codes "expand")
 option_name (sup word) = Some (codes "sup")
 option_name (file word) = None
 
@@ -109,6 +113,7 @@ value_of (workers word) = word
 value_of (demo word) = word
 value_of explain = codes "true"
 value_of check = codes "true"
+value_of expand = codes "true"
 value_of (sup word) = word
 value_of (file word) = word
 
@@ -132,5 +137,6 @@ options_said arguments = record {
   demo = option_map (digits_value 10) (value_at (codes "demo") arguments);
   explain = is_some (value_at (codes "explain") arguments);
   check = is_some (value_at (codes "check") arguments);
+  expand = is_some (value_at (codes "expand") arguments);
   sup = value_at (codes "sup") arguments;
 }

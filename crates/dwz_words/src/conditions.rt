@@ -6,10 +6,11 @@
 ghost use Rattle.std.specs.Prelude.{◌≡◌, ◌↔◌, IsTrue, true};
 ghost use Rattle.std.specs.List.{list_all};
 ghost use Rattle.std.specs.Option.{option_map_or};
-ghost use Rattle.dwz_words.specs.Conditions.{FitTogether, are_distinct, are_places, has_common_apart};
+ghost use Rattle.dwz_words.specs.Conditions.{FitTogether, are_distinct, are_other, are_places, has_common_apart};
 ghost use Rattle.dwz_words.specs.Conditions.{has_distinct_files, has_file_count, has_file_names};
 ghost use Rattle.dwz_words.specs.Conditions.{has_name_only_with_common, has_offsets, has_one_task};
-ghost use Rattle.dwz_words.specs.Conditions.{has_out_only_for_one, has_sup_apart, has_sup_only_with_check};
+ghost use Rattle.dwz_words.specs.Conditions.{has_out_only_for_one, has_out_with_expand, has_sup_apart};
+ghost use Rattle.dwz_words.specs.Conditions.{has_sup_apart_from_out, has_sup_only_with_check_or_expand};
 ghost use Rattle.dwz_words.specs.Conditions.{is_among, is_apart, is_file_name, is_offset};
 ghost use Rattle.dwz_words.specs.Conditions.{is_offset_digit, task_count};
 
@@ -29,6 +30,7 @@ fn task_count(options: &Options) -> usize
         options.common.is_some(),
         options.explain,
         options.check,
+        options.expand,
         options.demo.is_some(),
     ];
     tasks.iter().filter(|is| **is).count()
@@ -50,6 +52,8 @@ fn has_file_count(options: &Options) -> bool
         count == 4
     } else if options.check {
         count == 2
+    } else if options.expand {
+        count == 1
     } else {
         count > 0 && count <= MOST_FILES
     }
@@ -64,13 +68,20 @@ fn has_name_only_with_common(options: &Options) -> bool
 fn has_out_only_for_one(options: &Options) -> bool
     ensures { result ≡ has_out_only_for_one options.now }
 {
-    options.out.is_none() || options.files.len() == 1 && task_count(options) == 0
+    options.out.is_none()
+        || options.files.len() == 1 && (task_count(options) == 0 || options.expand)
 }
 
-fn has_sup_only_with_check(options: &Options) -> bool
-    ensures { result ≡ has_sup_only_with_check options.now }
+fn has_out_with_expand(options: &Options) -> bool
+    ensures { result ≡ has_out_with_expand options.now }
 {
-    options.sup.is_none() || options.check
+    !options.expand || options.out.is_some()
+}
+
+fn has_sup_only_with_check_or_expand(options: &Options) -> bool
+    ensures { result ≡ has_sup_only_with_check_or_expand options.now }
+{
+    options.sup.is_none() || options.check || options.expand
 }
 
 fn is_among(words: &[Blob], word: &[u8]) -> bool
@@ -114,6 +125,21 @@ fn has_sup_apart(options: &Options) -> bool
     ensures { result ≡ has_sup_apart options.now }
 {
     is_apart(options.files.as_slice(), &options.sup)
+}
+
+fn are_other(one: &Option<Blob>, two: &Option<Blob>) -> bool
+    ensures { result ≡ are_other one.now two.now }
+{
+    match (one, two) {
+        (Some(one), Some(two)) => one.as_slice() != two.as_slice(),
+        _ => true,
+    }
+}
+
+fn has_sup_apart_from_out(options: &Options) -> bool
+    ensures { result ≡ has_sup_apart_from_out options.now }
+{
+    are_other(&options.sup, &options.out)
 }
 
 fn is_file_name(word: &Blob) -> bool
@@ -194,10 +220,12 @@ pub(crate) fn fit_together(options: &Options) -> bool
         && has_file_count(options)
         && has_name_only_with_common(options)
         && has_out_only_for_one(options)
-        && has_sup_only_with_check(options)
+        && has_out_with_expand(options)
+        && has_sup_only_with_check_or_expand(options)
         && has_distinct_files(options)
         && has_common_apart(options)
         && has_sup_apart(options)
+        && has_sup_apart_from_out(options)
         && has_file_names(options)
         && has_offsets(options)
 }

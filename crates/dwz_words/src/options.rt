@@ -27,7 +27,9 @@ pub struct Options {
     pub explain: bool,
     /// `--check`: say whether two files mean the same. FILEs are then OLD NEW.
     pub check: bool,
-    /// `--sup COMMON`: the name of the finished common file beside which these two are read.
+    /// `--expand`: write one file without its partial units. FILE is one, and OUT is given.
+    pub expand: bool,
+    /// `--sup COMMON`: the name of the finished common file beside which the files of `--check` and `--expand` are read.
     pub sup: Option<Blob>,
 }
 

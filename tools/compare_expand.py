@@ -26,7 +26,7 @@ from multiprocessing import Pool
 
 import compare_check
 from compare_check import NAMES, held_in, made_of, write_all
-from compare_runs import COMMON, differences, numbers, run_program
+from compare_runs import ALL_WORDS, COMMON, differences, numbers, run_model, run_program
 from compare_walk import changed
 
 # what leads elsewhere: references to entries of the file and of the common one, and offsets in sections
@@ -35,13 +35,6 @@ LEADING = {"ref_addr": 0x10, "ref_sup4": 0x1C, "sec_offset": 0x17}
 
 def load(folder, program, jobs):
     compare_check.load(folder, program, jobs)
-
-
-def run_model(held, words):
-    """Status, text and files after a run of the model."""
-    outside, run = compare_check.MODEL[1:]
-    files, console = outside.MemFiles(dict(held)), outside.MemConsole()
-    return run.run(words, files, console, 20), bytes(console.text), files.held
 
 
 def read_finished(data, common):
@@ -102,7 +95,7 @@ def kind_of(want):
 
 def compare_run(held, words, job, folder, ends):
     """What the run says and leaves, and what isn't the model's."""
-    want = run_model(held, words)
+    want = run_model(compare_check.MODEL[1:], words, held, ALL_WORDS)
     for name in held_in(folder):
         os.remove(os.path.join(os.fsencode(folder), name))
     got = run_program(compare_check.PROGRAM, [b"-j", b"%d" % job] + words, held, folder)

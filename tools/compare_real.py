@@ -9,7 +9,8 @@ The files are those of `small_programs.py`. The program writes each anew with `-
 is at hand (gdb, readelf, eu-readelf, llvm-dwarfdump) has to say of the new file what it said of the old one: `debug_readers.py` tells
 what is asked, and what may differ. In the way `alone` they are asked too of the file that the dwz of a distribution writes, where it is
 at hand and takes the file: how much differs there is shown beside. The program itself has to say (--check) that each new file is the same as
-the old one; where it doesn't find two files of a set to differ, a line says so. gdb 13, readelf 2.40, eu-readelf 0.188 and llvm-dwarfdump 14 don't
+the old one; where it doesn't find two files of a set to differ, a line says so. And it takes the partial units out of each (--expand): again
+status, text and bytes have to be the model's, and the readers have to say of what comes of it what they said of the old file. gdb 13, readelf 2.40, eu-readelf 0.188 and llvm-dwarfdump 14 don't
 follow references into a common file by DWARF 5 (7.5.4); so of files with one they are asked of what tools/gnu_forms.py makes of them.
 With --only just the sets are taken whose names have one of these words.
 
@@ -23,7 +24,7 @@ import shutil
 import sys
 import tempfile
 
-from compare_runs import COMMON, WAYS, differences, numbers, run_model, run_program
+from compare_runs import ALL_WORDS, COMMON, WAYS, differences, numbers, run_model, run_program
 from debug_readers import Crash, at_hand
 from gnu_forms import rewritten
 from small_programs import quiet, sets_of
@@ -70,11 +71,17 @@ def read_again(name, asked, old, new, other, counts):
         counts["read less"] += bool(lost)
 
 
-def read_files(name, asked, folder, before, after, counts):
-    """Asks them of each file of a set of which something moved. `out` is written in place of `one`."""
+def new_files(after):
+    """The files of a set after a run. `out` is written in place of `one`."""
     new = {file: data for file, data in after.items() if file != b"out"}
     if b"out" in after:
         new[b"one"] = after[b"out"]
+    return new
+
+
+def read_files(name, asked, folder, before, after, counts):
+    """Asks them of each file of a set of which something moved."""
+    new = new_files(after)
     places = {kind: os.path.join(folder, kind) for kind in ("before", "after", "dwz")}
     write_all(places["before"], before)
     write_all(places["after"], {file: rewritten(data) for file, data in new.items()})
@@ -87,9 +94,7 @@ def read_files(name, asked, folder, before, after, counts):
 
 def check_files(name, program, before, after, counts):
     """Asks the program itself (--check) of each file of a set whether it means what it meant, and of each pair of two whether it sees that these differ."""
-    new = {file: data for file, data in after.items() if file != b"out"}
-    if b"out" in after:
-        new[b"one"] = after[b"out"]
+    new = new_files(after)
     sup = [b"--sup", COMMON] if COMMON in new else []
     held = {**{b"old-" + file: data for file, data in before.items()}, **new}
     for file in before:
@@ -105,6 +110,35 @@ def check_files(name, program, before, after, counts):
             status, text, _ = run_program(program, [b"--check", b"old-" + one, other] + sup, held, place)
         if status != 8 and before[one] != before[other]:
             print("%s, %s and %s: --check says %d, %s" % (name, os.fsdecode(one), os.fsdecode(other), status, text.decode(errors="replace")), flush=True)
+
+
+def expand_file(name, program, model, held, words, job, counts):
+    """What the program writes without partial units, once it was compared; None where it is refused."""
+    with tempfile.TemporaryDirectory() as place:
+        got = run_program(program, [b"-j", b"%d" % job] + words, held, place)
+    found = differences(got, run_model(model, words, dict(held), ALL_WORDS)) if model else []
+    if found:
+        counts["differ"] += 1
+        print("%s: -j %d %s: %s" % (name, job, b" ".join(words).decode(), "; ".join(found)))
+    counts["expanded" if got[0] == 0 else "not expanded"] += 1
+    print("%s: status %d, %s" % (name, got[0], got[1].decode(errors="replace").strip()), flush=True)
+    return got[2].get(b"back")
+
+
+def expand_files(name, asked, folder, program, model, job, before, after, counts):
+    """Takes the partial units out of each file of a set of which something moved, and asks the readers of what comes of it."""
+    new = new_files(after)
+    common = {COMMON: new[COMMON]} if COMMON in new else {}
+    for file, data in before.items():
+        if new[file] == data:
+            continue
+        words = [b"--expand", file] + [word for one in common for word in (b"--sup", one)] + [b"-o", b"back"]
+        back = expand_file("%s, %s" % (name, os.fsdecode(file)), program, model, {file: new[file], **common}, words, job, counts)
+        if back is not None:
+            old, made = (os.path.join(folder, kind) for kind in ("before", "expanded"))
+            write_all(old, {file: data})
+            write_all(made, {file: back})
+            read_again("%s, %s, expanded" % (name, os.fsdecode(file)), asked, *(os.path.join(one, os.fsdecode(file)) for one in (old, made)), None, counts)
 
 
 def compare_set(name, words, held, jobs, program, model, counts):
@@ -145,7 +179,8 @@ def main():
     else:
         print("no model in %s: status, text and bytes aren't compared" % options.model)
     asked = at_hand()
-    counts = dict.fromkeys(["sets", "written", "with a common file", "refused", "differ", "checked", "not the same", "asked", "not asked", "read less"], 0)
+    counted = ["sets", "written", "with a common file", "refused", "differ", "checked", "not the same", "expanded", "not expanded", "asked", "not asked", "read less"]
+    counts = dict.fromkeys(counted, 0)
     with tempfile.TemporaryDirectory() as temporary:
         folder = options.keep or temporary
         for name, words, held in sets_of(os.path.join(folder, "built"), options.ways):
@@ -153,9 +188,11 @@ def main():
                 status, after = compare_set(name, words, held, options.jobs, program, model, counts)
                 if status == 0:
                     check_files(name, program, held, after, counts)
-                    read_files(name, asked, os.path.join(folder, "read", name), held, after, counts)
+                    place = os.path.join(folder, "read", name)
+                    read_files(name, asked, place, held, after, counts)
+                    expand_files(name, asked, place, program, model, options.jobs[-1], held, after, counts)
     print(", ".join("%s %d" % pair for pair in counts.items()))
-    return 1 if counts["differ"] or counts["not the same"] or counts["read less"] else 0
+    return 1 if counts["differ"] or counts["not the same"] or counts["not expanded"] or counts["read less"] else 0
 
 
 if __name__ == "__main__":

@@ -84,11 +84,15 @@ def run_program(program, words, held, folder):
     return status, text, after
 
 
-def run_model(model, words, held):
+# by this number the model knows all words, and else just those of shrinking files
+ALL_WORDS = 20
+
+
+def run_model(model, words, held, stage=None):
     """The same of the model, over files in memory."""
     outside, run = model
     files, console = outside.MemFiles(held), outside.MemConsole()
-    status = run.run(words, files, console, run.SPACES_STAGE)
+    status = run.run(words, files, console, stage or run.SPACES_STAGE)
     return status, console.text, files.held
 
 

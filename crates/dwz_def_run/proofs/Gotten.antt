@@ -125,6 +125,6 @@ are_held store names contents docs is read n name nth =
     subst (λ (k : ℕ). store name ≡ Some (get_or contents k [])) index o.held
 
 -- files that are slimmed are got by their names
-pub got_files : (o : Options) → FitTogether o → o.explain ≡ false → o.check ≡ false → names_got o ≡ o.files
-got_files o fit slims alone = ap (λ (b : Bool). behind o.sup (if b then names_of_places o.files else o.files)) slims
-    ∙ ap (λ (sup : Option (List ℕ)). behind sup o.files) (no_sup o fit alone)
+pub got_files : (o : Options) → FitTogether o → o.explain ≡ false → o.check ≡ false → o.expand ≡ false → names_got o ≡ o.files
+got_files o fit slims no_check alone = ap (λ (b : Bool). behind o.sup (if b then names_of_places o.files else o.files)) slims
+    ∙ ap (λ (sup : Option (List ℕ)). behind sup o.files) (no_sup o fit no_check alone)

@@ -1,4 +1,5 @@
 pub mod Compared
+pub mod Expanded
 pub mod OneOutcome
 pub mod SomeOutcome
 pub mod Lengths

@@ -14,6 +14,7 @@ use Rattle.dwz_text.specs.Lines.{Text}
 use Rattle.dwz_def_run.specs.Out.{IsRefused, Out, OutBy, Slims, output_of, run_for, sup_name}
 use Rattle.dwz_def_run.specs.Tells.{IsTold, IsUntold, TellsWhy, answer_of, first_asked, second_asked}
 use Rattle.dwz_def_run.proofs.Compared.{one_compared}
+use Rattle.dwz_def_run.proofs.Expanded.{one_expanded}
 use Rattle.dwz_def_output.specs.Refusals.{OutFault}
 use Rattle.dwz_def_output.proofs.OneRefusal.{one_refusal}
 
@@ -121,8 +122,9 @@ module _ (o : Options) (contents : List (List ℕ)) where
 -- ---- either way
 
 pub one_outcome : (o : Options) (contents : List (List ℕ)) (a b : Outcome) → Out o contents a → Out o contents b → a ≡ b
-one_outcome o contents a b x y = by o.explain o.check x y where
-  by : (explain check : Bool) → OutBy explain check o contents a → OutBy explain check o contents b → a ≡ b
-  by true check s t = one_told o contents a b s t
-  by false true s t = one_compared o contents a b s t
-  by false false s t = one_slimmed o contents a b s t
+one_outcome o contents a b x y = by o.explain o.check o.expand x y where
+  by : (explain check expand : Bool) → OutBy explain check expand o contents a → OutBy explain check expand o contents b → a ≡ b
+  by true check expand s t = one_told o contents a b s t
+  by false true expand s t = one_compared o contents a b s t
+  by false false true s t = one_expanded o contents a b s t
+  by false false false s t = one_slimmed o contents a b s t

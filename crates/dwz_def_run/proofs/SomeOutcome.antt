@@ -15,6 +15,7 @@ use Rattle.dwz_text.specs.Lines.{Text}
 use Rattle.dwz_def_run.specs.Out.{Out, OutBy, Slims, output_of, run_for, sup_name}
 use Rattle.dwz_def_run.specs.Tells.{TellsWhy, answer_of, first_asked, second_asked}
 use Rattle.dwz_def_run.proofs.Compared.{never_nothing}
+use Rattle.dwz_def_run.proofs.Expanded.{some_expanded}
 use Rattle.dwz_def_output.specs.Refusals.{OutFault}
 use Rattle.dwz_def_output.proofs.EitherOne.{either}
 
@@ -57,15 +58,17 @@ some_told o contents = by (files_meaning no_files_before 0 contents) refl where
       said docs (((files_agree no_files_before 0 contents).ok docs).0 e) some.0 some.1
 
 pub some_outcome : (o : Options) (contents : List (List ℕ)) → o.check ≡ false → (outcome : Outcome) × Out o contents outcome
-some_outcome o contents none = by o.explain o.check none where
-  by : (explain check : Bool) → check ≡ false → (outcome : Outcome) × OutBy explain check o contents outcome
-  by true check e = some_told o contents
-  by false true e = absurd cc
-  by false false e = some_slimmed o contents
+some_outcome o contents none = by o.explain o.check o.expand none where
+  by : (explain check expand : Bool) → check ≡ false → (outcome : Outcome) × OutBy explain check expand o contents outcome
+  by true check expand e = some_told o contents
+  by false true expand e = absurd cc
+  by false false true e = some_expanded o contents
+  by false false false e = some_slimmed o contents
 
 pub always_some : (o : Options) (contents : List (List ℕ)) → ((outcome : Outcome) → Out o contents outcome → ⊥) → ⊥
-always_some o contents nothing = by o.explain o.check nothing where
-  by : (explain check : Bool) → ((outcome : Outcome) → OutBy explain check o contents outcome → ⊥) → ⊥
-  by true check none = let some = some_told o contents in none some.0 some.1
-  by false true none = never_nothing o contents none
-  by false false none = let some = some_slimmed o contents in none some.0 some.1
+always_some o contents nothing = by o.explain o.check o.expand nothing where
+  by : (explain check expand : Bool) → ((outcome : Outcome) → OutBy explain check expand o contents outcome → ⊥) → ⊥
+  by true check expand none = let some = some_told o contents in none some.0 some.1
+  by false true expand none = never_nothing o contents none
+  by false false true none = let some = some_expanded o contents in none some.0 some.1
+  by false false false none = let some = some_slimmed o contents in none some.0 some.1

@@ -18,6 +18,7 @@ use Rattle.dwz_def_output.specs.FilesAfter.{bytes_after_by, common_bytes, has_co
 use Rattle.dwz_def_output.specs.Refusals.{OutFault}
 use Rattle.dwz_def_output.specs.Written.{CanBeWritten, ReadAs, common_under, rule_under, run_under}
 use Rattle.dwz_def_run.specs.Compares.{Compares}
+use Rattle.dwz_def_run.specs.Expands.{Expands}
 use Rattle.dwz_def_run.specs.Tells.{TellsWhy}
 
 -- ---- the run
@@ -133,11 +134,12 @@ Slims o contents (refuses q) =
 
 -- ---- what comes of options and contents
 
-abbrev pub OutBy : (explain check : Bool) → Options → List (List ℕ) → Outcome → Type 0
-OutBy true check = TellsWhy
-OutBy false true = Compares
-OutBy false false = Slims
+abbrev pub OutBy : (explain check expand : Bool) → Options → List (List ℕ) → Outcome → Type 0
+OutBy true check expand = TellsWhy
+OutBy false true expand = Compares
+OutBy false false true = Expands
+OutBy false false false = Slims
 
--- two entries are explained, or two files are compared, or files are slimmed
+-- two entries are explained, or two files are compared, or one is written without its partial units, or files are slimmed
 abbrev pub Out : Options → List (List ℕ) → Outcome → Type 0
-Out o = OutBy o.explain o.check o
+Out o = OutBy o.explain o.check o.expand o

@@ -17,6 +17,7 @@ demo_options o = record {
   demo = None;
   explain = false;
   check = false;
+  expand = false;
   sup = None;
 }
 

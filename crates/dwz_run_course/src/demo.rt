@@ -33,6 +33,7 @@ pub(crate) fn demo_options(alloc: Global, options: &Options) -> Result<Options, 
         demo: None,
         explain: false,
         check: false,
+        expand: false,
         sup: None,
     })
 }

@@ -21,8 +21,9 @@ pub struct Output {
 /// What a run says of what it did.
 #[derive(Debug, Drop)]
 pub enum Said {
-    /// Files were slimmed: the lengths of all of them, in bytes, before and afterwards, and how many partial units they have together.
-    /// It is a line for each file, or the one line of a demonstration, and nothing where the words ask for quiet.
+    /// Files were slimmed, or one was written without its partial units: the lengths of all of them, in bytes, before and afterwards,
+    /// and how many partial units they have together. It is a line for each file, or the one line of a demonstration, and nothing where
+    /// the words ask for quiet.
     Slimmed { summary: Summary, partials: u32 },
     /// These parts, one behind the other.
     Parts(TextParts),

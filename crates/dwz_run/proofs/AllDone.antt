@@ -1,5 +1,5 @@
 -- What holds where all puts are done.
-use Rattle.std.proofs.Common.{◌≡◌, ◌⊎◌, ℕ, Bool, true, false, List, [], Option, Some, refl, sym, ap, subst, ◌∙◌, inl, inr}
+use Rattle.std.proofs.Common.{◌≡◌, ◌⊎◌, ℕ, Bool, true, false, List, [], ◌∷◌, Option, Some, refl, sym, ap, subst, ◌∙◌, inl, inr}
 use Rattle.std.specs.Prelude.{IfSome}
 use Rattle.dwz_outside.specs.declared.puts.Put.{Put}
 use Rattle.dwz_outside.specs.Store.{Store, done}
@@ -15,6 +15,9 @@ use Rattle.dwz_def_run.specs.Compares.{tells_apart}
 use Rattle.dwz_def_run.specs.Out.{Out}
 use Rattle.dwz_def_run.specs.Tells.{IsTold}
 use Rattle.dwz_def_run.proofs.Compared.{same_told}
+use Rattle.dwz_def_run.proofs.Stopping.{put_own}
+use Rattle.dwz_def_expanded.specs.NewFile.{expanded_bytes}
+use Rattle.dwz_run.specs.Expanding.{DidExpand, new_put}
 use Rattle.dwz_run.specs.Laws.{Did, DidAll, DidCompare, DidDemo, DidTell, FoundApart, IsDemoText, RunEnds, puts_in}
 use Rattle.dwz_run.proofs.Outputs.{Came_to, output_held, outputs}
 
@@ -27,7 +30,7 @@ module _ (words : List (List ℕ)) (old new : FilesSeen) (shown shown_new : Cons
   -- what was done is no answer that files differ, or it is the answer on two files
   abbrev Found : Output → List ℕ → Type 0
   Found out text =
-      ((out.differs ≡ false) × (DidAll words store old new text ⊎ (DidDemo words store old new text ⊎ DidTell words store old new text)))
+      ((out.differs ≡ false) × (DidAll words store old new text ⊎ (DidDemo words store old new text ⊎ (DidTell words store old new text ⊎ DidExpand words store old new text))))
       ⊎ ((same : Same) × (out.differs ≡ tells_apart same) × DidCompare words store old new text same)
 
   found : (out : Output) (came : Came demo_files Out words old (writes out)) (text : List ℕ) → PutsDone old new (puts_unless_demo came.options.demo out)
@@ -56,16 +59,27 @@ module _ (words : List (List ℕ)) (old new : FilesSeen) (shown shown_new : Cons
     )
     by (inr (inr (inl a))) = inl (
       a.same,
-      inr (inr (record {
+      inr (inr (inl (record {
         asks = a.asks;
         docs = a.docs;
         reads = a.reads;
         is_text = subst (IsTold a.asks.options a.docs) (sym is) a.is_text;
         held = with_puts old new store (puts_unless_demo came.options.demo out) [] told a.puts_are puts.held;
         stored = subst (λ (ps : List Put). StoredWith old new ps) a.puts_are puts.stored;
-      })),
+      }))),
     )
-    by (inr (inr (inr c))) = inr (
+    by (inr (inr (inr (inl x)))) = inl (
+      x.same,
+      inr (inr (inr (record {
+        asks = x.asks;
+        has = x.has;
+        held = with_puts old new store (puts_unless_demo came.options.demo out) (new_put x.has ∷ []) told x.puts_are puts.held;
+        stored = subst (λ (ps : List Put). StoredWith old new ps) x.puts_are puts.stored;
+        after = put_own x.has.out (expanded_bytes x.has.file) store;
+        text_is = is ∙ x.text_is;
+      }))),
+    )
+    by (inr (inr (inr (inr c)))) = inr (
       c.answer,
       c.differs,
       record {
@@ -82,9 +96,10 @@ module _ (words : List (List ℕ)) (old new : FilesSeen) (shown shown_new : Cons
   did : (out : Output) (text : List ℕ) → out.differs ≡ false → Found out text → Did words store old new text
   did out text same (inl (none, inl all)) = inl all
   did out text same (inl (none, inr (inl demo))) = inr (inl demo)
-  did out text same (inl (none, inr (inr tells))) = inr (inr (inl tells))
+  did out text same (inl (none, inr (inr (inl tells)))) = inr (inr (inl tells))
+  did out text same (inl (none, inr (inr (inr expands)))) = inr (inr (inr (inl expands)))
   did out text same (inr (answer, differs, compared)) =
-      inr (inr (inr (subst (DidCompare words store old new text) (same_told answer (sym differs ∙ same)) compared)))
+      inr (inr (inr (inr (subst (DidCompare words store old new text) (same_told answer (sym differs ∙ same)) compared))))
 
   apart : (out : Output) (text : List ℕ) → out.differs ≡ true → Found out text → FoundApart words store old new text
   apart out text differ (inl (none, rest)) = absurd (let z : true ≡ false = sym differ ∙ none in cc)

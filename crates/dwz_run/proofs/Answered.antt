@@ -15,7 +15,7 @@ use Rattle.dwz_outside.specs.Told.{ConsoleSeen, FilesSeen}
 use Rattle.dwz_words.specs.declared.options.Options.{Options}
 use Rattle.dwz_words.specs.Asked.{names_got}
 use Rattle.dwz_words.specs.Lawful.{Lawful}
-use Rattle.dwz_words.proofs.Fits.{with_check, with_explain}
+use Rattle.dwz_words.proofs.Fits.{with_check, with_expand, with_explain}
 use Rattle.dwz_run_course.specs.declared.status.Status.{Status}
 use Rattle.dwz_run_course.specs.declared.status.Status.TheVariants.{Done, Refused, Usage, ReadFault, WriteFault, NoMemory, ConsoleFault, Differs}
 use Rattle.dwz_run_course.specs.declared.output.Output.{Output}
@@ -30,18 +30,19 @@ use Rattle.dwz_def_run.specs.Out.{Out, OutBy}
 use Rattle.dwz_def_run.proofs.Compared.{never_silent}
 use Rattle.dwz_def_run.proofs.Gotten.{got_files}
 use Rattle.dwz_def_run.proofs.SomeOutcome.{always_some, some_outcome}
-use Rattle.dwz_run.specs.Laws.{Asks, AsksToCompare, IsFirstRefusal, NoneFailed, RunEnds, for_answer, for_demo, for_files, to_compare, work_contents, work_options}
+use Rattle.dwz_run.specs.Laws.{Asks, AsksToCompare, IsFirstRefusal, NoneFailed, RunEnds, for_answer, for_demo, for_files, to_compare, to_expand, work_contents, work_options}
 use Rattle.dwz_run.proofs.Causes.{first_comes, first_of}
 
 -- an output by which files differ is one of files that are compared
-compares_by : (b c : Bool) (o : Options) (contents : List (List ℕ)) (out : Output) → out.differs ≡ true → OutBy b c o contents (writes out) → c ≡ true
-compares_by b true o contents out differ given = refl
-compares_by true false o contents out differ given = absurd (let z : true ≡ false = sym differ ∙ ap (λ (x : Output). x.differs) given.2.2 in cc)
-compares_by false false o contents out differ given = absurd (let z : true ≡ false = sym differ ∙ ap (λ (x : Output). x.differs) given.3 in cc)
+compares_by : (b c d : Bool) (o : Options) (contents : List (List ℕ)) (out : Output) → out.differs ≡ true → OutBy b c d o contents (writes out) → c ≡ true
+compares_by b true d o contents out differ given = refl
+compares_by true false d o contents out differ given = absurd (let z : true ≡ false = sym differ ∙ ap (λ (x : Output). x.differs) given.2.2 in cc)
+compares_by false false true o contents out differ given = absurd (let z : true ≡ false = sym differ ∙ ap (λ (x : Output). x.differs) given.3 in cc)
+compares_by false false false o contents out differ given = absurd (let z : true ≡ false = sym differ ∙ ap (λ (x : Output). x.differs) given.3 in cc)
 
 work_compares : (o : Options) (contents : List (List ℕ)) (out : Output) → out.differs ≡ true → (demo : Option ℕ) → Out (asked_by demo o) contents (writes out) → o.check ≡ true
-work_compares o contents out differ None given = compares_by o.explain o.check o contents out differ given
-work_compares o contents out differ (Some n) given = absurd (let z : false ≡ true = compares_by false false (demo_options o) contents out differ given in cc)
+work_compares o contents out differ None given = compares_by o.explain o.check o.expand o contents out differ given
+work_compares o contents out differ (Some n) given = absurd (let z : false ≡ true = compares_by false false false (demo_options o) contents out differ given in cc)
 
 pub answered : (words : List (List ℕ)) (old new : FilesSeen) (shown shown_new : ConsoleSeen) (status : Status)
     → RunEnds words old new shown shown_new status
@@ -73,7 +74,7 @@ module _ (words : List (List ℕ)) (old : FilesSeen) (store : Store) (told : old
     lawful = a.lawful;
     contents = a.contents;
     held = held_by a.options a.contents a.no_demo
-        (subst (λ (names : List (List ℕ)). gets store 0 names ≡ Some a.contents) (sym (got_files a.options a.lawful.fit a.slims a.no_check)) a.got);
+        (subst (λ (names : List (List ℕ)). gets store 0 names ≡ Some a.contents) (sym (got_files a.options a.lawful.fit a.slims a.no_check a.no_expand)) a.got);
     given = subst (λ (d : Option ℕ). Out (asked_by d a.options) a.contents outcome) (sym a.no_demo) given;
   }
   asked_for (for_demo a) outcome given = record {
@@ -94,6 +95,15 @@ module _ (words : List (List ℕ)) (old : FilesSeen) (store : Store) (told : old
       }
   asked_for (to_compare a) outcome given =
       let no_demo = (with_check a.options a.lawful.fit a.compares).1 in
+      record {
+        options = a.options;
+        lawful = a.lawful;
+        contents = a.contents;
+        held = held_by a.options a.contents no_demo a.got;
+        given = subst (λ (d : Option ℕ). Out (asked_by d a.options) a.contents outcome) (sym no_demo) given;
+      }
+  asked_for (to_expand a) outcome given =
+      let no_demo = (with_expand a.options a.lawful.fit a.expands).3 in
       record {
         options = a.options;
         lawful = a.lawful;
@@ -130,12 +140,12 @@ module _ (words : List (List ℕ)) (old : FilesSeen) (store : Store) (told : old
 
     ended : (out : Output) → Out o contents (writes out) → (b : Bool) → out.differs ≡ b → (status ≡ finished b) ⊎ (status ≡ NoMemory) → IsEnd o.check status
     ended out given false e (inl done) = inl done
-    ended out given true e (inl differ) = inr (inr (differ, compares_by o.explain o.check o contents out e given))
+    ended out given true e (inl differ) = inr (inr (differ, compares_by o.explain o.check o.expand o contents out e given))
     ended out given b e (inr memory) = inr (inl memory)
 
     one : (outcome : Outcome) → Out o contents outcome → IsEnd o.check status
     one (writes out) given = ended out given out.differs refl (complete out (asked_for a (writes out) given) none.reads none.writes none.texts)
-    one (refuses q) given = absurd (free q (first_of o.explain o.check o contents q given))
+    one (refuses q) given = absurd (free q (first_of o.explain o.check o.expand o contents q given))
 
     by : (check : Bool) → o.check ≡ check → IsEnd o.check status
     by false e = let some = some_outcome o contents e in one some.0 some.1
@@ -156,8 +166,8 @@ module _ (words : List (List ℕ)) (old : FilesSeen) (store : Store) (told : old
           subst (λ (ds : List (Doc Place)). OfTwo (λ x y. IsSameAnswer (beside_common said x) (beside_common said y) same) ds) (sym docs) is,
           refl,
         ) in
-        subst (λ (b : Bool). OutBy b a.options.check a.options a.contents (writes (answer_on same))) (sym (with_check a.options a.lawful.fit a.compares).2)
-        (subst (λ (c : Bool). OutBy false c a.options a.contents (writes (answer_on same))) (sym a.compares) given)
+        subst (λ (b : Bool). OutBy b a.options.check a.options.expand a.options a.contents (writes (answer_on same))) (sym (with_check a.options a.lawful.fit a.compares).2)
+        (subst (λ (c : Bool). OutBy false c a.options.expand a.options a.contents (writes (answer_on same))) (sym a.compares) given)
 
     ends_with : (same : Same) → IsSameAnswer (beside_common said first) (beside_common said second) same → (status ≡ finished (tells_apart same)) ⊎ (status ≡ NoMemory)
     ends_with same is = complete (answer_on same) (asked_for (to_compare a) (writes (answer_on same)) (answer_of same is)) none.reads none.writes none.texts
@@ -194,4 +204,5 @@ module _ (words : List (List ℕ)) (old : FilesSeen) (store : Store) (told : old
       → ¬ (Rose old.read_faults new.read_faults)
       → (a : Asks words store) (r : Refusal) → IsFirstRefusal (work_options a) (work_contents a) r → (status ≡ Refused) ⊎ (status ≡ NoMemory)
   is_refused new status all none a r first =
-      all r (asked_for a (refuses r) (first_comes (work_options a).explain (work_options a).check (work_options a) (work_contents a) r first)) none
+      let o = work_options a in
+      all r (asked_for a (refuses r) (first_comes o.explain o.check o.expand o (work_contents a) r first)) none

@@ -16,19 +16,21 @@ use Rattle.dwz_run_course.specs.Outcome.{name_of_file, refuses}
 use Rattle.dwz_gen.specs.Demo.{demo_files}
 use Rattle.dwz_def_run.specs.Out.{Out, OutBy, Slims}
 use Rattle.dwz_def_run.proofs.Gotten.{got_files}
-use Rattle.dwz_run.specs.Laws.{IsFirstOf, IsFirstRefusal, PutsNothing, RunEnds, WasRefused, for_answer, for_demo, for_files, to_compare}
+use Rattle.dwz_run.specs.Laws.{IsFirstOf, IsFirstRefusal, PutsNothing, RunEnds, WasRefused, for_answer, for_demo, for_files, to_compare, to_expand}
 use Rattle.dwz_run.proofs.Outputs.{got_of}
 
 -- what comes of contents that are refused is their first fault, and the other way round
-pub first_of : (b c : Bool) (o : Options) (contents : List (List ℕ)) (r : Refusal) → OutBy b c o contents (refuses r) → IsFirstOf b c o contents r
-first_of true c o contents r given = given
-first_of false true o contents r given = given
-first_of false false o contents r given = given
+pub first_of : (b c d : Bool) (o : Options) (contents : List (List ℕ)) (r : Refusal) → OutBy b c d o contents (refuses r) → IsFirstOf b c d o contents r
+first_of true c d o contents r given = given
+first_of false true d o contents r given = given
+first_of false false true o contents r given = given
+first_of false false false o contents r given = given
 
-pub first_comes : (b c : Bool) (o : Options) (contents : List (List ℕ)) (r : Refusal) → IsFirstOf b c o contents r → OutBy b c o contents (refuses r)
-first_comes true c o contents r first = first
-first_comes false true o contents r first = first
-first_comes false false o contents r first = first
+pub first_comes : (b c d : Bool) (o : Options) (contents : List (List ℕ)) (r : Refusal) → IsFirstOf b c d o contents r → OutBy b c d o contents (refuses r)
+first_comes true c d o contents r first = first
+first_comes false true d o contents r first = first
+first_comes false false true o contents r first = first
+first_comes false false false o contents r first = first
 
 -- the files of a demonstration were refused with their first fault
 pub demo_refused : (r : Refusal) (o : Options) (n : ℕ) (contents : List (List ℕ)) → contents ≡ demo_files n → Slims (demo_options o) contents (refuses r)
@@ -87,38 +89,45 @@ module _ (words : List (List ℕ)) (old new : FilesSeen) (shown shown_new : Cons
       contents : List (List ℕ)
       contents = came.contents
 
-      undemonstrated : (b c : Bool) → o.explain ≡ b → o.check ≡ c → o.demo ≡ None → gets store 0 (names_got o) ≡ Some contents
-          → OutBy o.explain o.check o contents (refuses r) → text ≡ refusal_text (name_of_file o r.file) r → WasRefused words store text
-      undemonstrated false false slims none e got given is = record {
+      undemonstrated : (b c d : Bool) → o.explain ≡ b → o.check ≡ c → o.expand ≡ d → o.demo ≡ None → gets store 0 (names_got o) ≡ Some contents
+          → OutBy o.explain o.check o.expand o contents (refuses r) → text ≡ refusal_text (name_of_file o r.file) r → WasRefused words store text
+      undemonstrated false false false slims none no_expand e got given is = record {
         asks = for_files (record {
           options = o;
           lawful = came.lawful;
           no_demo = e;
           slims = slims;
           no_check = none;
+          no_expand = no_expand;
           contents = contents;
-          got = subst (λ (names : List (List ℕ)). gets store 0 names ≡ Some contents) (got_files o came.lawful.fit slims none) got;
+          got = subst (λ (names : List (List ℕ)). gets store 0 names ≡ Some contents) (got_files o came.lawful.fit slims none no_expand) got;
         });
         refusal = r;
-        is_first = first_of o.explain o.check o contents r given;
+        is_first = first_of o.explain o.check o.expand o contents r given;
         text_is = is;
       }
-      undemonstrated false true none compares e got given is = record {
+      undemonstrated false false true none no_check expands e got given is = record {
+        asks = to_expand (record { options = o; lawful = came.lawful; expands = expands; contents = contents; got = got });
+        refusal = r;
+        is_first = first_of o.explain o.check o.expand o contents r given;
+        text_is = is;
+      }
+      undemonstrated false true d none compares any e got given is = record {
         asks = to_compare (record { options = o; lawful = came.lawful; compares = compares; contents = contents; got = got });
         refusal = r;
-        is_first = first_of o.explain o.check o contents r given;
+        is_first = first_of o.explain o.check o.expand o contents r given;
         text_is = is;
       }
-      undemonstrated true c tells has e got given is = record {
+      undemonstrated true c d tells has any e got given is = record {
         asks = for_answer (record { options = o; lawful = came.lawful; tells = tells; contents = contents; got = got });
         refusal = r;
-        is_first = first_of o.explain o.check o contents r given;
+        is_first = first_of o.explain o.check o.expand o contents r given;
         text_is = is;
       }
 
       by : (d : Option ℕ) → o.demo ≡ d → AreContents demo_files d old (names_got o) contents → Out (asked_by d o) contents (refuses r)
           → text ≡ refusal_text (name_of_file (asked_by d o) r.file) r → WasRefused words store text
-      by None e are given is = undemonstrated o.explain o.check refl refl e (got_of words old store told (names_got o) contents are) given is
+      by None e are given is = undemonstrated o.explain o.check o.expand refl refl refl e (got_of words old store told (names_got o) contents are) given is
       by (Some n) e are given is = record {
         asks = for_demo (record { options = o; lawful = came.lawful; units = n; is_demo = e });
         refusal = r;

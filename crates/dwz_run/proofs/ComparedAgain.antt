@@ -79,7 +79,7 @@ module _ (words : List (List ℕ)) (old new : FilesSeen) (shown shown_new : Cons
       let are = subst (λ (p : Options). AreContents demo_files p.demo old (names_got p) came.contents) same_options came.are in
       let held = subst (λ (d : Option ℕ). AreContents demo_files d old (names_got o) came.contents) a.no_demo are in
       let got = got_of words old store told (names_got o) came.contents held in
-      let names = got_files o a.lawful.fit a.slims a.no_check in
+      let names = got_files o a.lawful.fit a.slims a.no_check a.no_expand in
       let both : Some came.contents ≡ Some a.contents = sym got ∙ ap (λ (ns : List (List ℕ)). gets store 0 ns) names ∙ a.got in cc
 
   bytes : Each AreBytes a.contents
@@ -91,8 +91,9 @@ module _ (words : List (List ℕ)) (old new : FilesSeen) (shown shown_new : Cons
       let one = subst (λ (p : Options). Out (asked p) came.contents (writes out)) same_options came.given in
       let two = subst (λ (cs : List (List ℕ)). Out (asked o) cs (writes out)) same_contents one in
       let three = subst (λ (d : Option ℕ). Out (asked_by d o) a.contents (writes out)) a.no_demo two in
-      let four = subst (λ (b : Bool). OutBy b o.check o a.contents (writes out)) a.slims three in
-      subst (λ (b : Bool). OutBy false b o a.contents (writes out)) a.no_check four
+      let four = subst (λ (b : Bool). OutBy b o.check o.expand o a.contents (writes out)) a.slims three in
+      let five = subst (λ (b : Bool). OutBy false b o.expand o a.contents (writes out)) a.no_check four in
+      subst (λ (b : Bool). OutBy false false b o a.contents (writes out)) a.no_expand five
 
   abbrev docs : List (Doc ℕ)
   docs = given.0
@@ -159,8 +160,8 @@ module _ (words : List (List ℕ)) (old new : FilesSeen) (shown shown_new : Cons
 
     comes : Out c.options c.contents (writes (answer_on Yes))
     comes =
-        subst (λ (b : Bool). OutBy b c.options.check c.options c.contents (writes (answer_on Yes))) (sym (with_check c.options c.lawful.fit c.compares).2)
-        (subst (λ (b : Bool). OutBy false b c.options c.contents (writes (answer_on Yes))) (sym c.compares) said)
+        subst (λ (b : Bool). OutBy b c.options.check c.options.expand c.options c.contents (writes (answer_on Yes))) (sym (with_check c.options c.lawful.fit c.compares).2)
+        (subst (λ (b : Bool). OutBy false b c.options.expand c.options c.contents (writes (answer_on Yes))) (sym c.compares) said)
 
     pub ends_again : (before behind : FilesSeen) (printed printed_new : ConsoleSeen) (status : Status) → Complete demo_files Out again before behind printed printed_new status
         → NoneFailed before behind printed printed_new → before.held ≡ Some held → (status ≡ Done) ⊎ (status ≡ NoMemory)

@@ -44,7 +44,7 @@ module _ (words : List (List ℕ)) (old new : FilesSeen) (shown shown_new : Cons
   none_got : (name : List ℕ) → Contains (names_got o) name → ⊥
   none_got name there =
       let fit = with_demo o a.lawful.fit a.units a.is_demo in
-      let names = got_files o a.lawful.fit fit.2 fit.3 in
+      let names = got_files o a.lawful.fit fit.2 fit.3 fit.4 in
       none_named o.files name no_files (subst (λ (ns : List (List ℕ)). Contains ns name) names there)
 
   -- what came is of the demonstration

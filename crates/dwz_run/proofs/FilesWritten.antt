@@ -29,6 +29,7 @@ use Rattle.dwz_model.specs.declared.fault.Refusal.{Refusal}
 use Rattle.dwz_def_output.specs.Written.{stored_of}
 use Rattle.dwz_def_run.specs.Out.{Out, OutBy, Slims, rule_of, run_for, top_scope_of}
 use Rattle.dwz_def_run.specs.Compares.{Compares}
+use Rattle.dwz_def_run.specs.Expands.{Expands}
 use Rattle.dwz_def_run.specs.Tells.{TellsWhy}
 use Rattle.dwz_def_output.specs.declared.new_file.NewFile.{NewFile}
 use Rattle.dwz_def_output.specs.NewFiles.{AreNew, IsNewCommon}
@@ -40,38 +41,61 @@ use Rattle.dwz_run_output.proofs.RunReady.{as_many}
 abbrev pub is_to_compare : (check explain : Bool) → Bool
 is_to_compare check explain = check && not explain
 
-first_refuses : (b c : Bool) (o : Options) (contents : List (List ℕ)) (r : Refusal) → is_to_compare c b ≡ false → First no_files_before 0 contents r
-    → OutBy b c o contents (refuses r)
-first_refuses true c o contents r none first = inl first
-first_refuses false true o contents r none first = absurd cc
-first_refuses false false o contents r none first = inl first
+-- one file is written without its partial units
+abbrev pub is_to_expand : (expand explain check : Bool) → Bool
+is_to_expand expand explain check = expand && not explain && not check
 
--- files that are not compared, and don't read, are refused with their first fault
-pub read_refused : (o : Options) (contents : List (List ℕ)) (e : GraphErr) → is_to_compare o.check o.explain ≡ false → FilesFail e (files_meaning no_files_before 0 contents)
-    → IsAnswer (Out o contents) (Err e)
-read_refused o contents NoMemory none fail = tt
-read_refused o contents (Refused r) none fail = let first = refused contents r fail in (first_refuses o.explain o.check o contents r none first.0, first.1)
+-- neither
+record IsForFiles (b c d : Bool) : Type 0 where
+  no_two : is_to_compare c b ≡ false
+  no_one : is_to_expand d b c ≡ false
+
+first_refuses : (b c d : Bool) (o : Options) (contents : List (List ℕ)) (r : Refusal) → IsForFiles b c d → First no_files_before 0 contents r
+    → OutBy b c d o contents (refuses r)
+first_refuses true c d o contents r none first = inl first
+first_refuses false true d o contents r none first = absurd (let two = none.no_two in cc)
+first_refuses false false true o contents r none first = absurd (let one = none.no_one in cc)
+first_refuses false false false o contents r none first = inl first
+
+-- files that are neither compared nor written without partial units, and don't read, are refused with their first fault
+pub read_refused : (o : Options) (contents : List (List ℕ)) (e : GraphErr) → is_to_compare o.check o.explain ≡ false → is_to_expand o.expand o.explain o.check ≡ false
+    → FilesFail e (files_meaning no_files_before 0 contents) → IsAnswer (Out o contents) (Err e)
+read_refused o contents NoMemory two one fail = tt
+read_refused o contents (Refused r) two one fail =
+    let first = refused contents r fail in (first_refuses o.explain o.check o.expand o contents r (record { no_two = two; no_one = one }) first.0, first.1)
 
 pub told_as_asked : (o : Options) (contents : List (List ℕ)) (result : Result Output GraphErr) → o.explain ≡ true → IsAnswer (TellsWhy o contents) result
     → IsAnswer (Out o contents) result
-told_as_asked o contents result tells is = subst (λ (b : Bool). IsAnswer (OutBy b o.check o contents) result) (sym tells) is
+told_as_asked o contents result tells is = subst (λ (b : Bool). IsAnswer (OutBy b o.check o.expand o contents) result) (sym tells) is
 
 pub slimmed_as_asked : (o : Options) (contents : List (List ℕ)) (result : Result Output GraphErr) → o.explain ≡ false → is_to_compare o.check o.explain ≡ false
-    → IsAnswer (Slims o contents) result → IsAnswer (Out o contents) result
-slimmed_as_asked o contents result slims none is = by o.explain o.check slims none where
-  by : (b c : Bool) → b ≡ false → is_to_compare c b ≡ false → IsAnswer (OutBy b c o contents) result
-  by true c e n = absurd cc
-  by false true e n = absurd cc
-  by false false e n = is
+    → is_to_expand o.expand o.explain o.check ≡ false → IsAnswer (Slims o contents) result → IsAnswer (Out o contents) result
+slimmed_as_asked o contents result slims two one is = by o.explain o.check o.expand slims (record { no_two = two; no_one = one }) where
+  by : (b c d : Bool) → b ≡ false → IsForFiles b c d → IsAnswer (OutBy b c d o contents) result
+  by true c d e n = absurd cc
+  by false true d e n = absurd (let two = n.no_two in cc)
+  by false false true e n = absurd (let one = n.no_one in cc)
+  by false false false e n = is
 
 pub compared_as_asked : (o : Options) (contents : List (List ℕ)) (result : Result Output GraphErr) → is_to_compare o.check o.explain ≡ true
     → IsAnswer (Compares o contents) result → IsAnswer (Out o contents) result
 compared_as_asked o contents result compares is = by o.explain o.check compares where
-  by : (b c : Bool) → is_to_compare c b ≡ true → IsAnswer (OutBy b c o contents) result
+  by : (b c : Bool) → is_to_compare c b ≡ true → IsAnswer (OutBy b c o.expand o contents) result
   by true true n = absurd cc
   by true false n = absurd cc
   by false true n = is
   by false false n = absurd cc
+
+pub expanded_as_asked : (o : Options) (contents : List (List ℕ)) (result : Result Output GraphErr) → is_to_expand o.expand o.explain o.check ≡ true
+    → IsAnswer (Expands o contents) result → IsAnswer (Out o contents) result
+expanded_as_asked o contents result expands is = by o.explain o.check o.expand expands where
+  by : (b c d : Bool) → is_to_expand d b c ≡ true → IsAnswer (OutBy b c d o contents) result
+  by true c true n = absurd cc
+  by true c false n = absurd cc
+  by false true true n = absurd cc
+  by false true false n = absurd cc
+  by false false true n = is
+  by false false false n = absurd cc
 
 -- ---- the files of a graph, which stands for their contents
 

@@ -3,6 +3,8 @@ pub mod PlacesTold
 pub mod FinishedPlaced
 pub mod TwoCompared
 pub mod OfBytes
+pub mod ExpandedAfter
+pub mod OneExpanded
 pub mod CommonName
 pub mod HeldAfter
 pub mod ChangedFiles

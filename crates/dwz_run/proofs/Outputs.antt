@@ -1,6 +1,6 @@
 -- What came of a run that did all is what is put of its FILEs, or of the two files of a demonstration, of which nothing is put, or the text on two
--- entries, or the line on two files that were compared.
-use Rattle.std.proofs.Common.{◌≡◌, ◌⊎◌, ℕ, Bool, true, false, List, [], ◌++◌, length, Option, Some, None, refl, sym, ap, subst, ◌∙◌, inl, inr, append-nil}
+-- entries, or one FILE without its partial units, or the line on two files that were compared.
+use Rattle.std.proofs.Common.{◌≡◌, ◌⊎◌, ℕ, Bool, true, false, List, [], ◌∷◌, ◌++◌, length, Option, Some, None, unwrap_or, refl, sym, ap, subst, ◌∙◌, inl, inr, append-nil}
 use Rattle.std.specs.Prelude.{◌&&◌, IfSome, if◌then◌else◌}
 use Rattle.dwz_def_reading.specs.Documents.{Doc}
 use Rattle.dwz_def_reading.specs.Files.{ReadAll, no_files_before}
@@ -9,12 +9,13 @@ use Rattle.dwz_def_reading.specs.Texts.{NoZero}
 use Rattle.dwz_def_check.specs.Answer.{IsSameOf}
 use Rattle.dwz_def_check.specs.declared.same.Same.{Same}
 use Rattle.dwz_def_check.specs.Texts.{check_text}
+use Rattle.dwz_outside.specs.declared.puts.Put.{Put}
 use Rattle.dwz_outside.specs.Store.{Store, done}
 use Rattle.dwz_outside.specs.Told.{FilesSeen}
 use Rattle.dwz_words.specs.declared.options.Options.{Options}
 use Rattle.dwz_words.specs.Asked.{names_got}
 use Rattle.dwz_words.specs.Lawful.{Lawful}
-use Rattle.dwz_words.proofs.Fits.{with_check, with_explain}
+use Rattle.dwz_words.proofs.Fits.{with_check, with_expand, with_explain}
 use Rattle.dwz_run_course.specs.declared.output.Output.{Output}
 use Rattle.dwz_run_course.specs.Demo.{asked_by, demo_options}
 use Rattle.dwz_run_course.specs.Ends.{AreContents, Came, done_text, puts_unless_demo, slimmed_text}
@@ -22,14 +23,18 @@ use Rattle.dwz_run_course.specs.Gets.{AreOfBytes, gets}
 use Rattle.dwz_run_course.specs.Outcome.{writes}
 use Rattle.dwz_gen.specs.Demo.{demo_files}
 use Rattle.dwz_def_run.specs.Compares.{Compares, answer_on, common_in, tells_apart, two_in}
+use Rattle.dwz_def_run.specs.Expands.{Expands, output_with, summary_with}
 use Rattle.dwz_def_run.specs.Out.{Out, OutBy, Slims, output_of, summary_of, sup_name, top_scope_of}
 use Rattle.dwz_def_run.specs.Tells.{IsTold, TellsWhy, answer_of}
 use Rattle.dwz_def_output.proofs.AllMade.{common_tied, file_tied, read_back}
 use Rattle.dwz_def_run.proofs.Gotten.{are_held, got_files}
+use Rattle.dwz_def_expanded.specs.NewFile.{expanded_bytes}
+use Rattle.dwz_run.specs.Expanding.{AsksToExpand, HasOneOutput, new_put, said_of_one}
 use Rattle.dwz_run.specs.Laws.{AsksForAnswer, AsksForDemo, AsksForFiles, AsksToCompare, HasOutput, HoldAfter, IsDemoText, puts_in, run_in, said}
 use Rattle.dwz_run.proofs.HeldAfter.{hold_after}
 use Rattle.dwz_run.proofs.CommonName.{demo_named, named_well}
 use Rattle.dwz_run.proofs.OfBytes.{each_bytes}
+use Rattle.dwz_run.proofs.ExpandedAfter.{means_after, reads_after}
 
 -- ---- what comes of bytes reads back, and is tied to its common file
 
@@ -92,8 +97,17 @@ pub record OfCompared (words : List (List ℕ)) (store : Store) (o : Options) (o
   pub text_is : done_text o out ≡ check_text answer
   pub differs : out.differs ≡ tells_apart answer
 
+-- one file was to be written without its partial units, and of what came that is put, and its line is said
+pub record OfExpanded (words : List (List ℕ)) (store : Store) (o : Options) (out : Output) : Type 0 where
+  pub asks : AsksToExpand words store
+  pub has : HasOneOutput asks
+  pub puts_are : puts_unless_demo o.demo out ≡ new_put has ∷ []
+  pub text_is : done_text o out ≡ said_of_one asks.options has.file.file.bytes (expanded_bytes has.file)
+  pub same : out.differs ≡ false
+
 abbrev pub Came_to : List (List ℕ) → Store → Options → Output → Type 0
-Came_to words store o out = OfFiles words store o out ⊎ (OfDemo words o out ⊎ (OfAnswer words store o out ⊎ OfCompared words store o out))
+Came_to words store o out =
+    OfFiles words store o out ⊎ (OfDemo words o out ⊎ (OfAnswer words store o out ⊎ (OfExpanded words store o out ⊎ OfCompared words store o out)))
 
 -- what is said of files that were slimmed, by the number of units of a demonstration
 abbrev slimmed_said : Options → {p : Options} {contents : List (List ℕ)} → HasOutput p contents → Option ℕ → List ℕ
@@ -113,9 +127,9 @@ module _ (words : List (List ℕ)) (old : FilesSeen) (store : Store) (told : old
   pub got_of : (names contents : List (List ℕ)) → IfSome old.held (λ s. gets s 0 names ≡ Some contents) → gets store 0 names ≡ Some contents
   got_of names contents is = subst (λ (h : Option Store). IfSome h (λ s. gets s 0 names ≡ Some contents)) told is
 
-  of_files : (o : Options) (contents : List (List ℕ)) (out : Output) → Lawful words o → o.demo ≡ None → o.explain ≡ false → o.check ≡ false
+  of_files : (o : Options) (contents : List (List ℕ)) (out : Output) → Lawful words o → o.demo ≡ None → o.explain ≡ false → o.check ≡ false → o.expand ≡ false
       → gets store 0 (names_got o) ≡ Some contents → AreOfBytes contents → Slims o contents (writes out) → OfFiles words store o out
-  of_files o contents out lawful no_demo slims no_check got bytes given =
+  of_files o contents out lawful no_demo slims no_check no_expand got bytes given =
       let g = given_of o contents out (named_well o lawful.fit) bytes given in
       record {
         asks = record {
@@ -124,8 +138,9 @@ module _ (words : List (List ℕ)) (old : FilesSeen) (store : Store) (told : old
           no_demo = no_demo;
           slims = slims;
           no_check = no_check;
+          no_expand = no_expand;
           contents = contents;
-          got = subst (λ (names : List (List ℕ)). gets store 0 names ≡ Some contents) (got_files o lawful.fit slims no_check) got;
+          got = subst (λ (names : List (List ℕ)). gets store 0 names ≡ Some contents) (got_files o lawful.fit slims no_check no_expand) got;
         };
         has = g.has;
         puts_are = ap (λ (d : Option ℕ). puts_unless_demo d out) no_demo ∙ ap (λ (x : Output). x.puts) g.is;
@@ -168,6 +183,31 @@ module _ (words : List (List ℕ)) (old : FilesSeen) (store : Store) (told : old
         differs = ap (λ (x : Output). x.differs) is;
       }
 
+  of_expanded : (o : Options) (contents : List (List ℕ)) (out : Output) → Lawful words o → o.expand ≡ true
+      → gets store 0 (names_got o) ≡ Some contents → AreOfBytes contents → Expands o contents (writes out) → OfExpanded words store o out
+  of_expanded o contents out lawful expands got bytes given =
+      let fit = with_expand o lawful.fit expands in
+      let no_demo = fit.3 in
+      let file = given.0 in
+      let new = expanded_bytes file in
+      let put : Option (List ℕ) → List Put = λ w. record { name = unwrap_or w []; bytes = new } ∷ [] in
+      let is : out ≡ output_with o file.file.bytes new = given.3 ∙ ap (λ (old : List ℕ). output_with o old new) (sym given.1.file) in
+      record {
+        asks = record { options = o; lawful = lawful; expands = expands; contents = contents; got = got };
+        has = record {
+          out = fit.5.0;
+          is_out = fit.5.1;
+          file = file;
+          read = given.1;
+          free = given.2;
+          back = reads_after o contents (each_bytes contents bytes) file given.1 given.2;
+          same = means_after o contents (each_bytes contents bytes) file given.1 given.2;
+        };
+        puts_are = ap (λ (d : Option ℕ). puts_unless_demo d out) no_demo ∙ ap (λ (x : Output). x.puts) is ∙ ap put fit.5.1;
+        text_is = ap (done_text o) is ∙ ap (λ (d : Option ℕ). if o.quiet then [] else slimmed_text d (summary_with o file.file.bytes new) 0) no_demo;
+        same = ap (λ (x : Output). x.differs) is;
+      }
+
   pub outputs : (out : Output) (came : Came demo_files Out words old (writes out))
       → Came_to words store came.options out
   outputs out came = by came.options.demo refl came.are came.given where
@@ -177,11 +217,12 @@ module _ (words : List (List ℕ)) (old : FilesSeen) (store : Store) (told : old
     contents : List (List ℕ)
     contents = came.contents
 
-    undemonstrated : (b c : Bool) → o.explain ≡ b → o.check ≡ c → o.demo ≡ None → gets store 0 (names_got o) ≡ Some contents → OutBy b c o contents (writes out)
-        → Came_to words store o out
-    undemonstrated false false slims none no_demo got given = inl (of_files o contents out came.lawful no_demo slims none got came.bytes given)
-    undemonstrated false true none compares no_demo got given = inr (inr (inr (of_compared o contents out came.lawful compares got given)))
-    undemonstrated true c tells is no_demo got given = inr (inr (inl (of_answer o contents out came.lawful tells got given)))
+    undemonstrated : (b c d : Bool) → o.explain ≡ b → o.check ≡ c → o.expand ≡ d → o.demo ≡ None → gets store 0 (names_got o) ≡ Some contents
+        → OutBy b c d o contents (writes out) → Came_to words store o out
+    undemonstrated false false false slims none no_expand no_demo got given = inl (of_files o contents out came.lawful no_demo slims none no_expand got came.bytes given)
+    undemonstrated false false true none no_check expands no_demo got given = inr (inr (inr (inl (of_expanded o contents out came.lawful expands got came.bytes given))))
+    undemonstrated false true d none compares any no_demo got given = inr (inr (inr (inr (of_compared o contents out came.lawful compares got given))))
+    undemonstrated true c d tells is any no_demo got given = inr (inr (inl (of_answer o contents out came.lawful tells got given)))
 
     by : (d : Option ℕ) → o.demo ≡ d → AreContents demo_files d old (names_got o) contents → Out (asked_by d o) contents (writes out)
         → Came_to words store o out
@@ -193,7 +234,7 @@ module _ (words : List (List ℕ)) (old : FilesSeen) (store : Store) (told : old
           is_text = demo_said_of words a contents out are came.bytes given;
           same = ap (λ (x : Output). x.differs) given.3;
         }))
-    by None e are given = undemonstrated o.explain o.check refl refl e (got_of (names_got o) contents are) given
+    by None e are given = undemonstrated o.explain o.check o.expand refl refl refl e (got_of (names_got o) contents are) given
 
 -- all puts done, the FILEs hold what they have after
 pub output_held : {words : List (List ℕ)} {store : Store} (a : AsksForFiles words store) (out : HasOutput a.options a.contents)

@@ -11,6 +11,7 @@ use Rattle.dwz_def_run.specs.Out.{files_puts_by, summary_lines_by}
 use Rattle.dwz_def_output.specs.FilesAfter.{bytes_after}
 use Rattle.dwz_def_run.specs.Out.{Out, OutBy, Slims, common_length_after, common_puts, file_puts, files_puts, length_if_new, output_of, run_for, summary_lines, sup_name}
 use Rattle.dwz_def_run.specs.Compares.{Compares}
+use Rattle.dwz_def_run.specs.Expands.{Expands}
 use Rattle.dwz_def_run.specs.Tells.{TellsWhy}
 
 module _ (o : Options) (n : ℕ) where
@@ -52,9 +53,14 @@ module _ (o : Options) (n : ℕ) where
   same_compared contents (writes out) is = is
   same_compared contents (refuses q) is = is
 
+  same_expanded : (contents : List (List ℕ)) (outcome : Outcome) → Expands o contents outcome → Expands other contents outcome
+  same_expanded contents (writes out) is = is
+  same_expanded contents (refuses q) is = is
+
   pub same_out : (contents : List (List ℕ)) (outcome : Outcome) → Out o contents outcome → Out other contents outcome
-  same_out contents outcome = by o.explain o.check where
-    by : (b c : Bool) → OutBy b c o contents outcome → OutBy b c other contents outcome
-    by true c = same_told contents outcome
-    by false true = same_compared contents outcome
-    by false false = same_slimmed contents outcome
+  same_out contents outcome = by o.explain o.check o.expand where
+    by : (b c d : Bool) → OutBy b c d o contents outcome → OutBy b c d other contents outcome
+    by true c d = same_told contents outcome
+    by false true d = same_compared contents outcome
+    by false false true = same_expanded contents outcome
+    by false false false = same_slimmed contents outcome

@@ -1,5 +1,5 @@
 -- What holds where one of the puts failed, and after the first puts, however many.
-use Rattle.std.proofs.Common.{◌≡◌, ℕ, List, [], ◌∷◌, ◌++◌, length, take, Some, refl, sym, ap, subst, ◌∙◌, inl, inr}
+use Rattle.std.proofs.Common.{◌≡◌, ◌⊎◌, ℕ, List, [], ◌∷◌, ◌++◌, length, take, Some, refl, sym, ap, subst, ◌∙◌, inl, inr}
 use Rattle.std.proofs.Math.Seq.{take-append_seam}
 use Rattle.std.specs.Prelude.{slice_get}
 use Rattle.dwz_outside.specs.declared.puts.Put.{Put}
@@ -14,6 +14,7 @@ use Rattle.dwz_run_course.specs.Puts.{PutsStopped}
 use Rattle.dwz_gen.specs.Demo.{demo_files}
 use Rattle.dwz_def_run.specs.Out.{Out}
 use Rattle.dwz_def_run.proofs.Stopping.{stops}
+use Rattle.dwz_run.specs.Expanding.{StoppedOne, new_put}
 use Rattle.dwz_run.specs.Laws.{AsksForFiles, HasOutput, ReadOn, RunEnds, StoppedAt, puts_in}
 use Rattle.dwz_run.proofs.AllDone.{with_puts}
 use Rattle.dwz_run.proofs.ChangedFiles.{changed_there}
@@ -38,17 +39,26 @@ pub none_fails : (before : List Put) (p : Put) (after : List Put) → [] ≡ bef
 none_fails [] p after e = cc
 none_fails (b ∷ before) p after e = cc
 
+-- where there is one put, none stands before the one that fails
+only_fails : (one : Put) (before : List Put) (p : Put) (after : List Put) → one ∷ [] ≡ before ++ p ∷ after → (before ≡ []) × (p ≡ one)
+only_fails one [] p after e = (refl, one_head p one (sym e)) where
+  one_head : (a b : Put) → a ∷ after ≡ b ∷ [] → a ≡ b
+  one_head a b same = cc
+only_fails one (b ∷ before) p after e = absurd (none_fails before p after (tail_is e)) where
+  tail_is : one ∷ [] ≡ b ∷ (before ++ p ∷ after) → [] ≡ before ++ p ∷ after
+  tail_is same = cc
+
 module _ (words : List (List ℕ)) (old new : FilesSeen) (shown shown_new : ConsoleSeen) (store : Store) (told : old.held ≡ Some store) where
   stopped_at : (out : Output) (came : Came demo_files Out words old (writes out)) (name text : List ℕ)
       → PutsStopped old new (puts_unless_demo came.options.demo out) name
-      → text ≡ write_text name → StoppedAt words store old new text
+      → text ≡ write_text name → StoppedAt words store old new text ⊎ StoppedOne words store old new text
   stopped_at out came name text s is = by (outputs words old store told out came) where
-    by : Came_to words store came.options out → StoppedAt words store old new text
+    by : Came_to words store came.options out → StoppedAt words store old new text ⊎ StoppedOne words store old new text
     by (inl f) =
         let has = f.has in
         let puts_are : puts_in has ≡ s.before ++ s.failed ∷ s.after = sym f.puts_are ∙ s.puts_are in
         let first : s.before ≡ take (length s.before) (puts_in has) = sym (ap (take (length s.before)) puts_are ∙ take-append_seam s.before (s.failed ∷ s.after)) in
-        record {
+        inl (record {
           asks = f.asks;
           out = has;
           count = length s.before;
@@ -59,11 +69,22 @@ module _ (words : List (List ℕ)) (old new : FilesSeen) (shown shown_new : Cons
           stored = subst (λ (ps : List Put). StoredWith old new ps) first s.stored;
           after = read_on words store f.asks has (length s.before);
           text_is = is ∙ ap write_text s.name_is;
-        }
+        })
     by (inr (inl d)) = absurd (none_fails s.before s.failed s.after (sym d.puts_are ∙ s.puts_are))
     by (inr (inr (inl a))) = absurd (none_fails s.before s.failed s.after (sym a.puts_are ∙ s.puts_are))
-    by (inr (inr (inr c))) = absurd (none_fails s.before s.failed s.after (sym c.puts_are ∙ s.puts_are))
+    by (inr (inr (inr (inl x)))) =
+        let only = only_fails (new_put x.has) s.before s.failed s.after (sym x.puts_are ∙ s.puts_are) in
+        let name_is : name ≡ x.has.out = s.name_is ∙ ap (λ (p : Put). p.name) only.1 in
+        inr (record {
+          asks = x.asks;
+          has = x.has;
+          fault = subst (FailedWrite old new) name_is s.fault;
+          held = with_puts old new store s.before [] told only.0 s.held;
+          stored = subst (λ (ps : List Put). StoredWith old new ps) only.0 s.stored;
+          text_is = is ∙ ap write_text name_is;
+        })
+    by (inr (inr (inr (inr c)))) = absurd (none_fails s.before s.failed s.after (sym c.puts_are ∙ s.puts_are))
 
   pub all_stopped : RunEnds words old new shown shown_new WriteFault
-      → (text : List ℕ) × StoppedAt words store old new text × Says shown shown_new WriteFault text
+      → (text : List ℕ) × (StoppedAt words store old new text ⊎ StoppedOne words store old new text) × Says shown shown_new WriteFault text
   all_stopped e = (e.text, stopped_at e.files.0 e.files.1 e.files.2 e.text e.files.3 e.files.4, e.console)

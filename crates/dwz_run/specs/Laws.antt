@@ -14,6 +14,8 @@ use Rattle.dwz_def_check.specs.Answer.{IsSameOf, beside_common}
 use Rattle.dwz_def_check.specs.declared.same.Same.{Same}
 use Rattle.dwz_def_check.specs.declared.same.Same.TheVariants.{Yes}
 use Rattle.dwz_def_check.specs.Texts.{check_text}
+use Rattle.dwz_def_expand.specs.OneFile.{OneFile}
+use Rattle.dwz_def_expanded.specs.NewFile.{NewRefusal}
 use Rattle.dwz_outside.specs.declared.puts.Put.{Put}
 use Rattle.dwz_outside.specs.Counts.{Rose}
 use Rattle.dwz_outside.specs.Store.{Store, done}
@@ -34,8 +36,10 @@ use Rattle.dwz_def_output.specs.Laws.{AreTied}
 use Rattle.dwz_def_output.specs.Written.{stored_of}
 use Rattle.dwz_def_run.specs.Out.{IsRefused, IsWritten, Out, all_puts, common_of, rule_of, run_for, summary_of, sup_name, top_scope_of}
 use Rattle.dwz_def_run.specs.Compares.{common_in, tells_apart, two_in}
+use Rattle.dwz_def_run.specs.Expands.{IsOneRead, one_in}
 use Rattle.dwz_def_run.specs.Stops.{IsMade}
 use Rattle.dwz_def_run.specs.Tells.{IsTold, IsUntold}
+use Rattle.dwz_run.specs.Expanding.{AsksToExpand, DidExpand, StoppedOne}
 
 -- how a run ends, by its words, by what is told of the files and of the console before and after, and by its status
 abbrev pub RunEnds : List (List ℕ) → FilesSeen → FilesSeen → ConsoleSeen → ConsoleSeen → Status → Type 0
@@ -50,6 +54,7 @@ pub record AsksForFiles (words : List (List ℕ)) (store : Store) : Type 0 where
   pub no_demo : options.demo ≡ None
   pub slims : options.explain ≡ false
   pub no_check : options.check ≡ false
+  pub no_expand : options.expand ≡ false
   pub contents : List (List ℕ)
   pub got : gets store 0 options.files ≡ Some contents
 
@@ -82,6 +87,7 @@ pub data Asks (words : List (List ℕ)) (store : Store) : Type 0 where
   for_demo : AsksForDemo words → Asks words store
   for_answer : AsksForAnswer words store → Asks words store
   to_compare : AsksToCompare words store → Asks words store
+  to_expand : AsksToExpand words store → Asks words store
 
 -- the options of the work: for a demonstration, those by which its two files are given a common one
 abbrev pub work_options : {words : List (List ℕ)} {store : Store} → Asks words store → Options
@@ -89,6 +95,7 @@ work_options (for_files a) = a.options
 work_options (for_demo a) = demo_options a.options
 work_options (for_answer a) = a.options
 work_options (to_compare a) = a.options
+work_options (to_expand a) = a.options
 
 -- the contents of the files that are worked on
 abbrev pub work_contents : {words : List (List ℕ)} {store : Store} → Asks words store → List (List ℕ)
@@ -96,6 +103,7 @@ work_contents (for_files a) = a.contents
 work_contents (for_demo a) = demo_files a.units
 work_contents (for_answer a) = a.contents
 work_contents (to_compare a) = a.contents
+work_contents (to_expand a) = a.contents
 
 -- ---- what comes of it
 
@@ -186,14 +194,15 @@ pub record DidCompare (words : List (List ℕ)) (store : Store) (old new : Files
 abbrev pub Did : List (List ℕ) → Store → FilesSeen → FilesSeen → List ℕ → Type 0
 Did words store old new text =
     DidAll words store old new text
-    ⊎ (DidDemo words store old new text ⊎ (DidTell words store old new text ⊎ DidCompare words store old new text Yes))
+    ⊎ (DidDemo words store old new text
+    ⊎ (DidTell words store old new text ⊎ (DidExpand words store old new text ⊎ DidCompare words store old new text Yes)))
 
 -- two files were compared, and what is said of them is by what they differ
 abbrev pub FoundApart : List (List ℕ) → Store → FilesSeen → FilesSeen → List ℕ → Type 0
 FoundApart words store old new text = (same : Same) × (tells_apart same ≡ true) × DidCompare words store old new text same
 
 -- Where a run answers Done its FILEs were held and read; all is put, and reads back; and its text is written, once. Or it is a
--- demonstration, or it says why two entries aren't shared, or that two files mean the same.
+-- demonstration, or it says why two entries aren't shared, or one FILE is put without its partial units, or it says that two files mean the same.
 abbrev pub DoneLaw : Type 0
 DoneLaw =
     (words : List (List ℕ)) (old new : FilesSeen) (shown shown_new : ConsoleSeen) → RunEnds words old new shown shown_new Done
@@ -243,14 +252,17 @@ IsRefusedBy false o contents r = (docs : List (Doc ℕ)) × (prunes : List Bool)
 IsRefusedBy true o contents r = (docs : List (Doc ℕ)) × ReadAll no_files_before contents docs × IsUntold o docs r
 
 -- the first fault of reading these contents, or of what comes of them; of two files that are compared the first of reading them, with their common
--- file
-abbrev pub IsFirstOf : (explain check : Bool) → Options → List (List ℕ) → Refusal → Type 0
-IsFirstOf false true o contents r = FirstFinished (common_in o.sup contents) (two_in o.sup contents) r
-IsFirstOf false false o contents r = First no_files_before 0 contents r ⊎ IsRefusedBy false o contents r
-IsFirstOf true check o contents r = First no_files_before 0 contents r ⊎ IsRefusedBy true o contents r
+-- file; of one that is written without its partial units that, or the first of what is written
+abbrev pub IsFirstOf : (explain check expand : Bool) → Options → List (List ℕ) → Refusal → Type 0
+IsFirstOf true check expand o contents r = First no_files_before 0 contents r ⊎ IsRefusedBy true o contents r
+IsFirstOf false true expand o contents r = FirstFinished (common_in o.sup contents) (two_in o.sup contents) r
+IsFirstOf false false true o contents r =
+    FirstFinished (common_in o.sup contents) (one_in o.sup contents ∷ []) r
+    ⊎ ((f : OneFile) × IsOneRead (common_in o.sup contents) (one_in o.sup contents) f × NewRefusal f r)
+IsFirstOf false false false o contents r = First no_files_before 0 contents r ⊎ IsRefusedBy false o contents r
 
 abbrev pub IsFirstRefusal : Options → List (List ℕ) → Refusal → Type 0
-IsFirstRefusal o = IsFirstOf o.explain o.check o
+IsFirstRefusal o = IsFirstOf o.explain o.check o.expand o
 
 -- what is asked for is refused with its first fault, which is named, with its file
 pub record WasRefused (words : List (List ℕ)) (store : Store) (text : List ℕ) : Type 0 where
@@ -349,7 +361,7 @@ abbrev pub StoppedLaw : Type 0
 StoppedLaw =
     (words : List (List ℕ)) (old new : FilesSeen) (shown shown_new : ConsoleSeen) → RunEnds words old new shown shown_new WriteFault
     → (store : Store) → old.held ≡ Some store
-    → (text : List ℕ) × StoppedAt words store old new text × Says shown shown_new WriteFault text
+    → (text : List ℕ) × (StoppedAt words store old new text ⊎ StoppedOne words store old new text) × Says shown shown_new WriteFault text
 
 -- however many puts are done
 abbrev pub PrefixesLaw : Type 0

@@ -1,2 +1,4 @@
+pub mod NewBytes
+pub mod Expanding
 pub mod Laws
 pub mod SecondCall

@@ -1,13 +1,14 @@
 //! Two files that are compared, from contents to the line on them.
 //!
-//! Contents come in the order in which files are got: that of the common file first, where it is given. Behind one that is too long nothing was
-//! got. There the two files are copied, with nothing for what is missing, and the one that is too long is refused.
+//! Behind a content that is too long nothing was got. There the two files are copied, with nothing for what is missing, and the one that
+//! is too long is refused.
 
-ghost use Rattle.std.specs.Prelude.{◌≡◌, ◌<◌, ◌≤◌, [], ◌∷◌, IfOk, get_or, length, map, if◌then◌else◌};
-ghost use Rattle.std.specs.Option.{is_some, option_map};
+ghost use Rattle.std.specs.Prelude.{◌≡◌, ◌<◌, ◌≤◌, [], ◌∷◌, IfOk, length, map};
+ghost use Rattle.std.specs.Option.{option_map};
 ghost use Rattle.dwz_run_course.specs.Answers.{IsAnswer};
-ghost use Rattle.dwz_def_run.specs.Compares.{Compares, ComparesTwo, common_in, tells_apart};
+ghost use Rattle.dwz_def_run.specs.Compares.{Compares, ComparesTwo, tells_apart};
 
+use crate::contents::{common_in, content_at, first_of};
 use dwz_check::check;
 use dwz_check_rows::check_text;
 use dwz_def_check::Same;
@@ -27,26 +28,6 @@ fn tells_apart(same: &Same) -> bool
         Same::Yes => false,
         Same::Units { .. } => true,
         Same::Unit(_) => true,
-    }
-}
-
-// The content with that number, or nothing where it wasn't got.
-fn content_at<'a>(contents: &'a [Vec<u8>], number: usize) -> &'a [u8]
-    ensures { result.now ≡ get_or (map (λ c. c.items) contents.now) number [] }
-{
-    match contents.get(number) {
-        Some(content) => content.as_slice(),
-        None => &[],
-    }
-}
-
-// That of the common file, where it is given.
-fn common_in<'a>(options: &Options, contents: &'a [Vec<u8>]) -> Option<&'a [u8]>
-    ensures { option_map (λ c. c.now) result ≡ common_in options.now.sup (map (λ c. c.items) contents.now) }
-{
-    match &options.sup {
-        None => None,
-        Some(_) => Some(content_at(contents, 0)),
     }
 }
 
@@ -85,13 +66,6 @@ fn answer_on<R: Threads + Sync, G: Gate>(
         said: Said::Parts(TextParts::new(parts)),
         differs: tells_apart(&same),
     })
-}
-
-// How many contents come before those of the two files.
-fn first_of(options: &Options) -> usize
-    ensures { result ≡ (if is_some options.now.sup then 1 else 0) }
-{
-    if options.sup.is_some() { 1 } else { 0 }
 }
 
 /// What is said of the two files that options name, or the first refusal of these and of their common file.

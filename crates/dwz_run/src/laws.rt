@@ -12,10 +12,13 @@ ghost use Rattle.dwz_run.specs.SecondCall.{AgainLaw};
 /// says the same as what was read, along images, with imports expanded (DWARF 5, 3.2.5), where entries share an image exactly where they
 /// move and nothing tells them apart. Its text is written, once. Or its words ask for a demonstration, and nothing is held otherwise than
 /// before. Or they ask with `--explain` why two entries aren't shared: the files of these were held and read as documents, the text says
-/// it, and nothing is held otherwise than before. Or they ask with `--check` whether two files mean the same: these were held and read, as
-/// files that may have been written, they do, and nothing is held otherwise than before. Where it answers Differs they don't, and the text
-/// says where they part. Where it answers ConsoleFault one of all these is so too, but for the text, which isn't written. What is put and
-/// said is the same for every number of workers.
+/// it, and nothing is held otherwise than before. Or they ask with `--check` whether two files mean the same: these were held and read,
+/// as files that may have been written, they do, and nothing is held otherwise than before. Or they ask with `--expand` for one file
+/// without its partial units: this was held and read, with its common file where that is given; what is put to OUT has copies of what
+/// units imported, reads as a file by itself, but for limits, and means the same, where spaces of partial units fit those of units; and
+/// nothing else is put. Where it answers Differs two files that are compared don't mean the same, and the text says where they part.
+/// Where it answers ConsoleFault one of all these is so too, but for the text, which isn't written. What is put and said is the same for
+/// every number of workers.
 pub fn done_laws()
     ensures done { DoneLaw }
     ensures apart { ApartLaw }
@@ -23,18 +26,18 @@ pub fn done_laws()
     ensures workers { WorkersLaw }
 {}
 
-/// Where a run answers Usage, Refused, ReadFault or NoMemory, nothing is put. Where it answers Refused, the files that were got have a first
-/// fault, or what is put of them has one, or with `--explain` no entry that may move begins at one of the two places, of which the first
-/// such is told; and it is named. Words that aren't lawful get Usage, and no others.
+/// Where a run answers Usage, Refused, ReadFault or NoMemory, nothing is put. Where it answers Refused, the files that were got have a
+/// first fault, or what is put of them has one, with `--expand` as well, or with `--explain` no entry that may move begins at one of the
+/// two places, of which the first such is told; and it is named. Words that aren't lawful get Usage, and no others.
 pub fn cause_laws()
     ensures nothing { NothingLaw }
     ensures refused { RefusedLaw }
     ensures usage { UsageLaw }
 {}
 
-/// Where no get, no put and no writing of the text failed, lawful words get Done, Refused or NoMemory, or with `--check` Differs: of files that
-/// are held, Refused where there is a first refusal, and else Done, with `--explain` as well; with `--check` Done where the two files mean the
-/// same, and Differs where they don't. Memory may always run out.
+/// Where no get, no put and no writing of the text failed, lawful words get Done, Refused or NoMemory, or with `--check` Differs: of
+/// files that are held, Refused where there is a first refusal, and else Done, with `--explain` and `--expand` as well; with `--check`
+/// Done where the two files mean the same, and Differs where they don't. Memory may always run out.
 pub fn answer_laws()
     ensures answer { AnswerLaw }
     ensures complete { CompleteLaw }
@@ -50,7 +53,8 @@ pub fn second_call_laws()
 {}
 
 /// Where a run answers WriteFault, the first puts are done, and the next one failed, whose name is told. Each FILE is as it was, or as it
-/// is made, and then the common file stands; it reads as before. So it is after the first puts, however many.
+/// is made, and then the common file stands; it reads as before. So it is after the first puts, however many. With `--expand` there is one
+/// put: where it failed, nothing is held otherwise than before.
 pub fn stop_laws()
     ensures stopped { StoppedLaw }
     ensures prefixes { PrefixesLaw }

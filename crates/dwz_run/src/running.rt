@@ -24,8 +24,11 @@ use std::thread::Threads;
 /// With `--explain` it gets the files of two places and says why the two entries that begin there aren't shared, whether or not the words
 /// ask for quiet; nothing is put. Where at one of the places no entry begins that may move, the first such is refused.
 ///
-/// With `--check` it gets two files, with `--sup` their common file before them, and says whether they mean the same, imports expanded, also
-/// where the words ask for quiet; nothing is put. It answers Differs where they don't, and Done where they do.
+/// With `--check` it gets two files, with `--sup` their common file before them, and says whether they mean the same, imports expanded,
+/// also where the words ask for quiet; nothing is put. It answers Differs where they don't, and Done where they do.
+///
+/// With `--expand` it gets one file, with `--sup` its common file before it, and puts it to OUT without its partial units, each unit with
+/// copies of what it imports, and without `.debug_sup` (DWARF 5, 3.2.5 and 7.3.6); and says how long it was and is.
 ///
 /// What follows of how a run ends is said by laws: where all is done, the FILEs that are put read back as what was read (`done_laws`);
 /// why each other status is answered, and what it leaves (`cause_laws`); which status comes where nothing outside fails

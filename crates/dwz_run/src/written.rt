@@ -12,6 +12,7 @@ ghost use Rattle.dwz_graph.specs.Files.{docs_of};
 ghost use Rattle.dwz_run_files.specs.Rules.{alike_scope};
 
 use crate::compared::compared_files;
+use crate::expanded::expanded_files;
 use dwz_explain::explain_places;
 use dwz_gate::Gate;
 use dwz_graph::Graph;
@@ -42,6 +43,13 @@ fn compares(options: &Options) -> bool
     ensures { result ≡ (options.now.check && not options.now.explain) }
 {
     options.check && !options.explain
+}
+
+// Whether one file is written without its partial units.
+fn expands(options: &Options) -> bool
+    ensures { result ≡ (options.now.expand && not options.now.explain && not options.now.check) }
+{
+    options.expand && !options.explain && !options.check
 }
 
 // Which files share: all of them where a common file is asked for, and else each by itself.
@@ -127,6 +135,9 @@ pub(crate) fn written_files<R: Threads + Sync, G: Gate>(
     let workers = workers_of(options);
     if compares(options) {
         return compared_files(rt, alloc, options, contents, workers, gate);
+    }
+    if expands(options) {
+        return expanded_files(alloc, options, contents);
     }
     let graph = Graph::read_by(rt, alloc, contents, workers)?;
     if options.explain {

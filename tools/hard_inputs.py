@@ -10,7 +10,7 @@ entries it is asked why two aren't shared (`--explain`).
     tools/hard_inputs.py [--program PROGRAM] [--times N]
 
 Each file is written elsewhere (`-o`), or explained, by one worker, N times; of each are told the least processor time and the most memory. What was written elsewhere is then
-compared with the file (`--check`), which is given up after ten seconds. It belongs to no gate.
+compared with the file (`--check`), and written without its partial units (`--expand`), which are given up after ten seconds. It belongs to no gate.
 """
 
 import argparse
@@ -28,7 +28,7 @@ SIBLING, LOCATION, NAME, BYTE_SIZE, STMT_LIST, DECL_FILE, ENCODING, SPECIFICATIO
 ADDR, STRING, DATA1, REF4, SEC_OFFSET, FLAG_PRESENT, IMPLICIT_CONST = 0x01, 0x08, 0x0B, 0x13, 0x17, 0x19, 0x21
 COMPILE_UNIT, TYPEDEF, STRUCTURE, BASE_TYPE, VARIABLE, NAMESPACE, TYPE_UNIT, FIRST_USER_TAG = 0x11, 0x16, 0x13, 0x24, 0x34, 0x39, 0x41, 0x4080
 
-# The seconds after which a comparison is given up, and the most bytes that it may have.
+# The seconds after which a run over what was written is given up, and the most bytes that it may have.
 LONGEST, MOST = 10, 4 << 30
 
 # How a shape is hashed (dwz_layout): from 0 on, for each word the exclusive or with it, times this, of which 64 bits stay.
@@ -304,23 +304,28 @@ def ladder(count, first, second):
     return [(number + first, number + second) for number in range(count)] + [4, 8]
 
 
-def checked(program, file):
-    """The processor time and the memory of a comparison of a file with what is made of it, as a text."""
+def limited(program, words):
+    """The processor time and the memory of a run within limits, as a text."""
+    child = os.fork()
+    if child == 0:
+        resource.setrlimit(resource.RLIMIT_CPU, (LONGEST, LONGEST))
+        resource.setrlimit(resource.RLIMIT_AS, (MOST, MOST))
+        os.dup2(os.open(os.devnull, os.O_WRONLY), 1)
+        os.execv(program, [program, "-j", "1", *words])
+    _, status, used = os.wait4(child, 0)
+    status = os.waitstatus_to_exitcode(status)
+    if status:
+        return "given up after %d s" % LONGEST if status < 0 else "status %d" % status
+    return "%.3f s, %d MB" % (used.ru_utime + used.ru_stime, used.ru_maxrss // 1024)
+
+
+def after_it(program, file):
+    """The same of a comparison of a file with what is made of it, and of writing that without its partial units."""
     with tempfile.TemporaryDirectory() as folder:
         new = os.path.join(folder, "new")
         if subprocess.run([program, "-q", "-o", new, file], check=False).returncode:
-            return "refused"
-        child = os.fork()
-        if child == 0:
-            resource.setrlimit(resource.RLIMIT_CPU, (LONGEST, LONGEST))
-            resource.setrlimit(resource.RLIMIT_AS, (MOST, MOST))
-            os.dup2(os.open(os.devnull, os.O_WRONLY), 1)
-            os.execv(program, [program, "-j", "1", "--check", file, new])
-        _, status, used = os.wait4(child, 0)
-        status = os.waitstatus_to_exitcode(status)
-        if status:
-            return "given up after %d s" % LONGEST if status < 0 else "status %d" % status
-        return "%.3f s, %d MB" % (used.ru_utime + used.ru_stime, used.ru_maxrss // 1024)
+            return "refused", "refused"
+        return limited(program, ["--check", file, new]), limited(program, ["--expand", new, "-o", os.path.join(folder, "back")])
 
 
 def main():
@@ -361,9 +366,9 @@ def main():
             file.write(content)
             file.flush()
             run = best_of(options.times, [os.path.abspath(options.program), "-j", "1", "-o", "out", file.name])
-            compared = checked(os.path.abspath(options.program), file.name)
+            compared, expanded = after_it(os.path.abspath(options.program), file.name)
         told = "refused" if run is None else "%.3f s, %d MB" % (run.cpu, run.memory // 1024)
-        print("%s, %d bytes: %s; compared %s" % (name, len(content), told, compared), flush=True)
+        print("%s, %d bytes: %s; compared %s; expanded %s" % (name, len(content), told, compared, expanded), flush=True)
     explained = (
         ("100,000 typedefs to types of two sizes", linked(chain(100000, 4), chain(100000, 8))),
         ("cycles of 50,021 and 49,999 typedefs", linked(cycle(50021), cycle(49999))),

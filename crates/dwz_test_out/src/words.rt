@@ -179,6 +179,49 @@ check sup => -j 4 -- check sup
 --sup c -o x a => usage
 --chec a b => usage
 -check a b => usage
+# a file that is expanded
+--expand a -o x => -o x -j 4 --expand -- a
+-o x a --expand => -o x -j 4 --expand -- a
+-q -j 3 a -o x --expand => -q -o x -j 3 --expand -- a
+--expand a -o a => -o a -j 4 --expand -- a
+--expand a --sup c -o x => -o x --sup c -j 4 --expand -- a
+-ox --sup=c --dwarf-5 --expand a => -o x --sup c -j 4 --expand -- a
+--expand -o x -- --expand => -o x -j 4 --expand -- --expand
+expand sup -- => -j 4 -- expand sup
+--expand => usage
+--expand a => usage
+--expand -o x => usage
+--expand a b -o x => usage
+--expand a b => usage
+--expand a 0x1 b 0x2 -o x => usage
+--expand a --sup c => usage
+--expand a --sup a -o x => usage
+--expand a --sup x -o x => usage
+--expand a --sup c -o c => usage
+--expand a --sup a -o a => usage
+--expand a --sup -o x => usage
+--expand a --sup= -o x => usage
+--expand a --sup c! -o x => usage
+--expand a -o x! => usage
+--expand a! -o x => usage
+--expand a -o= => usage
+--expand --expand a -o x => usage
+--expand=a -o x => usage
+--expand a -o x -o y => usage
+--expand a --sup c --sup c -o x => usage
+--expand -m c a -o x => usage
+--expand -M n a -o x => usage
+--expand -M n a --sup c -o x => usage
+--expand --demo 2 => usage
+--expand --demo 2 -o x => usage
+--expand --demo 2 a -o x => usage
+--expand --check a b => usage
+--expand --check a -o x => usage
+--expand --check a b -o x => usage
+--expand --explain a 0x1 b 0x2 => usage
+--expand --explain a -o x => usage
+--expan a -o x => usage
+-expand a -o x => usage
 # empty words
  a => usage
 -o  a => usage
@@ -199,6 +242,8 @@ b a 0x1 c d => b a 0x1 c d: 0+0 0+0
 -m c a b => a b: 0+0 0+0
 --check b a => b a: 0+0 0+0
 --check b a --sup c => c b a: 0+0 0+0
+--expand a -o b => a: 0+0 0+0
+--expand a --sup c -o b => c a: 0+0 0+0
 --demo 2 => : 0+0 0+0";
 
 /// The words between the blanks.
@@ -257,6 +302,9 @@ fn plain(rt: &impl Abort, alloc: Global, options: &Options) -> String {
     }
     if options.check {
         put(rt, &mut text, " --check");
+    }
+    if options.expand {
+        put(rt, &mut text, " --expand");
     }
     put(rt, &mut text, " --");
     for file in options.files.as_slice() {

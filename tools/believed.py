@@ -7,8 +7,7 @@ on files that are read beside a common one.
     tools/believed.py --homonyms    the names that have two meanings among believed definitions
 
 It follows imports from the contracts of the roots below to each definition that these rest on. In the crates `dwz_def_*`, and in those
-of BELIEVED, each file of `specs/` is believed but for those whose first line begins `-- Inner:`. In all other crates none is, but for the files of
-ALSO_BELIEVED.
+of BELIEVED, each file of `specs/` is believed but for those whose first line begins `-- Inner:`. In all other crates none is.
 """
 
 import os
@@ -29,19 +28,11 @@ ROOTS = [
     ("dwz_def_limits", "src/laws.rt", ["limit_laws"]),
     ("dwz_def_check", "src/laws.rt", ["answer_laws"]),
     ("dwz_def_expand", "src/laws.rt", ["expand_laws", "refusal_laws"]),
-    ("dwz_def_expanded", "src/laws.rt", ["refusal_laws"]),
     ("dwz_def_taken", "src/taken.rt", ["taken_laws", "over_laws"]),
     ("dwz_def_over", "src/over.rt", ["read_laws", "refused_laws", "over_laws"]),
     ("dwz_def_run_over", "src/reuses.rt", ["reuses_laws"]),
 ]
 BELIEVED = ["model", "bytes", "codes", "outside", "words", "text", "report", "gen", "run_course", "run"]
-# The law on runs that expand files says by these that what is written reads by itself, and means the same.
-ALSO_BELIEVED = {
-    ("dwz_def_expand", "specs/Dropped.antt"),
-    ("dwz_law_expand", "specs/Told.antt"),
-    ("dwz_law_expand", "specs/ReadLaws.antt"),
-    ("dwz_law_expand", "specs/SameLaws.antt"),
-}
 MARK = "-- Inner:"
 # A word is a run of what may stand in a name; a word between « and » is the same word.
 SIGNATURE = re.compile(r"^(?:(?:pattern|unfoldable|abbrev|axiom|opaque|pub)\s+)*(record|data)?\s*(«?)([^\s(){}.;,@\"«»:]+)»?\s*(.*)$", re.S)
@@ -379,8 +370,6 @@ def main():
             inner = house.source(crate, file).text.startswith(MARK)
             is_in = (crate, file) in files
             where = f"crates/{crate}/{file}"
-            if is_in and (crate, file) in ALSO_BELIEVED:
-                continue
             if is_in and not is_believed_crate(crate):
                 names = sorted(d.name for d in reached if (d.crate, d.file) == (crate, file))
                 wrong.append(f"{where}: believed, in a crate whose definitions are inner ({', '.join(names)})")

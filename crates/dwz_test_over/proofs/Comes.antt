@@ -1,4 +1,4 @@
--- What comes of the file over each common file.
+-- The file over each common file, as it is said to be, and the text of what comes of it.
 use Rattle.std.proofs.Common.{◌≡◌, true, false, List, [], ◌∷◌, None, Some, refl}
 use Rattle.std.specs.Prelude.{codes}
 use Rattle.std.specs.Fmt.{digits}
@@ -10,9 +10,9 @@ use Rattle.dwz_def_taken.specs.declared.fixed.Fixed.{Fixed}
 use Rattle.dwz_def_taken.specs.Beside.{all_attrs, all_below, then_entries}
 use Rattle.dwz_def_taken.specs.Over.{common_parts, row_map}
 use Rattle.dwz_def_over.specs.Over.{OverFiles}
-use Rattle.dwz_def_run_over.specs.Reuses.{puts_over, summary_over}
+use Rattle.dwz_def_run_over.specs.Reuses.{summary_over}
 use Rattle.dwz_test_definitions.proofs.Comes.{come}
-use Rattle.dwz_test_over.proofs.Bytes.{both_file, common_file, three_file, three_new}
+use Rattle.dwz_test_over.proofs.Bytes.{both_file, common_file, three_file}
 use Rattle.dwz_test_over.proofs.Beside.{over_both, over_common}
 
 -- the one FILE is `three`; the common file is `common`
@@ -44,28 +44,23 @@ taken raw = record {
   fixed = taken_fixed;
 }
 
-taken_put : (raw : List RawUnit) → puts_over options (taken raw) ≡ record { name = codes "three"; bytes = three_new } ∷ []
-unfolding come then_entries all_below all_attrs row_map common_parts compress digest_bytes first_words hash_after rounds schedule sha256
-taken_put raw = refl
-
 taken_text : (raw : List RawUnit) → summary_text (summary_over options (taken raw)) ≡ codes "three: 424 -> 512 bytes\n"
 unfolding come then_entries all_below all_attrs row_map common_parts compress digest_bytes first_words hash_after rounds schedule sha256 digits
 taken_text raw = refl
 
 -- the unit can't take the partial unit that has another type too
-abbrev left : List RawUnit → OverFiles
+abbrev pub left_fixed : Fixed
+left_fixed = record { roots = 0x0c ∷ []; takes = [] ∷ [] ∷ []; images = None ∷ None ∷ None ∷ []; blocked = false ∷ false ∷ false ∷ [] }
+
+abbrev pub left : List RawUnit → OverFiles
 left raw = record {
   common = both_file;
   contents = three_file ∷ [];
   raw = raw;
   said = over_both;
   prunes = true ∷ [];
-  fixed = record { roots = 0x0c ∷ []; takes = [] ∷ [] ∷ []; images = None ∷ None ∷ None ∷ []; blocked = false ∷ false ∷ false ∷ [] };
+  fixed = left_fixed;
 }
-
-left_put : (raw : List RawUnit) → puts_over options (left raw) ≡ []
-unfolding come then_entries all_below all_attrs row_map common_parts
-left_put raw = refl
 
 left_text : (raw : List RawUnit) → summary_text (summary_over options (left raw)) ≡ codes "three: nothing moves\n"
 unfolding come then_entries all_below all_attrs row_map common_parts digits

@@ -1,5 +1,6 @@
 -- The file over the first common file is as it was read, and what is said to be taken is just what its unit takes.
-use Rattle.std.proofs.Common.{Result, Ok, Err, ◌≡◌, ◌⊎◌, ◌∙◌, ℕ, zero, suc, ◌<◌, true, false, List, [], ◌∷◌, None, Some, MatchOption, arith, length, refl, sym, ap, subst, inl, inr}
+use Rattle.std.proofs.Common.{Result, Ok, Err, ◌≡◌, ◌⊎◌, ◌∙◌, ℕ, zero, suc, ◌<◌, true, false, List, [], ◌∷◌, None, Some, MatchOption, arith, length, refl}
+use Rattle.std.proofs.Common.{sym, ap, subst, inl, inr}
 use Rattle.dwz_def_reading.specs.Units.{RawUnit}
 use Rattle.dwz_def_reading.proofs.FileLemmas.{file_agrees_by, files_agree}
 use Rattle.dwz_model.specs.declared.fault.Fault.{Fault}
@@ -18,7 +19,8 @@ use Rattle.dwz_def_tops.proofs.AlikeLaws.{alike_decides}
 use Rattle.dwz_def_readback.specs.PrunableTest.{is_prunable, tables_lack_strp}
 use Rattle.dwz_def_readback.proofs.PrunableDecided.{prunable_decided}
 use Rattle.dwz_def_taken.specs.Beside.{CommonAlike, Reused, all_attrs, all_below, look_units, own_tops, reused_beside, then_entries, together}
-use Rattle.dwz_def_taken.specs.Takes.{Blocked, CanTake, CanTakeAlong, HasSpace, IsFixed, IsImage, IsTaken, PartRefers, Takes, image_at, is_blocked, is_of_unit, part_unit, takes_of, unit_goes_to}
+use Rattle.dwz_def_taken.specs.Takes.{Blocked, CanTake, CanTakeAlong, HasSpace, IsFixed, IsImage, IsTaken, PartRefers, Takes, image_at, is_blocked}
+use Rattle.dwz_def_taken.specs.Takes.{is_of_unit, part_unit, takes_of, unit_goes_to}
 use Rattle.dwz_def_over.specs.Over.{AreOverFiles}
 use Rattle.dwz_test_definitions.proofs.Comes.{come, said}
 use Rattle.dwz_test_over.proofs.Bytes.{common_file, three_file}
@@ -102,7 +104,9 @@ alike m n e f =
 
 no_refs : (q : ℕ) → PartRefers r 0 q → ⊥
 unfolding come
-no_refs q (f, inl (e, is), goes) = (let z : false ≡ true = ap (λ (g : FileUnit EntryName). unit_goes_to (is_of_unit (tops_of (together r)) (part_unit r q)) g.unit) is ∙ goes in absurd cc)
+no_refs q (f, inl (e, is), goes) =
+    let test = is_of_unit (tops_of (together r)) (part_unit r q) in
+    let z : false ≡ true = ap (λ (g : FileUnit EntryName). unit_goes_to test g.unit) is ∙ goes in absurd cc
 no_refs q (f, inr n, goes) = absurd n
 
 no_space : (names : List (List ℕ)) → HasSpace r.commons 0 names → ⊥
@@ -204,12 +208,12 @@ fixed_is = record {
 
 -- ---- the files
 
-prunable : is_prunable three_file three_doc.units ≡ true
+pub prunable : is_prunable three_file three_doc.units ≡ true
 unfolding come tables_lack_strp
 prunable = refl
 
 -- the units of the common file, as they are stored
-abbrev units_read : Result (List RawUnit × Doc Place) Fault → List RawUnit
+abbrev pub units_read : Result (List RawUnit × Doc Place) Fault → List RawUnit
 units_read (Ok x) = x.0
 units_read (Err f) = []
 

@@ -1,4 +1,4 @@
--- The whole of it: from the bytes of the common file and of the file to what is put.
+-- The file over the first common file: from the bytes of both to the one put that comes of them.
 use Rattle.std.proofs.Common.{◌≡◌, ℕ, ◌<◌, false, List, [], ◌∷◌, None, Some, arith, length, refl, sym, subst, inl, inr}
 use Rattle.std.specs.Prelude.{codes}
 use Rattle.sha2.specs.Sha256.{compress, digest_bytes, first_words, hash_after, rounds, schedule, sha256}
@@ -18,7 +18,8 @@ use Rattle.dwz_run_course.specs.Outcome.{writes}
 use Rattle.dwz_def_output.specs.Changed.{changes_by}
 use Rattle.dwz_def_output.specs.Contents.{listed, sections_after_by}
 use Rattle.dwz_def_output.specs.FilesAfter.{changes_after_by, order_of}
-use Rattle.dwz_def_output.specs.Refusals.{FileFaultBy, FirstNarrowBy, InFile, IsLargeSection, OutFaultBy, SectionsFaultBy, operands_of_attr, operands_of_attrs, operands_of_entries, operands_of_units, spoken}
+use Rattle.dwz_def_output.specs.Refusals.{FileFaultBy, FirstNarrowBy, InFile, IsLargeSection, OutFaultBy, SectionsFaultBy, operands_of_attr}
+use Rattle.dwz_def_output.specs.Refusals.{operands_of_attrs, operands_of_entries, operands_of_units, spoken}
 use Rattle.dwz_def_taken.specs.Beside.{all_attrs, all_below, then_entries}
 use Rattle.dwz_def_taken.specs.Over.{common_parts, row_map}
 use Rattle.dwz_def_over.specs.Over.{OverFiles, run_over, stands}
@@ -41,7 +42,8 @@ cf = stands over
 -- ---- nothing is too narrow or too large
 
 no_spoken : spoken run 0 ≡ []
-unfolding come common_sup_fault read_sup operands_of_units operands_of_entries operands_of_attrs operands_of_attr compress digest_bytes first_words hash_after rounds schedule sha256
+unfolding come common_sup_fault read_sup operands_of_units operands_of_entries operands_of_attrs operands_of_attr
+    compress digest_bytes first_words hash_after rounds schedule sha256
 no_spoken = refl
 
 no_listed : listed run 0 ≡ []
@@ -56,7 +58,8 @@ three_sections =
     ∷ []
 
 sections_new : (changes_by (sections_after_by cf run 0) None).new ≡ three_sections
-unfolding come common_sup_fault read_sup then_entries all_below all_attrs row_map common_parts compress digest_bytes first_words hash_after rounds schedule sha256
+unfolding come common_sup_fault read_sup then_entries all_below all_attrs row_map common_parts
+    compress digest_bytes first_words hash_after rounds schedule sha256
 sections_new = refl
 
 none_large : (xs : List NewContent) → Each (λ n. length n.bytes < 100) xs → (f : Fault) → OfFirst IsLargeSection xs f → ⊥
@@ -76,14 +79,16 @@ sections_sound f (moves, inr (none, inr (neither, x))) =
 -- ---- the file can be laid out
 
 laid : layout_fault (elf_of (run.input.bytes 0)) (changes_after_by cf (sup_name options) run 0) ≡ None
-unfolding come common_sup_fault read_sup then_entries all_below all_attrs row_map common_parts compress digest_bytes first_words hash_after rounds schedule sha256
+unfolding come common_sup_fault read_sup then_entries all_below all_attrs row_map common_parts
+    compress digest_bytes first_words hash_after rounds schedule sha256
 laid = refl
 
 long : (
     let e = elf_of (run.input.bytes 0) in
     rebuilt_length e (changes_after_by cf (sup_name options) run 0) (run.input.bytes 0) (order_of e)
     ) ≡ 512
-unfolding come common_sup_fault read_sup then_entries all_below all_attrs row_map common_parts compress digest_bytes first_words hash_after rounds schedule sha256
+unfolding come common_sup_fault read_sup then_entries all_below all_attrs row_map common_parts
+    compress digest_bytes first_words hash_after rounds schedule sha256
 long = refl
 
 file_sound : (f : Fault) → FileFaultBy cf (sup_name options) run 0 f → ⊥
@@ -96,7 +101,7 @@ files_are : run.files ≡ 0 ∷ []
 unfolding come common_sup_fault read_sup compress digest_bytes first_words hash_after rounds schedule sha256
 files_are = refl
 
-one_file : (Has : ℕ → Fault → Type 0) → ((f : Fault) → Has 0 f → ⊥) → (q : Refusal) → OfFirst (InFile Has) (0 ∷ []) q → ⊥
+pub one_file : (Has : ℕ → Fault → Type 0) → ((f : Fault) → Has 0 f → ⊥) → (q : Refusal) → OfFirst (InFile Has) (0 ∷ []) q → ⊥
 one_file Has none q (inl (f, h, e)) = none f h
 one_file Has none q (inr (others, h)) = h
 
@@ -119,7 +124,8 @@ out = record {
 }
 
 output_is : output_over options over ≡ out
-unfolding come common_sup_fault read_sup then_entries all_below all_attrs row_map common_parts compress digest_bytes first_words hash_after rounds schedule sha256
+unfolding come common_sup_fault read_sup then_entries all_below all_attrs row_map common_parts
+    compress digest_bytes first_words hash_after rounds schedule sha256
 output_is = refl
 
 pub three_comes : Reuses options (common_file ∷ three_file ∷ []) (writes out)

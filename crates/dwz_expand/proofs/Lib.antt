@@ -1,2 +1,3 @@
 pub mod OneLemmas
 pub mod RangeSteps
+pub mod SectionsMade

@@ -1,18 +1,14 @@
-//! One file that was read back, written without its partial units (DWARF 5, 3.2.5): from its graph to the bytes of its new units.
+//! One file that was read back, written without its partial units (DWARF 5, 3.2.5): from its graph to its new sections.
 //!
-//! `values_refused` answers the first value that can't be copied. `units_after` goes on from there, by `dwz_expand_units`, in one call: the
-//! new `.debug_info` and `.debug_abbrev` of the file, or the first value that refuses it. `sizes_refused` is the first refusal of size, once
-//! the first operands are known that are too narrow, and `ranges_written` the new `.debug_aranges`.
+//! `expand` is all of it, in the order in which a file is refused: its values are looked at, its new units are laid, the operands whose new
+//! numbers are too large are found, and what is left is written.
 //!
-//! Read first: `specs/Units.antt`, and that of `dwz_expand_units`; and `Output.antt` of `dwz_def_expand`.
+//! Read first: `specs/Expanded.antt`; and `Output.antt` of `dwz_def_expand`.
 #![tactic(auto)]
 
-mod after;
+mod graph;
 mod ranges;
+mod sections;
 mod sizes;
-mod values;
 
-pub use after::{NewUnits, units_after};
-pub use ranges::ranges_written;
-pub use sizes::sizes_refused;
-pub use values::values_refused;
+pub use graph::expand;

@@ -4,10 +4,10 @@ ghost use Rattle.std.specs.Prelude.{◌≡◌, ◌-◌, ◌<◌, ◌^◌, IfOk};
 ghost use Rattle.dwz_def_expand.specs.OneFile.{OneFile};
 ghost use Rattle.dwz_def_expand.specs.Output.{new_ranges};
 ghost use Rattle.dwz_def_reading.specs.Files.{unit_places};
-ghost use Rattle.dwz_expand.specs.Units.{IsFileOf};
+ghost use Rattle.dwz_expand.specs.Expanded.{IsFileOf};
+ghost use Rattle.dwz_expand_units.specs.Units.{IsLaidOf};
 ghost use Rattle.dwz_expand_layout.specs.Laid.{layout_view};
 ghost use Rattle.dwz_expand_passes.specs.declared.file.NewFile.{NewFile};
-ghost use Rattle.dwz_expand_units.specs.Units.{IsLaidOf};
 ghost use Rattle.dwz_unit.specs.Rows.{units_of};
 
 use dwz_codes::DW_UT_PARTIAL;
@@ -33,7 +33,11 @@ fn whole_places(alloc: Global, units: &Units) -> Result<Vec<u32>, NoMemory>
 }
 
 /// The new `.debug_aranges` of a file whose new units are laid so, and aren't too large together.
-pub fn ranges_written(alloc: Global, own: &File, layout: &NewLayout) -> Result<Vec<u8>, NoMemory>
+pub(crate) fn ranges_written(
+    alloc: Global,
+    own: &File,
+    layout: &NewLayout,
+) -> Result<Vec<u8>, NoMemory>
     requires laid { (f : OneFile) × (x : NewFile) × IsFileOf f own.now × IsLaidOf f x (layout_view layout.now) }
     requires few { layout.now.end < 2 ^ 32 - 16 }
     ensures { (f : OneFile) (x : NewFile) → IsFileOf f own.now → IsLaidOf f x (layout_view layout.now)

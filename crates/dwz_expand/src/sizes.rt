@@ -3,9 +3,9 @@
 ghost use Rattle.std.specs.Prelude.{◌≡◌, ◌-◌, ◌<◌, ◌^◌, IfNone};
 ghost use Rattle.dwz_def_expand.specs.OneFile.{OneFile, ReadsOne};
 ghost use Rattle.dwz_def_output.specs.NewFiles.{IsFound};
+ghost use Rattle.dwz_expand_units.specs.Units.{IsLaidOf};
 ghost use Rattle.dwz_expand_layout.specs.Laid.{layout_view};
 ghost use Rattle.dwz_expand_passes.specs.declared.file.NewFile.{NewFile};
-ghost use Rattle.dwz_expand_units.specs.Units.{IsLaidOf};
 ghost use Rattle.dwz_expand_sections.specs.Refusals.{HavePlaces, SizeRefusal};
 
 use dwz_expand_layout::NewLayout;
@@ -14,7 +14,7 @@ use dwz_model::Refusal;
 
 /// The first refusal of a file whose values can all be copied, where its new units are laid so, and where its first operands stand that
 /// are too narrow: of one of these, or else of a section. Where there is none, places in the new `.debug_info` have four bytes.
-pub fn sizes_refused(layout: &NewLayout, places: &NarrowPlaces) -> Option<Refusal>
+pub(crate) fn sizes_refused(layout: &NewLayout, places: &NarrowPlaces) -> Option<Refusal>
     ensures found { (f : OneFile) (x : NewFile) → ReadsOne f → IsLaidOf f x (layout_view layout.now) → HavePlaces f places.now
         → IsFound (SizeRefusal f) result }
     ensures fits { IfNone result (layout.now.end < 2 ^ 32 - 16) }

@@ -19,7 +19,8 @@ use Rattle.dwz_def_output.specs.Changed.{changes_by, if_new}
 use Rattle.dwz_def_output.specs.Refusals.{InFile, IsLargeSection, operands_of_attr}
 use Rattle.dwz_def_expand.specs.Dropped.{without_sup}
 use Rattle.dwz_def_expand.specs.OneFile.{OneFile, StoredAttr, named_in_attr, same_place, stored_attr, stored_where, where_named}
-use Rattle.dwz_def_expand.specs.Output.{ExpandRefusal, FirstTooNarrow, LargeRefusal, NarrowIn, NarrowInLists, SiteRefusal, Spoken, forms, in_lists, new_sections, sites_of_file, sources_by_file, spoken_in}
+use Rattle.dwz_def_expand.specs.Output.{ExpandRefusal, FirstTooNarrow, LargeRefusal, NarrowIn, NarrowInLists, SiteRefusal, Spoken, forms, in_lists, new_sections}
+use Rattle.dwz_def_expand.specs.Output.{sites_of_file, sources_by_file, spoken_in}
 use Rattle.dwz_def_expand.specs.Refusals.{LostFault, RowFault, Site, SiteFault, with_numbers}
 use Rattle.dwz_def_expanded.specs.NewFile.{FileFault, IsLargeFile, IsUnplaced, NewRefusal}
 

@@ -1,0 +1,5 @@
+//! Tests of what units take from a finished common file.
+#![tactic(auto)]
+
+#[cfg(test)]
+mod taken;

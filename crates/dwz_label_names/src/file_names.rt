@@ -1,6 +1,6 @@
 //! The names of a file.
 
-ghost use Rattle.std.specs.Prelude.{◌≡◌, ℕ, ◌<◌, List, Some, IfOk, length, slice_get};
+ghost use Rattle.std.specs.Prelude.{◌≡◌, ℕ, ◌<◌, ◌≤◌, ◌^◌, List, Some, IfOk, OnOk, length, slice_get};
 ghost use Rattle.dwz_def_reading.specs.Documents.{File, Text};
 ghost use Rattle.dwz_def_reading.specs.LineTables.{FileTable, nth_path};
 ghost use Rattle.dwz_def_reading.specs.TextRows.{text_number};
@@ -117,12 +117,13 @@ impl<'s, 'a> FileNames<'s, 'a> {
         Ok(Some(number))
     }
 
-    /// The number of the name of the path with a number in the table with a number. None only where there is none.
+    /// The number of the name of the path with a number in the table with a number. None only where there is none. No table has 2^63 paths.
     #[inline(always)]
     pub fn path(&mut self, alloc: Global, table: usize, row: u64) -> Result<Option<u32>, NoMemory>
         ensures stays { StaysNamed self.old self.new }
         ensures found { (t : FileTable) (path : List ℕ) → slice_get self.old.tables table ≡ Some t → nth_path t.paths row ≡ Some path
             → IfOk result (λ n. HasName self.new.names (plain_label (File (Some path))) n) }
+        ensures many { (t : FileTable) → slice_get self.old.tables table ≡ Some t → 4096 ≤ row → OnOk result (length t.paths < 2 ^ 63) }
     {
         if row >= ROWS || table >= TABLES {
             return self.new_path(alloc, table, row);
@@ -144,6 +145,7 @@ impl<'s, 'a> FileNames<'s, 'a> {
         ensures stays { StaysNamed self.old self.new }
         ensures found { (t : FileTable) (path : List ℕ) → slice_get self.old.tables table ≡ Some t → nth_path t.paths row ≡ Some path
             → IfOk result (λ n. HasName self.new.names (plain_label (File (Some path))) n) }
+        ensures many { (t : FileTable) → slice_get self.old.tables table ≡ Some t → OnOk result (length t.paths < 2 ^ 63) }
     {
         if table >= self.tables.len() {
             return Ok(None);

@@ -1,4 +1,4 @@
-use Rattle.std.proofs.Common.{◌≡◌, List, Option, Some, slice_get, sym, ap, ℕ, ◌∙◌}
+use Rattle.std.proofs.Common.{◌≡◌, ◌<◌, ◌^◌, List, Option, Some, length, slice_get, sym, subst, ap, ℕ, ◌∙◌}
 use Rattle.std.specs.Global.{Vec}
 use Rattle.std.specs.Option.{option_map}
 use Rattle.dwz_def_reading.specs.Documents.{File}
@@ -41,3 +41,15 @@ returns-in_ok-number-in-Some-clause-found c = λ t path g p. (
     let items : c.in-Some.path.items ≡ path = some_same there in
     ap (λ (x : List ℕ). text_number c.name_path.new.names (plain_label (File (Some x)))) (sym (c.deref.ensures.value ∙ items))
     ∙ c.in_ok-number-in-Some.ensures.number)
+
+pub returns-in-None-clause-many : goal.returns-in-None-clause-many
+returns-in-None-clause-many c = λ t g. (
+    let here = ap (λ (x : FileNames). slice_get x.tables c.args.table) c.self.view_is ∙ g in
+    let same : c.table_at.result.now ≡ t = some_same (sym c.table_at.ensures ∙ here) in
+    subst (λ (x : FileTable). length x.paths < 2 ^ 63) same c.in_ok-path.ensures.many)
+
+pub returns-in_ok-number-in-Some-clause-many : goal.returns-in_ok-number-in-Some-clause-many
+returns-in_ok-number-in-Some-clause-many c = λ t g. (
+    let here = ap (λ (x : FileNames). slice_get x.tables c.args.table) c.self.view_is ∙ g in
+    let same : c.table_at.result.now ≡ t = some_same (sym c.table_at.ensures ∙ here) in
+    subst (λ (x : FileTable). length x.paths < 2 ^ 63) same c.in_ok-path.ensures.many)

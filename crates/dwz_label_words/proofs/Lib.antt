@@ -1,5 +1,9 @@
 pub mod AddsLemmas
+pub mod AttrLemmas
 pub mod NumLemmas
 pub mod RowLemmas
+pub mod RowsLemmas
+pub mod ShapeLemmas
 pub mod TargetLemmas
+pub mod TopLemmas
 pub mod ValueLemmas

@@ -1,0 +1,119 @@
+//! Entries, with what their attributes say.
+
+ghost use Rattle.std.specs.Prelude.{◌≡◌, ℕ, ◌+◌, ◌-◌, ◌<◌, ◌≤◌, ◌∷◌, List, IfOk, OnOk, drop};
+ghost use Rattle.dwz_def_reading.specs.Documents.{Attr, Node};
+ghost use Rattle.dwz_def_reading.specs.Entries.{RawAttr};
+ghost use Rattle.dwz_def_reading.specs.Lists.{Each};
+ghost use Rattle.dwz_def_reading.specs.Units.{RawUnit, entries_in};
+ghost use Rattle.dwz_def_tops.specs.Spots.{EntryName};
+ghost use Rattle.dwz_graph.specs.Resolved.{stored};
+ghost use Rattle.dwz_graph.specs.Rows.{AreAttrsMeant, IsEntryMeant};
+ghost use Rattle.dwz_label_entries.specs.Plain.{KnowsLine};
+ghost use Rattle.dwz_label_entries.specs.Sources.{IsReady, KnowsUnit, raw_of, scope_at};
+ghost use Rattle.dwz_label_names.specs.Known.{StaysNamed};
+ghost use Rattle.dwz_label_words.specs.Told.{AreNamesOf, IsUsual, TellsAttrs, TellsEntry, TellsFirst};
+ghost use Rattle.dwz_unit.specs.Rows.{EntryRow};
+
+use crate::room::Room;
+use crate::values::put_value;
+use dwz_codes::DW_AT_SIBLING;
+use dwz_forms::Raw;
+use dwz_graph::Here;
+use dwz_label_entries::Source;
+use dwz_label_marks::{put_named, put_plainly};
+use dwz_label_names::FileNames;
+use dwz_model::{NoMemory, Pair};
+use dwz_unit::{Values, known_value};
+
+// Appends what an attribute says. `DW_AT_sibling` says nothing.
+#[inline(always)]
+fn put_attr(
+    source: &Source,
+    names: &mut FileNames,
+    out: &mut Vec<u8>,
+    here: &Here,
+    line: Option<usize>,
+    end: u64,
+    pair: &Pair,
+    raw: &Raw,
+    next: usize,
+    room: &mut Room,
+) -> Result<usize, NoMemory>
+    requires ready { IsReady source.now here.now }
+    requires names { AreNamesOf source.now names.old }
+    ensures stays { OnOk result (StaysNamed names.old names.new) }
+    ensures told { (u : RawUnit) (name : ℕ → EntryName) (at : ℕ) (values : List RawAttr) (attrs : List (Attr ℕ))
+        → KnowsUnit source.now here.now line u name
+        → KnowsLine (scope_at source.now u) (stored at end pair.now raw.now) source.now.tables.now line
+        → AreAttrsMeant (raw_of source.now) (scope_at source.now u) (drop next source.now.refs.now)
+        (stored at end pair.now raw.now ∷ values) attrs → Each IsUsual attrs
+        → IfOk result (λ behind. TellsFirst (raw_of source.now) (scope_at source.now u) values name attrs names.new.names
+        (drop next source.now.refs.now) (drop behind source.now.refs.now) out.old.items out.new.items) }
+{
+    if pair.name == DW_AT_SIBLING {
+        return Ok(next);
+    }
+    put_value(source, names, out, here, line, end, pair, raw, next, room)
+}
+
+// Appends what the attributes of an entry say. The references of the entry begin at `next`; the answer is where they end.
+fn put_values(
+    source: &Source,
+    names: &mut FileNames,
+    out: &mut Vec<u8>,
+    here: &Here,
+    line: Option<usize>,
+    i: u32,
+    next: usize,
+    room: &mut Room,
+) -> Result<usize, NoMemory>
+    requires ready { IsReady source.now here.now }
+    requires names { AreNamesOf source.now names.old }
+    requires row { i < entries_in (raw_of source.now) }
+    ensures stays { OnOk result (StaysNamed names.old names.new) }
+    ensures told { (u : RawUnit) (name : ℕ → EntryName) (row : EntryRow) (d : Node ℕ) → KnowsUnit source.now here.now line u name
+        → row.unit ≡ here.now.number → IsEntryMeant (raw_of source.now) (scope_at source.now u) i (drop next source.now.refs.now) row d
+        → Each IsUsual d.attrs
+        → IfOk result (λ behind. TellsAttrs name d.attrs names.new.names (drop next source.now.refs.now) (drop behind source.now.refs.now)
+        out.old.items out.new.items) }
+{
+    let Values { pairs, mut cursor } = source.units.values(i);
+    let mut behind = next;
+    for pair in pairs {
+        let raw = known_value(&mut cursor, pair);
+        let end = cursor.at() as u64;
+        behind = put_attr(
+            source, names, out, here, line, end, pair, &raw, behind, room,
+        )?;
+    }
+    Ok(behind)
+}
+
+/// Appends the marks of an entry: its shape, how many entries are below it, and what its attributes say, which name entries only as
+/// references. Its references begin at `next`; the answer is where they end. `line` is the number of the unit's line table.
+pub fn put_entry_marks(
+    source: &Source,
+    names: &mut FileNames,
+    out: &mut Vec<u8>,
+    here: &Here,
+    line: Option<usize>,
+    i: u32,
+    next: usize,
+    room: &mut Room,
+) -> Result<usize, NoMemory>
+    requires ready { IsReady source.now here.now }
+    requires names { AreNamesOf source.now names.old }
+    requires row { i < entries_in (raw_of source.now) }
+    ensures stays { OnOk result (StaysNamed names.old names.new) }
+    ensures told { (u : RawUnit) (name : ℕ → EntryName) (row : EntryRow) (d : Node ℕ) → KnowsUnit source.now here.now line u name
+        → row.unit ≡ here.now.number → IsEntryMeant (raw_of source.now) (scope_at source.now u) i (drop next source.now.refs.now) row d
+        → Each IsUsual d.attrs
+        → IfOk result (λ behind. TellsEntry name (row.end - i - 1) d names.new.names (drop next source.now.refs.now)
+        (drop behind source.now.refs.now) out.old.items out.new.items) }
+{
+    let entry = source.units.entry(i);
+    let shape = names.shape(i, entry.tag)?;
+    put_named(out, shape)?;
+    put_plainly(out, entry.end.saturating_sub(i).saturating_sub(1) as u64)?;
+    put_values(source, names, out, here, line, i, next, room)
+}

@@ -1,6 +1,6 @@
 //! The marks of a top, appended to bytes from the rows of its entries.
 //!
-//! `put_top_marks` tells a top: by a name where it stands, and each of its entries by `put_entry_marks`, with its shape, how many entries are
+//! `put_top_marks` tells a top: by a name where it stands (`name_place`), and each of its entries by `put_entry_marks`, with its shape, how many entries are
 //! below it, and its values. `put_value` tells a value: a text, a path, an expression or a list by the number of its name, a small number by
 //! itself, an entry by its path in its top. `Room` has rows that are used again from one value to the next.
 //!
@@ -12,6 +12,7 @@
 mod entries;
 mod files;
 mod numbers;
+mod places;
 mod room;
 mod targets;
 mod texts;
@@ -19,6 +20,7 @@ mod tops;
 mod values;
 
 pub use entries::put_entry_marks;
+pub use places::name_place;
 pub use room::Room;
 pub use tops::put_top_marks;
 pub use values::put_value;

@@ -6,4 +6,5 @@ pub mod RowsLemmas
 pub mod ShapeLemmas
 pub mod TargetLemmas
 pub mod TopLemmas
+pub mod UsualLemmas
 pub mod ValueLemmas

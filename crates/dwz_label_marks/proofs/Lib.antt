@@ -4,4 +4,5 @@ pub mod MarkCodes
 pub mod MarkLemmas
 pub mod NameLemmas
 pub mod PieceLemmas
+pub mod ShownLemmas
 pub mod ToldLemmas

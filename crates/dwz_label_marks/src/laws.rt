@@ -1,6 +1,6 @@
 //! What marks say of tops.
 
-ghost use Rattle.dwz_label_marks.specs.Shown.{ApartLaw};
+ghost use Rattle.dwz_label_marks.specs.Shown.{ApartLaw, ShownLaw, TellLaw};
 ghost use Rattle.dwz_label_marks.specs.Told.{WordLaw};
 
 /// A law on marks of tops, of any tops. Where they are told by the same names, the bytes are equal exactly if the languages, the name lists
@@ -9,7 +9,10 @@ pub fn word_laws()
     ensures { WordLaw }
 {}
 
-/// A law on nodes that are made from labels which tell tops apart, whatever they are. Where they do, the nodes are those of the tops.
+/// Laws on labels that tell tops apart, whatever they are. Nodes that are made from them are those of the tops. Labels that tell the marks
+/// of tops, all by one list of names, do so; and labels that are whole do.
 pub fn show_laws()
-    ensures { ApartLaw }
+    ensures nodes { ApartLaw }
+    ensures marks { TellLaw }
+    ensures whole { ShownLaw }
 {}

@@ -4,8 +4,8 @@
 //! mark to bytes, which then tell the marks of a top. No text, no path and no list stands there whole, however often it is named. `Found`
 //! keeps numbers that were found before, so that a name is made once and not at each value that means it.
 //!
-//! Laws: `word_laws`, that two tops are told alike exactly if language, name list and bare tree are the same; `show_laws`, that the nodes
-//! which are made from labels that do so are those of the tops.
+//! Laws: `word_laws`, that two tops are told alike exactly if language, name list and bare tree are the same; `show_laws`, that such
+//! labels show the nodes of tops.
 //!
 //! Read first: `marks_of` (`specs/Marks.antt`), `WordLaw` (`specs/Told.antt`).
 #![tactic(auto)]

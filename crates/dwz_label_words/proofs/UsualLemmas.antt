@@ -5,12 +5,19 @@ use Rattle.std.specs.Prelude.{if◌then◌else◌, nat_lt}
 use Rattle.dwz_def_reading.specs.Classes.{Class, OfAddress, OfBlock, OfCommonEntry, OfCommonText, OfConstant, OfExpression, OfFlag, OfIndex, OfInfoEntry, OfListIndex, OfOffset}
 use Rattle.dwz_def_reading.specs.Classes.{OfSignature, OfText, OfTextBySlot, OfTextInLineStr, OfTextInStr, OfUnitEntry, Unread, class_of, names_file, names_list}
 use Rattle.dwz_def_reading.specs.declared.exprs.Operand.{Operand}
-use Rattle.dwz_def_reading.specs.Documents.{Sec, Value, only}
+use Rattle.dwz_def_reading.specs.Documents.{Attr, Node, Sec, Value, only}
 use Rattle.dwz_def_reading.specs.Entries.{RawAttr}
 use Rattle.dwz_def_reading.specs.Exprs.{Expression, expr_at, parts_from, parts_of}
 use Rattle.dwz_def_reading.specs.Faults.{info_fault}
+use Rattle.dwz_def_reading.specs.Lists.{Each}
+use Rattle.dwz_def_reading.specs.Meanings.{without_siblings}
+use Rattle.dwz_graph.specs.Rows.{RowsMean}
+use Rattle.dwz_graph.proofs.TreeLemmas.{node_attrs}
+use Rattle.dwz_label_words.specs.Told.{AreUsual, IsUsual}
+use Rattle.dwz_label_words.specs.Usual.{AreFree}
+use Rattle.dwz_unit.specs.Rows.{EntryRow}
 use Rattle.dwz_def_reading.specs.Meanings.{MeaningContext, block_begins, bytes_of, constant_value, expr_context, expr_value, loc_value, loclists_base, offset_of, stmt_list, targets}
-use Rattle.dwz_def_reading.specs.Meant.{as_class, expr_said, file_by, list_by, list_from, list_meaning, list_read, loc_said, meaning}
+use Rattle.dwz_def_reading.specs.Meant.{as_class, expr_said, file_by, list_by, list_from, list_meaning, list_read, loc_said, meaning, attr_with, attrs_meaning, with_attr}
 use Rattle.dwz_def_reading.specs.Reading.{◌>>=◌}
 use Rattle.dwz_def_reading.specs.Shared.{operands_of}
 use Rattle.dwz_def_reading.specs.Texts.{slot, text_at}
@@ -126,3 +133,25 @@ by_class Unread s a v none free h = absurd cc
 pub usual_value : (s : MeaningContext ℕ) (a : RawAttr) (v : Value ℕ) → s.around.common ≡ None → meaning s a ≡ Ok v → has_operand v.plain ≡ false → IsUsualValue v
 unfolding meaning
 usual_value s a v none e free = by_class (class_of a.pair.form) s a v none free e
+
+-- ---- entries
+
+usual_attrs : (s : MeaningContext ℕ) (values : List RawAttr) (attrs : List (Attr ℕ)) → s.around.common ≡ None → attrs_meaning s values ≡ Ok attrs
+    → Each (λ a. has_operand a.value.plain ≡ false) attrs → Each IsUsual attrs
+unfolding attrs_meaning
+usual_attrs s [] attrs none e free = let z : [] ≡ attrs = cc in subst (λ (w : List (Attr ℕ)). Each IsUsual w) z tt
+usual_attrs s (a ∷ values) attrs none e free =
+    let x = bind_ok (meaning s a) (λ v. attrs_meaning s values >>= with_attr a v) attrs e in
+    let y = bind_ok (attrs_meaning s values) (with_attr a x.0) attrs x.2 in
+    let z : attr_with a x.0 ∷ y.0 ≡ attrs = cc in
+    let each = subst (λ (w : List (Attr ℕ)). Each (λ b. has_operand b.value.plain ≡ false) w) (sym z) free in
+    let first = usual_value s a x.0 none x.1 each.0 in
+    let rest = usual_attrs s values y.0 none y.1 each.1 in
+    subst (λ (w : List (Attr ℕ)). Each IsUsual w) z (first, rest)
+
+pub usual_rows : (s : MeaningContext ℕ) (rows : List EntryRow) (ds : List (Node ℕ)) → s.around.common ≡ None → RowsMean s rows ds → Each AreFree ds → Each AreUsual ds
+usual_rows s [] [] none m free = tt
+usual_rows s [] (d ∷ ds) none m free = absurd m
+usual_rows s (row ∷ rows) [] none m free = absurd m
+usual_rows s (row ∷ rows) (d ∷ ds) none m free =
+    (usual_attrs s (without_siblings row.entry.attrs) d.attrs none (node_attrs s row.entry d m.0).0 free.0, usual_rows s rows ds none m.1 free.1)

@@ -49,7 +49,8 @@ fn put_named_num(
     value: i128,
 ) -> Result<(), NoMemory>
     ensures stays { OnOk result (StaysNamed names.old names.new) }
-    ensures told { OnOk result (direct (Num width value) ≡ None → Adds names.new.names (plain_mark (Num width value) ∷ []) out.old.items out.new.items) }
+    ensures told { OnOk result (direct (Num width value) ≡ None
+        → Adds names.new.names (plain_mark (Num width value) ∷ []) out.old.items out.new.items) }
 {
     made.clear();
     put_num(made, width, value)?;

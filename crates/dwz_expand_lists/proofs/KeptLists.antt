@@ -14,6 +14,7 @@ use Rattle.dwz_unit.specs.declared.mode.FileKind.TheVariants.{Back}
 use Rattle.dwz_unit.specs.Rows.{units_of}
 use Rattle.dwz_graph.specs.declared.file.File.{File}
 use Rattle.dwz_graph.specs.ByRule.{AreReadAs, IsReadBy, numbered_rule}
+use Rattle.dwz_graph.specs.Surroundings.{sources_view}
 use Rattle.dwz_graph.specs.Files.{AreBack, FilesRead, HasCommon}
 use Rattle.dwz_graph_resolve.specs.ListRows.{operand_view}
 use Rattle.dwz_expand_sections.specs.ListLaws.{AreListed}
@@ -39,11 +40,12 @@ module _ (rule : ReadingRule ℕ) (k : FileKind) (l : Limits) (n : ℕ) (first :
       lists_mapped (rule.around first (units_of own.units)) (around f 0) mine places f.file.raw
       ∙ ap (λ (us : List RawUnit). lists_of_units (rule.around first (units_of own.units)) us) raw
 
-  listed : AreListed f own.resolved.operands.items × (own.sections.lists.now ≡ (sources_of f.file.bytes).lists)
+  listed : AreListed f own.resolved.operands.items × (own.sections.lists.now ≡ (sources_of f.file.bytes).lists) × (sources_view own.sections ≡ sources_of f.file.bytes)
   listed = (
     subst (λ (us : List RawUnit). AreRows (lists_of_units (around f 0) f.file.raw) (map (operand_view us) own.resolved.operands.items)) (sym raw)
         (subst (λ (ls : List NamedList). AreRows ls (map (operand_view (units_of own.units)) own.resolved.operands.items)) (sym same_lists) is.operands),
     ap (λ s. s.lists) is.sections ∙ ap (λ (b : List ℕ). (sources_of b).lists) content,
+    is.sections ∙ ap sources_of content,
   )
 
 -- ---- of a graph
@@ -67,9 +69,9 @@ head_is x y e = ap (λ (xs : List (List ℕ)). get_or xs 0 x) e
 
 module _ (o : Option (List ℕ)) (first : List ℕ) (files : List File) (own : File) (is : own ≡ get_or files 0 own) (f : OneFile) (content : first ≡ f.file.bytes)
     (raw : f.file.raw ≡ units_of own.units) where
-  back_lists : AreBack o (first ∷ []) files → AreListed f own.resolved.operands.items × (own.sections.lists.now ≡ (sources_of f.file.bytes).lists)
+  back_lists : AreBack o (first ∷ []) files → AreListed f own.resolved.operands.items × (own.sections.lists.now ≡ (sources_of f.file.bytes).lists) × (sources_view own.sections ≡ sources_of f.file.bytes)
   back_lists = case-back o where
-    case-back : (o : Option (List ℕ)) → AreBack o (first ∷ []) files → AreListed f own.resolved.operands.items × (own.sections.lists.now ≡ (sources_of f.file.bytes).lists)
+    case-back : (o : Option (List ℕ)) → AreBack o (first ∷ []) files → AreListed f own.resolved.operands.items × (own.sections.lists.now ≡ (sources_of f.file.bytes).lists) × (sources_view own.sections ≡ sources_of f.file.bytes)
     case-back None h =
         let rule = numbered_rule (rule_of_back None 0) in
         let p = one_read (IsReadBy rule (Back false)) no_files_before first files h.end h.are in
@@ -85,6 +87,6 @@ module _ (o : Option (List ℕ)) (first : List ℕ) (files : List File) (own : F
 pub kept_lists : (r : FilesRead) (files : List File) (own : File) (common : Option File) → length r.back ≡ 1
     → HasCommon (length r.given + length r.back) r.common common → AreBack r.common r.back files → own ≡ get_or files 0 own
     → (f : OneFile) → r.back ≡ f.file.bytes ∷ [] → f.file.raw ≡ units_of own.units
-    → AreListed f own.resolved.operands.items × (own.sections.lists.now ≡ (sources_of f.file.bytes).lists)
+    → AreListed f own.resolved.operands.items × (own.sections.lists.now ≡ (sources_of f.file.bytes).lists) × (sources_view own.sections ≡ sources_of f.file.bytes)
 kept_lists r files own common long has h is f content raw =
     back_lists r.common f.file.bytes files own is f refl raw (subst (λ (xs : List (List ℕ)). AreBack r.common xs files) content h)

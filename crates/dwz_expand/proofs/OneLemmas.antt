@@ -5,6 +5,7 @@ use Rattle.dwz_model.specs.declared.fault.GraphErr.TheVariants.{NoMemory, Refuse
 use Rattle.dwz_model.specs.declared.sections.Sections.{Sections}
 use Rattle.dwz_def_reading.specs.Files.{sources_of}
 use Rattle.dwz_graph.specs.declared.file.File.{File}
+use Rattle.dwz_graph.specs.Resolved.{sources_view}
 use Rattle.dwz_graph.specs.Files.{AreBack, FilesRead}
 use Rattle.dwz_expand_sections.specs.ListLaws.{AreListed}
 use Rattle.dwz_expand_known.specs.declared.files.SourceFiles.{SourceFiles}
@@ -24,8 +25,9 @@ module _ (r : FilesRead) (own : File) (common : Option File) (s : SourceFiles) (
   is_one = record { reads = k.reads; content = k.content; common = k.common }
 
   -- what is kept of its own file, with its location lists
-  pub file_kept : AreListed k.f own.resolved.operands.items × (own.sections.lists.now ≡ (sources_of k.f.file.bytes).lists) → IsFileOf k.f own
-  file_kept h = record { reads = k.reads; raw = k.raw; aranges = k.aranges; lists = h.1; listed = h.0 }
+  pub file_kept : AreListed k.f own.resolved.operands.items × (own.sections.lists.now ≡ (sources_of k.f.file.bytes).lists)
+      × (sources_view own.sections ≡ sources_of k.f.file.bytes) → IsFileOf k.f own
+  file_kept h = record { reads = k.reads; raw = k.raw; aranges = k.aranges; lists = h.1; sources = h.2; listed = h.0 }
 
   -- refused with the first value that can't be copied
   pub refused_too : (e : GraphErr) → AnswersSites {Y = Unit {0}} k.f (Err e) → AnswersExpand r (Err e)

@@ -10,6 +10,7 @@ use Rattle.dwz_def_expand.specs.OneFile.{OneFile, ReadsOne}
 use Rattle.dwz_def_expand.specs.Output.{ExpandRefusal, new_sections}
 use Rattle.dwz_graph.specs.declared.file.File.{File}
 use Rattle.dwz_graph.specs.Files.{FilesRead}
+use Rattle.dwz_graph.specs.Resolved.{sources_view}
 use Rattle.dwz_unit.specs.Rows.{units_of}
 use Rattle.dwz_expand_sections.specs.ListLaws.{AreListed}
 use Rattle.dwz_expand_sections.specs.Refusals.{SizeRefusal}
@@ -34,6 +35,7 @@ pub record IsFileOf (f : OneFile) (own : File) : Type 0 where
   pub raw : f.file.raw ≡ units_of own.units
   pub aranges : own.sections.aranges.now ≡ debug_aranges f.file.bytes
   pub lists : own.sections.lists.now ≡ (sources_of f.file.bytes).lists
+  pub sources : sources_view own.sections ≡ sources_of f.file.bytes
   pub listed : AreListed f own.resolved.operands.items
 
 -- of a file whose values can all be copied: no number and no section is too large, and these are its new sections; or it is refused with the

@@ -99,6 +99,7 @@ fn places_of(
 /// The new sections of a file of which this is kept, and each value of which can be copied. Refused with the first number or section that is
 /// too large.
 pub(crate) fn sections_of(own: &File, file: &NewFile) -> Result<Sections, GraphErr>
+    requires sections { file.now.own.sections.now ≡ own.now.sections }
     requires file { (f : OneFile) × IsFileOf f own.now × IsOfOne f file.now × CanBeCopied f }
     ensures { (f : OneFile) → IsFileOf f own.now → IsOfOne f file.now → CanBeCopied f → AnswersSizes f result }
 {

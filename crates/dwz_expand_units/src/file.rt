@@ -5,7 +5,7 @@ ghost use Rattle.dwz_expand_known.specs.Plans.{IsPlanOf};
 ghost use Rattle.dwz_expand_units.specs.Units.{IsOfOne};
 ghost use Rattle.dwz_graph.specs.declared.file.File.{File};
 ghost use Rattle.dwz_graph.specs.Files.{FilesRead, HasCommon};
-ghost use Rattle.std.specs.Prelude.{ℕ, Option};
+ghost use Rattle.std.specs.Prelude.{◌≡◌, ℕ, Option};
 
 use dwz_expand_known::{Plan, SourceFiles, known_laws};
 use dwz_expand_passes::NewFile;
@@ -18,7 +18,8 @@ pub fn new_file<'s, 'a>(
     files: &SourceFiles<'s, 'a>,
     plan: &'s Plan,
 ) -> NewFile<'s, 'a>
-    ensures { (r : FilesRead) (number : ℕ) (own : File) (common : Option File) (k : IsOneKnown r own common files.now)
+    ensures own { result.own ≡ files.now.own }
+    ensures of { (r : FilesRead) (number : ℕ) (own : File) (common : Option File) (k : IsOneKnown r own common files.now)
         → IsPlanOf files.now k.w plan.now → HasCommon number r.common common → AreSourceFiles own common files.now → IsOfOne k.f result }
 {
     known_laws();

@@ -5,8 +5,7 @@ ghost use Rattle.dwz_expand.specs.Expanded.{AnswersExpand};
 
 use crate::sections::sections_of;
 use dwz_expand_known::{Plan, SourceFiles, UnitHeres, first_refusal, known_laws};
-use dwz_expand_lists::listed_laws;
-use dwz_expand_units::new_file;
+use dwz_expand_units::{listed_laws, new_file};
 use dwz_graph::Graph;
 use dwz_model::{GraphErr, Sections};
 use std::alloc::Global;

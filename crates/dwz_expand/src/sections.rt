@@ -14,11 +14,9 @@ ghost use Rattle.dwz_expand_units.specs.Units.{CanBeCopied, IsLaidOf, IsOfOne};
 use crate::ranges::ranges_written;
 use crate::sizes::sizes_refused;
 use dwz_expand_layout::NewLayout;
-use dwz_expand_lists::list_numbers;
-use dwz_expand_operands::first_narrow_copied;
 use dwz_expand_passes::NewFile;
 use dwz_expand_sections::{NarrowPlaces, first_listed, list_laws, lists_after, number_laws};
-use dwz_expand_units::{laid, units_written};
+use dwz_expand_units::{first_narrow_copied, laid, list_numbers, units_written};
 use dwz_graph::File;
 use dwz_model::{Blob, GraphErr, NoMemory, Sections};
 

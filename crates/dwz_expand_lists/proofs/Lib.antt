@@ -1,9 +1,0 @@
-pub mod AllTold
-pub mod CanRead
-pub mod KeptLists
-pub mod KeptTargets
-pub mod ListOperands
-pub mod OperandCopies
-pub mod OwnRows
-pub mod ToldSteps
-pub mod WalkSteps

@@ -1,6 +1,0 @@
-pub mod MayLemmas
-pub mod SiteUnits
-pub mod ListsThere
-pub mod PlaceNumbers
-pub mod RowLemmas
-pub mod GiveLemmas

@@ -1,0 +1,2 @@
+mod OneJob
+mod AllJobs

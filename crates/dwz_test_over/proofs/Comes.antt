@@ -27,6 +27,7 @@ options = record {
   demo = None;
   explain = false;
   check = false;
+  expand = false;
   sup = None;
 }
 

@@ -1,1 +1,10 @@
+pub mod OneKnown
+pub mod Plans
+pub mod Units
+pub mod Told
+pub mod Listed
+pub mod Rows
+pub mod Gathered
+pub mod Kept
+pub mod Walked
 pub mod Expanded

@@ -3,9 +3,12 @@
 ghost use Rattle.std.specs.Prelude.{◌≡◌, length};
 ghost use Rattle.dwz_expand.specs.Expanded.{AnswersExpand};
 
+use crate::files::{SourceFiles, UnitHeres};
+use crate::laws::{known_laws, listed_laws};
+use crate::new_file::new_file;
+use crate::plan::Plan;
+use crate::refusal::first_refusal;
 use crate::sections::sections_of;
-use dwz_expand_known::{Plan, SourceFiles, UnitHeres, first_refusal, known_laws};
-use dwz_expand_units::{listed_laws, new_file};
 use dwz_graph::Graph;
 use dwz_model::{GraphErr, Sections};
 use std::alloc::Global;

@@ -9,14 +9,16 @@ ghost use Rattle.dwz_expand.specs.Expanded.{AnswersSizes, IsFileOf};
 ghost use Rattle.dwz_expand_layout.specs.Laid.{layout_view};
 ghost use Rattle.dwz_expand_sections.specs.Lists.{HasNumbers};
 ghost use Rattle.dwz_expand_sections.specs.Refusals.{HavePlaces};
-ghost use Rattle.dwz_expand_units.specs.Units.{CanBeCopied, IsLaidOf, IsOfOne};
+ghost use Rattle.dwz_expand.specs.Units.{CanBeCopied, IsLaidOf, IsOfOne};
 
+use crate::narrow::first_narrow_copied;
+use crate::numbers::list_numbers;
 use crate::ranges::ranges_written;
 use crate::sizes::sizes_refused;
+use crate::units::{laid, units_written};
 use dwz_expand_layout::NewLayout;
 use dwz_expand_passes::NewFile;
 use dwz_expand_sections::{NarrowPlaces, first_listed, list_laws, lists_after, number_laws};
-use dwz_expand_units::{first_narrow_copied, laid, list_numbers, units_written};
 use dwz_graph::File;
 use dwz_model::{Blob, GraphErr, NoMemory, Sections};
 

@@ -1,7 +1,7 @@
 use Rattle.std.proofs.Common.{ap, arith, ◌∙◌}
 use Rattle.std.proofs.lemmas.Result.{err_from_is_err_and}
 use Rattle.std.specs.Option.{option_map}
-use Rattle.dwz_expand.proofs.OneLemmas.{answered, file_kept, one_there, refused_too}
+use Rattle.dwz_expand.proofs.OneAnswers.{answered, file_kept, one_there, refused_too}
 use Rattle.dwz_expand.proofs.graph.expand.Goals as goal
 
 pub bounds-back-0 : goal.bounds-back-0

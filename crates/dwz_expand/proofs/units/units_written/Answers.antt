@@ -1,0 +1,18 @@
+use Rattle.std.proofs.Common.{◌∙◌, ap}
+use Rattle.dwz_expand.specs.OneKnown.{stands_of}
+use Rattle.dwz_expand_layout.specs.Laid.{Made}
+use Rattle.dwz_expand_layout.specs.Written.{written}
+use Rattle.dwz_expand.proofs.OneKept.{never, refused_so}
+use Rattle.dwz_expand.proofs.units.units_written.Goals as goal
+
+pub unreachable-requires : goal.unreachable-requires
+unreachable-requires c =
+    let f = c.requires.copied.0 in
+    let k = c.requires.copied.1 in
+    never c.fault_laws.ensures.faults c.fault_laws.ensures.files f c.args.file.now k c.requires.copied.2 c.in-Err-Refused.field-0-0
+    (refused_so c.args.file.now c.write.result c.in-Err-Refused.field-0 c.in-Err-Refused.field-0-0 c.in-Err-Refused.is c.in-Err-Refused.field-0-is c.write.ensures.refused k.w
+    (stands_of f k.place) k.says)
+
+pub returns-in-Ok : goal.returns-in-Ok
+returns-in-Ok c = λ f k l.
+    c.in-Ok.ensures.one l.order k.w (stands_of f k.place) l.new k.says ∙ (ap (λ (m : Made). written m l.order) l.is ∙ l.file.info)

@@ -1,2 +1,0 @@
-pub mod OneKnown
-pub mod Plans

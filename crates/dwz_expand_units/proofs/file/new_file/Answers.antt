@@ -1,6 +1,0 @@
-use Rattle.dwz_expand_units.proofs.OneLemmas.{of_one}
-use Rattle.dwz_expand_units.proofs.file.new_file.Goals as goal
-
-pub returns-clause-of : goal.returns-clause-of
-returns-clause-of c = λ r number own common k p has kept.
-    of_one c.known_laws.ensures.keys c.placed_laws.ensures.common r number own common _ k p.sources p.units p.all has kept

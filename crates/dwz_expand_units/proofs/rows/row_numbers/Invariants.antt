@@ -1,6 +1,0 @@
-use Rattle.std.proofs.Common.{take}
-use Rattle.dwz_expand_units.specs.Rows.{AreNumbered}
-use Rattle.dwz_expand_units.proofs.rows.row_numbers.Given as goal
-
-abbrev pub invariant-loop-operand : goal.invariant-loop-operand
-invariant-loop-operand l = AreNumbered l.operands (take l.operand-index l.told) l.numbers.items

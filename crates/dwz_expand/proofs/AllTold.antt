@@ -24,7 +24,7 @@ use Rattle.dwz_expand_layout.specs.Laid.{Made}
 use Rattle.dwz_expand_values.specs.Files.{raw_in}
 use Rattle.dwz_expand_sections.specs.Narrow.{operand_after}
 use Rattle.dwz_expand.proofs.SameScope.{list_same}
-use Rattle.dwz_law_faults.proofs.FaultMaps.{site_map, sites_mapped}
+use Rattle.dwz_expand.proofs.FaultMaps.{site_map, sites_mapped}
 use Rattle.dwz_expand_passes.specs.Noted.{plan_sources}
 use Rattle.dwz_expand_passes.specs.declared.file.NewFile.{NewFile}
 use Rattle.dwz_expand.proofs.PlanSites.{planned_line, planned_site, site_planned}

@@ -36,3 +36,5 @@ pub mod WalkSteps
 pub mod OneAnswers
 pub mod RangeSteps
 pub mod SectionsMade
+pub mod FaultMaps
+pub mod FileNumbers

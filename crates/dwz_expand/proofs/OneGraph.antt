@@ -39,7 +39,7 @@ use Rattle.dwz_expand_copies.proofs.ForLemmas.{tests}
 use Rattle.dwz_expand_values.specs.declared.files.SourceFile.{SourceFile}
 use Rattle.dwz_expand_values.specs.Files.{around_beside, common_of, raw_in}
 use Rattle.dwz_expand_values.proofs.PlacesSaid.{said_many, units_joined, units_mapped, units_mean}
-use Rattle.dwz_law_faults.specs.Refused.{StandForPlaces}
+use Rattle.dwz_expand.specs.Refused.{StandForPlaces}
 use Rattle.dwz_law_places.specs.Renamed.{SameChoice, renamed}
 use Rattle.dwz_law_places.proofs.RenamedLemmas.{tests_agree}
 use Rattle.dwz_expand.specs.OneKnown.{IsCommonOf, IsOneKnown, IsSourceOf, OneKnownLaw, stands_of, strs_beside}

@@ -36,7 +36,7 @@ use Rattle.dwz_expand_sources.specs.Sources.{AreSources, Sources, all_entries}
 use Rattle.dwz_expand_values.specs.Faults.{KnowsBoth, count_in, file_number}
 use Rattle.dwz_law_places.proofs.SourceMaps.{whole_mapped}
 use Rattle.dwz_law_places.specs.Renamed.{copy_map, renamed}
-use Rattle.dwz_law_faults.specs.Refused.{FaultLaw, NumbersLaw}
+use Rattle.dwz_expand.specs.Refused.{FaultLaw, NumbersLaw}
 use Rattle.dwz_law_sources.specs.Copied.{HaveCopies}
 use Rattle.dwz_law_sources.specs.Numbered.{key_in}
 use Rattle.dwz_law_sources.specs.OfFile.{FileLaw}

@@ -12,8 +12,8 @@ use Rattle.dwz_graph.specs.Files.{FilesRead}
 use Rattle.dwz_graph.specs.Surroundings.{sources_view}
 use Rattle.dwz_imports.specs.Imports.{same}
 use Rattle.dwz_expand_values.specs.Faults.{FirstRefusalIs, ValueRefusal, file_number}
-use Rattle.dwz_law_faults.proofs.FaultMaps.{fault_law}
-use Rattle.dwz_law_faults.proofs.FileNumbers.{numbers_law}
+use Rattle.dwz_expand.proofs.FaultMaps.{fault_law}
+use Rattle.dwz_expand.proofs.FileNumbers.{numbers_law}
 use Rattle.dwz_expand.specs.OneKnown.{IsOneKnown, stands_of}
 use Rattle.dwz_expand.specs.Plans.{AnswersSites}
 use Rattle.dwz_expand.specs.declared.files.SourceFiles.{SourceFiles}

@@ -32,7 +32,7 @@ use Rattle.dwz_expand_values.specs.declared.files.SourceFile.{SourceFile}
 use Rattle.dwz_expand_values.specs.Files.{SpeaksAs, around_beside, common_count, common_of, raw_in}
 use Rattle.dwz_expand_sources.specs.Sources.{all_entries}
 use Rattle.dwz_expand_sections.specs.Narrow.{FirstPlace, operand_after}
-use Rattle.dwz_law_faults.proofs.FaultMaps.{site_map, sites_mapped}
+use Rattle.dwz_expand.proofs.FaultMaps.{site_map, sites_mapped}
 use Rattle.dwz_law_sources.specs.Lined.{all_lines}
 use Rattle.dwz_law_sources.specs.Numbered.{key_in}
 use Rattle.dwz_expand_passes.proofs.LineSteps.{node_there}

@@ -8,3 +8,4 @@ pub mod Gathered
 pub mod Kept
 pub mod Walked
 pub mod Expanded
+pub mod Refused

@@ -1,8 +1,9 @@
-//! What a graph of one file is, and what it has kept of the operands of lists.
+//! What a graph of one file is, what it has kept of the operands of lists, and what is the same along a function of places.
 
 ghost use Rattle.dwz_expand.specs.Kept.{KeptListsLaw};
 ghost use Rattle.dwz_expand.specs.OneKnown.{KeysLaw, OneKnownLaw, ReadyLaw};
 ghost use Rattle.dwz_expand.specs.Plans.{NewFileLaw};
+ghost use Rattle.dwz_expand.specs.Refused.{FaultLaw, NumbersLaw};
 
 use dwz_graph::placed_laws;
 
@@ -23,4 +24,11 @@ pub(crate) fn known_laws()
 /// of the lists that its values name, each once and in order of place, and the section.
 pub(crate) fn listed_laws()
     ensures { KeptListsLaw }
+{}
+
+/// The first refusal of the values of a file that is written without its partial units, where numbers stand for places, is the one that the
+/// file has.
+pub(crate) fn fault_laws()
+    ensures faults { FaultLaw }
+    ensures files { NumbersLaw }
 {}

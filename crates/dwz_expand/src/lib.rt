@@ -6,7 +6,9 @@
 //!
 //! What is known: `SourceFiles` is what is kept of the file and of its common one, whose entries are copied. `known_laws` says that a graph
 //! of one file is the file that the definition speaks of, with places: there numbers stand for these. `Plan` has the sources of the new
-//! units and their copies, and `first_refusal` answers the first value that can't be copied, as the definition has it.
+//! units and their copies, and `first_refusal` answers the first value that can't be copied, as the definition has it: code goes over
+//! numbers that stand for places of the file and of its common one, what is promised speaks of places, and the first is the same
+//! (`fault_laws`).
 //!
 //! The new units: `new_file` shows what is kept, with the plan, to the passes; `laid` and `units_written` take these: where the new units
 //! stand, and their bytes. Once they are laid, `first_narrow_copied` takes all of them once more, as they are written, and finds the first
@@ -17,9 +19,9 @@
 //! of the sources name, one after the other, in any order, and hands them to `row_numbers`. `listed_laws` says that what a graph has kept of
 //! its lists is of the file that the definition speaks of.
 //!
-//! Read first: `specs/Expanded.antt`, and `Output.antt` of `dwz_def_expand`; then `specs/OneKnown.antt`, `specs/Plans.antt` and
-//! `specs/Units.antt`. Of operands `AreFirstOf` (`specs/Told.antt`), of lists `specs/Listed.antt` and `specs/Kept.antt`, then
-//! `specs/Gathered.antt` and `specs/Walked.antt`.
+//! Read first: `specs/Expanded.antt`, and `Output.antt` of `dwz_def_expand`; then `specs/OneKnown.antt`, `specs/Refused.antt`,
+//! `specs/Plans.antt` and `specs/Units.antt`. Of operands `AreFirstOf` (`specs/Told.antt`), of lists `specs/Listed.antt` and
+//! `specs/Kept.antt`, then `specs/Gathered.antt` and `specs/Walked.antt`.
 #![tactic(auto)]
 
 mod entry;

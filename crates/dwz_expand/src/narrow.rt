@@ -9,10 +9,10 @@ ghost use Rattle.dwz_expand_passes.specs.Passes.{IsReady, IsRefused};
 ghost use Rattle.dwz_expand_sections.specs.Narrow.{FirstPlace};
 ghost use Rattle.dwz_expand.specs.Units.{CanBeCopied, IsLaidOf, IsOfOne};
 
+use crate::laws::fault_laws;
 use crate::told::{note_all, start_at};
 use dwz_expand_layout::{NewEntry, NewKind, NewLayout};
 use dwz_expand_passes::{NewFile, Pass, pass_units};
-use dwz_law_faults::fault_laws;
 use dwz_model::{NoMemory, ReadErr};
 use std::alloc::AllocError;
 

@@ -6,9 +6,9 @@ ghost use Rattle.dwz_def_expand.specs.Output.{new_sections};
 ghost use Rattle.dwz_expand.specs.Units.{CanBeCopied, IsLaidOf, IsOfOne};
 ghost use Rattle.dwz_expand_layout.specs.Laid.{layout_view};
 
+use crate::laws::fault_laws;
 use dwz_expand_layout::NewLayout;
 use dwz_expand_passes::{NewFile, lay, write};
-use dwz_law_faults::fault_laws;
 use dwz_law_sources::file_laws;
 use dwz_model::{NoMemory, ReadErr};
 use std::alloc::AllocError;

@@ -1,6 +1,6 @@
-use Rattle.dwz_law_faults.proofs.FaultMaps.{fault_law}
-use Rattle.dwz_law_faults.proofs.FileNumbers.{numbers_law}
-use Rattle.dwz_law_faults.proofs.laws.fault_laws.Goals as goal
+use Rattle.dwz_expand.proofs.FaultMaps.{fault_law}
+use Rattle.dwz_expand.proofs.FileNumbers.{numbers_law}
+use Rattle.dwz_expand.proofs.laws.fault_laws.Goals as goal
 
 pub returns-clause-faults : goal.returns-clause-faults
 returns-clause-faults c = λ f place same choice stands file w h files r. fault_law f place same choice stands file w h files r

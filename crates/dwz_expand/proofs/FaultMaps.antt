@@ -18,7 +18,7 @@ use Rattle.dwz_def_reading.specs.Places.{Place}
 use Rattle.dwz_def_reading.specs.Trees.{End, Entry}
 use Rattle.dwz_law_places.specs.Renamed.{SameChoice, renamed}
 use Rattle.dwz_law_places.proofs.SourceMaps.{places_mapped, units_mapped}
-use Rattle.dwz_law_faults.specs.Refused.{NumberRefusal, SameWhere, StandForPlaces}
+use Rattle.dwz_expand.specs.Refused.{NumberRefusal, SameWhere, StandForPlaces}
 
 -- ---- the first of a list
 

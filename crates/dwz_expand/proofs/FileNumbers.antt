@@ -19,7 +19,7 @@ use Rattle.dwz_law_expand.proofs.SiteLemmas.{node_from, node_key, owner_is, owne
 use Rattle.dwz_expand_copies.proofs.ForLemmas.{tests}
 use Rattle.dwz_imports.specs.Imports.{same}
 use Rattle.dwz_expand_values.specs.Faults.{file_number}
-use Rattle.dwz_law_faults.specs.Refused.{InFiles}
+use Rattle.dwz_expand.specs.Refused.{InFiles}
 
 each_key : (P : ℕ → Type 0) (keys : List ℕ) (p : ℕ) → Each P keys → In p keys → P p
 each_key P [] p all there = absurd there

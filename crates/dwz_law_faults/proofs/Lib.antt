@@ -1,2 +1,0 @@
-pub mod FaultMaps
-pub mod FileNumbers

@@ -20,9 +20,9 @@ use Rattle.dwz_expand_sources.specs.Sources.{AreSources, IsRange, Sources, all_e
 use Rattle.dwz_expand_walk.proofs.GotLemmas.{sources_got}
 use Rattle.dwz_expand_walk.specs.Walk.{sources_of}
 use Rattle.dwz_imports.specs.Imports.{same}
-use Rattle.dwz_law_sources.proofs.LineLemmas.{all_nodes, listed_node, node_of}
-use Rattle.dwz_law_sources.proofs.StandLemmas.{lines_law}
-use Rattle.dwz_law_sources.specs.Lined.{StandsAs, all_lines}
+use Rattle.dwz_law_copies.proofs.LineLemmas.{all_nodes, listed_node, node_of}
+use Rattle.dwz_law_copies.proofs.StandLemmas.{lines_law}
+use Rattle.dwz_law_copies.specs.Lined.{StandsAs, all_lines}
 
 -- ---- values of entries
 

@@ -3,7 +3,7 @@
 //!
 //! Both take the same way, over all new units and the entries of each, which are the copies of the sources in a plan, and hand each entry
 //! to a `Pass`. So they refuse alike: at the first value that can't be copied. What is laid and what is written is one row of new units, the
-//! only one that has the copies of the plan's sources: so `dwz_law_sources` says of it that it is the new file.
+//! only one that has the copies of the plan's sources: so `dwz_law_copies` says of it that it is the new file.
 //!
 //! Another `Pass` may take the same way by `pass_units`: it is told the operands of the expressions of each copied entry, in order.
 //!

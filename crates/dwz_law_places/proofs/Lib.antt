@@ -1,4 +1,0 @@
-pub mod SourceMaps
-pub mod UnitMaps
-pub mod ByteMaps
-pub mod RenamedLemmas

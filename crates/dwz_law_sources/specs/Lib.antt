@@ -1,4 +1,0 @@
-pub mod Lined
-pub mod Numbered
-pub mod Copied
-pub mod OfFile

@@ -17,8 +17,8 @@ use Rattle.dwz_expand_passes.specs.Noted.{plan_sources}
 use Rattle.dwz_expand_sources.specs.declared.sources.NewUnit.{NewUnit}
 use Rattle.dwz_expand_sources.specs.declared.sources.SourceRange.{SourceRange}
 use Rattle.dwz_expand_sources.specs.Sources.{AreSources, IsRange, Sources, all_entries, ranges_of}
-use Rattle.dwz_expand_walk.proofs.GotLemmas.{sources_got}
-use Rattle.dwz_expand_walk.specs.Walk.{sources_of}
+use Rattle.dwz_expand_sources.proofs.GotLemmas.{sources_got}
+use Rattle.dwz_expand_sources.specs.Walk.{sources_of}
 use Rattle.dwz_imports.specs.Imports.{same}
 use Rattle.dwz_law_copies.proofs.LineLemmas.{all_nodes, listed_node, node_of}
 use Rattle.dwz_law_copies.proofs.StandLemmas.{lines_law}

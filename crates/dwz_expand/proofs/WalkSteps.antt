@@ -10,7 +10,7 @@ use Rattle.dwz_def_expand.specs.OneFile.{OneFile}
 use Rattle.dwz_expand_sources.specs.declared.sources.NewUnit.{NewUnit}
 use Rattle.dwz_expand_sources.specs.declared.sources.SourceRange.{SourceRange}
 use Rattle.dwz_expand_values.proofs.OperandLemmas.{long_take, take_one, take_whole}
-use Rattle.dwz_expand_walk.specs.Walk.{sources_of}
+use Rattle.dwz_expand_sources.specs.Walk.{sources_of}
 use Rattle.dwz_expand_passes.specs.Noted.{plan_sources}
 use Rattle.dwz_expand_passes.specs.declared.file.NewFile.{NewFile}
 use Rattle.dwz_expand.specs.Walked.{told_by, told_of}

@@ -14,7 +14,7 @@ ghost use Rattle.dwz_expand_sources.specs.Numbers.{root_numbers};
 ghost use Rattle.dwz_expand_sources.specs.declared.sources.NewUnit.{NewUnit};
 ghost use Rattle.dwz_expand.specs.Units.{CanBeCopied};
 ghost use Rattle.dwz_expand_values.specs.Files.{common_count};
-ghost use Rattle.dwz_expand_walk.specs.Walk.{sources_of};
+ghost use Rattle.dwz_expand_sources.specs.Walk.{sources_of};
 
 use crate::entry::{AtUnit, put_values};
 use crate::rows::row_numbers;
@@ -22,9 +22,8 @@ use dwz_def_reading::Operand;
 use dwz_expand_copies::Copies;
 use dwz_expand_layout::NewLayout;
 use dwz_expand_passes::NewFile;
-use dwz_expand_sources::CopyNumbers;
+use dwz_expand_sources::{CopyNumbers, SourceWalk};
 use dwz_expand_values::SourceFile;
-use dwz_expand_walk::SourceWalk;
 use dwz_graph_resolve::ListOperand;
 use dwz_model::NoMemory;
 

@@ -13,7 +13,7 @@ use Rattle.dwz_def_reading.specs.Units.{entries_in}
 use Rattle.dwz_expand_values.specs.Files.{SpeaksEntry, raw_in}
 use Rattle.dwz_expand_values.specs.declared.files.Known.{Known}
 use Rattle.dwz_expand_values.specs.declared.files.SourceFile.{SourceFile}
-use Rattle.dwz_expand_walk.specs.Walk.{sources_of}
+use Rattle.dwz_expand_sources.specs.Walk.{sources_of}
 use Rattle.dwz_expand_passes.specs.Noted.{AreNoted, AreNotedOf, IsNoted, IsNotedAt, Noted, plan_sources}
 use Rattle.dwz_expand_passes.specs.Passes.{Says}
 use Rattle.dwz_expand_passes.specs.Steps.{KnowsHere, NotedTo, rest_of}

@@ -36,8 +36,8 @@ use Rattle.dwz_expand_values.specs.declared.files.SourceFile.{SourceFile}
 use Rattle.dwz_expand_values.specs.declared.paths.TablePaths.{TablePaths}
 use Rattle.dwz_expand_values.specs.Paths.{IsPathsOf}
 use Rattle.dwz_expand_values.specs.declared.files.Known.{Known}
-use Rattle.dwz_expand_walk.proofs.GotLemmas.{each_there, sources_got}
-use Rattle.dwz_expand_walk.specs.Walk.{sources_of}
+use Rattle.dwz_expand_sources.proofs.GotLemmas.{each_there, sources_got}
+use Rattle.dwz_expand_sources.specs.Walk.{sources_of}
 use Rattle.dwz_expand_passes.specs.Passes.{IsPlanned, Says, entry_many, forms_in}
 use Rattle.dwz_expand_passes.specs.Steps.{AreCopied, IsCopied, KnowsHere, RefusesIn, RefusesLines, a_unit}
 use Rattle.dwz_expand_passes.specs.Units.{IsNewOf, RefusesAt, RefusesUnit}

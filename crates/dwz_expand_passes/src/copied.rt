@@ -15,8 +15,8 @@ ghost use Rattle.dwz_model.specs.Lists.{Each};
 
 use crate::heads::{Head, head_of};
 use dwz_expand_layout::{NewAttr, NewEntry, NewOperand};
+use dwz_expand_sources::SourceWalk;
 use dwz_expand_values::{Known, put_attrs};
-use dwz_expand_walk::SourceWalk;
 use dwz_expr::Operand;
 use dwz_model::ReadErr;
 use std::alloc::Global;

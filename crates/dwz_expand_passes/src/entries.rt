@@ -13,8 +13,8 @@ ghost use Rattle.dwz_model.specs.Lists.{Each};
 
 use crate::copied::{CopiedEntry, next_source};
 use crate::pass::Pass;
+use dwz_expand_sources::SourceWalk;
 use dwz_expand_values::Known;
-use dwz_expand_walk::SourceWalk;
 use dwz_model::ReadErr;
 
 // Whether an entry is one of the common file: those have the numbers behind the file's own.

@@ -15,7 +15,7 @@ ghost use Rattle.dwz_expand_passes.specs.Tables.{IsTableOf};
 ghost use Rattle.dwz_expand_passes.specs.Units.{IsNewOf, RefusesAt};
 ghost use Rattle.dwz_expand_sources.specs.Numbers.{HasRanges, root_numbers};
 ghost use Rattle.dwz_expand_sources.specs.declared.sources.NewUnit.{NewUnit as UnitInPlan};
-ghost use Rattle.dwz_expand_walk.specs.Walk.{sources_of};
+ghost use Rattle.dwz_expand_sources.specs.Walk.{sources_of};
 ghost use Rattle.dwz_expand_values.specs.Files.{IsKnownReady, common_count, entry_count};
 ghost use Rattle.dwz_law_copies.specs.Copied.{named_copy};
 ghost use Rattle.dwz_law_copies.specs.Numbered.{key_in};
@@ -29,9 +29,8 @@ use crate::pass::Pass;
 use crate::tables::LastTable;
 use dwz_expand_copies::Copies;
 use dwz_expand_layout::NewKind;
-use dwz_expand_sources::{CopyNumbers, NewUnit};
+use dwz_expand_sources::{CopyNumbers, NewUnit, SourceWalk};
 use dwz_expand_values::{Known, SourceFile};
-use dwz_expand_walk::SourceWalk;
 use dwz_model::{NoMemory, ReadErr};
 
 // Takes a new unit, of a kind, where that is known of both files.

@@ -8,3 +8,5 @@ pub mod ListSaid
 pub mod UnitSaid
 pub mod PlanSaid
 pub mod NumberSteps
+pub mod WalkLemmas
+pub mod GotLemmas

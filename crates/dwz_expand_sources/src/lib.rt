@@ -10,7 +10,10 @@
 //! `CopyNumbers` has the number that the root of each new unit and the first copy of each range have among all entries of the new file, by
 //! sums.
 //!
-//! Read first: `specs/Sources.antt`, `specs/Numbers.antt`, and `specs/Source.antt` of `dwz_def_expand`.
+//! `SourceWalk` gives the sources of a new unit one by one, for passes over the entries that are written without partial units: their
+//! numbers, from that of the root on, those of the file itself, and behind them those of the common file.
+//!
+//! Read first: `specs/Sources.antt`, `specs/Numbers.antt`, `specs/Walk.antt`, and `specs/Source.antt` of `dwz_def_expand`.
 #![tactic(auto)]
 
 mod building;
@@ -18,7 +21,9 @@ mod numbers;
 mod plan;
 mod sources;
 mod spans;
+mod walk;
 
 pub use numbers::CopyNumbers;
 pub use plan::sources_of;
 pub use sources::{NewUnit, SourceRange, Sources};
+pub use walk::SourceWalk;

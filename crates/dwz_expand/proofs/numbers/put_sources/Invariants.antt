@@ -3,7 +3,7 @@ use Rattle.dwz_def_expand.specs.OneFile.{OneFile}
 use Rattle.dwz_expand_layout.specs.Laid.{layout_view}
 use Rattle.dwz_expand.specs.Walked.{HasLists, told_of}
 use Rattle.dwz_expand_sources.specs.declared.sources.NewUnit.{NewUnit}
-use Rattle.dwz_expand_walk.specs.Walk.{sources_of}
+use Rattle.dwz_expand_sources.specs.Walk.{sources_of}
 use Rattle.dwz_expand.proofs.numbers.put_sources.Given as goal
 
 abbrev pub invariant-loop-i : goal.invariant-loop-i

@@ -8,7 +8,7 @@ use Rattle.dwz_expand_passes.proofs.SaidLemmas.{all_many}
 use Rattle.dwz_expand_passes.proofs.UnitLemmas.{got_item, knows_here, paths_told, planned_unit}
 use Rattle.dwz_expand_passes.specs.Noted.{AreNotedOf}
 use Rattle.dwz_expand_passes.specs.Passes.{Says}
-use Rattle.dwz_expand_walk.specs.Walk.{sources_of}
+use Rattle.dwz_expand_sources.specs.Walk.{sources_of}
 use Rattle.dwz_model.proofs.ListFacts.{same_got}
 use Rattle.std.proofs.lemmas.Result.{on_ok_weaker}
 use Rattle.dwz_expand_passes.proofs.units.pass_here.Goals as goal

@@ -3,7 +3,7 @@ use Rattle.std.proofs.lemmas.Result.{err_from_is_err_and}
 use Rattle.dwz_model.specs.Lists.{Each}
 use Rattle.dwz_expand_layout.specs.Depths.{with_ends}
 use Rattle.dwz_expand_passes.specs.Passes.{entry_many}
-use Rattle.dwz_expand_walk.specs.Walk.{sources_of}
+use Rattle.dwz_expand_sources.specs.Walk.{sources_of}
 use Rattle.dwz_expand_passes.specs.Noted.{AreNotedOf}
 use Rattle.dwz_expand_passes.specs.Steps.{KnowsHere, a_unit}
 use Rattle.dwz_expand_passes.proofs.NotedLemmas.{noted_in_file}

@@ -8,7 +8,7 @@ use Rattle.dwz_model.specs.Lists.{Each}
 use Rattle.dwz_expand_sources.specs.declared.sources.NewUnit.{NewUnit}
 use Rattle.dwz_expand_sources.specs.declared.sources.SourceRange.{SourceRange}
 use Rattle.dwz_expand_sources.specs.Sources.{IsRange, in_range, ranges_of}
-use Rattle.dwz_expand_walk.specs.Walk.{between, sources_of}
+use Rattle.dwz_expand_sources.specs.Walk.{between, sources_of}
 
 module _ {X : Type 0} (all : List X) where
   abbrev pub IsAt : ℕ → X → Type 0

@@ -1,11 +1,11 @@
 use Rattle.std.proofs.Common.{List, ap, subst, sym, ◌+◌, ◌∙◌, ◌∷◌, ℕ}
 use Rattle.dwz_model.specs.Lists.{Each}
 use Rattle.dwz_expand_sources.specs.declared.sources.SourceRange.{SourceRange}
-use Rattle.dwz_expand_walk.specs.declared.walk.SourceWalk.TheInside.{Inside}
-use Rattle.dwz_expand_walk.specs.Walk.{HasEntries, left}
-use Rattle.dwz_expand_walk.proofs.WalkLemmas.{left_next, left_range}
-use Rattle.dwz_expand_walk.proofs.walk.SourceWalk.next.Goals as goal
-use Rattle.dwz_expand_walk.proofs.walk.SourceWalk.next.Goals.{then-self+in_ok-range, else-self}
+use Rattle.dwz_expand_sources.specs.declared.walk.SourceWalk.TheInside.{Inside}
+use Rattle.dwz_expand_sources.specs.Walk.{HasEntries, left}
+use Rattle.dwz_expand_sources.proofs.WalkLemmas.{left_next, left_range}
+use Rattle.dwz_expand_sources.proofs.walk.SourceWalk.next.Goals as goal
+use Rattle.dwz_expand_sources.proofs.walk.SourceWalk.next.Goals.{then-self+in_ok-range, else-self}
 
 -- the next source, and those behind it
 abbrev behind : Inside → List ℕ

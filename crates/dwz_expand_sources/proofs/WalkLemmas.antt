@@ -3,7 +3,7 @@ use Rattle.std.proofs.Common.{◌≡◌, ℕ, suc, ◌+◌, ◌-◌, ◌<◌, �
 use Rattle.std.specs.List.{flat_map, range_with_len}
 use Rattle.std.proofs.lemmas.List.Concat.{flat_map-cons}
 use Rattle.dwz_expand_sources.specs.declared.sources.SourceRange.{SourceRange}
-use Rattle.dwz_expand_walk.specs.Walk.{between, left}
+use Rattle.dwz_expand_sources.specs.Walk.{between, left}
 
 abbrev of_ranges : List SourceRange → List ℕ
 of_ranges rs = flat_map (λ r. between r.first r.end) rs

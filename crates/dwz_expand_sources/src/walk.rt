@@ -4,9 +4,9 @@ ghost use Rattle.std.specs.Prelude.{◌≡◌, ◌∷◌, ◌+◌, ◌<◌, ◌^
 ghost use Rattle.dwz_model.specs.Lists.{Each};
 ghost use Rattle.dwz_expand_sources.specs.Numbers.{HasRanges};
 ghost use Rattle.dwz_expand_sources.specs.declared.sources.NewUnit.{NewUnit};
-ghost use Rattle.dwz_expand_walk.specs.Walk.{HasEntries, sources_of};
+ghost use Rattle.dwz_expand_sources.specs.Walk.{HasEntries, sources_of};
 
-use dwz_expand_sources::{SourceRange, Sources};
+use crate::sources::{SourceRange, Sources};
 use std::marker::Model;
 
 /// The sources of a new unit that come next. Clauses see the list of their numbers.
@@ -22,7 +22,7 @@ pub struct SourceWalk<'s> {
 impl<'s> Model for SourceWalk<'s> {
     ghost use Rattle.std.specs.Prelude.{List, ℕ};
     ghost use Rattle.dwz_model.specs.Lists.{Each};
-    ghost use Rattle.dwz_expand_walk.specs.Walk.{HasEntries, left};
+    ghost use Rattle.dwz_expand_sources.specs.Walk.{HasEntries, left};
 
     ghost Value = { List ℕ };
 

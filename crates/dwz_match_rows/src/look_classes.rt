@@ -16,7 +16,7 @@ use dwz_gate::Gate;
 use dwz_graph::{File, Graph};
 use dwz_groups::Tops;
 use dwz_label_files::labels;
-use dwz_match_classes::classes;
+use dwz_match_files::classes;
 use dwz_match_flags::common_flags;
 use dwz_model::{NoMemory, Numbers};
 use std::alloc::Global;

@@ -11,8 +11,8 @@ use Rattle.dwz_graph.specs.Files.{docs_of}
 use Rattle.dwz_law_files.proofs.FilesFew.{all_small}
 use Rattle.dwz_match.specs.RowLaws.{HaveTops}
 use Rattle.dwz_match.specs.Units.{MovesIn}
-use Rattle.dwz_match_classes.proofs.LeastLow.{least_low}
-use Rattle.dwz_match_classes.proofs.TopFiles.{rows_many}
+use Rattle.dwz_match_files.proofs.LeastLow.{least_low}
+use Rattle.dwz_match_files.proofs.TopFiles.{rows_many}
 use Rattle.dwz_takes.specs.declared.rows.Rows.{Rows}
 use Rattle.dwz_takes.specs.Takes.{AreBelow, list_at}
 use Rattle.dwz_match.specs.Parts.{HavePartTops}

@@ -1,4 +1,0 @@
-pub mod JoinedLists
-pub mod JoinedFacts
-pub mod TopFiles
-pub mod LeastLow

@@ -1,2 +1,0 @@
-mod CommonRead
-mod LabelsInside

@@ -1,4 +1,0 @@
-pub mod CommonPlaced
-pub mod FilesPlaced
-pub mod MapTwice
-pub mod BesideSaid

@@ -1,5 +1,0 @@
-pub mod UnitEntries
-pub mod SpaceEdges
-pub mod SpaceFiles
-pub mod NameNumbers
-pub mod CommonSpaces

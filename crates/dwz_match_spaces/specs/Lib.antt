@@ -1,3 +1,0 @@
-pub mod Spaces
-pub mod FileSpaces
-pub mod SpaceNames

@@ -20,7 +20,7 @@ use Rattle.dwz_graph.specs.declared.file.File.{File}
 use Rattle.dwz_match_files.specs.Read.{CommonReadLaw}
 use Rattle.dwz_match_files.specs.Placed.{BesideLaw, PlacedLaw, SaysCommon}
 use Rattle.dwz_match_files.proofs.BesideSaid.{CommonPlaced, same_offsets}
-use Rattle.dwz_match_rows.specs.Beside.{IsReadBeside}
+use Rattle.dwz_reuse.specs.Beside.{IsReadBeside}
 use Rattle.dwz_unit.specs.Rows.{units_of}
 
 -- the roots are at the same offsets where these stand for places

@@ -1,1 +1,24 @@
+mod PutSteps
+mod ValueUnits
+mod UnitPuts
+mod UnitPlaces
+mod SpotUnits
+mod PartRefs
+mod TopRows
+mod TopSteps
+mod SpotNames
+mod IntoSteps
+mod CommonTop
+mod CommonTargets
+mod SpreadSteps
+mod CommonSpread
+mod OwnNames
+mod CommonNamed
+pub mod SeedFacts
+mod OperandRows
+mod InsideLists
+mod SpaceRows
+mod UnitsFew
+mod AllInside
+mod LookSizes
 mod CommonKnown

@@ -10,15 +10,15 @@ ghost use Rattle.dwz_def_taken.specs.Takes.{IsFixed};
 ghost use Rattle.dwz_def_tops.specs.Deciding.{AreMovable};
 ghost use Rattle.dwz_def_tops.specs.Spots.{units_of};
 ghost use Rattle.dwz_graph.specs.Files.{docs_of};
-ghost use Rattle.dwz_match_flags.specs.Operands.{HasOperandRows};
-ghost use Rattle.dwz_match_rows.specs.Beside.{IsReadBeside};
+ghost use Rattle.dwz_reuse.specs.Operands.{HasOperandRows};
+ghost use Rattle.dwz_reuse.specs.Beside.{IsReadBeside};
 ghost use Rattle.dwz_unit.specs.Rows.{units_of as raw_units};
 
+use crate::found::match_rows;
 use dwz_def_taken::Fixed;
 use dwz_gate::Gate;
 use dwz_graph::{File, Graph};
 use dwz_match::{fixed, roots};
-use dwz_match_rows::match_rows;
 use dwz_model::NoMemory;
 use std::alloc::Global;
 use std::thread::Threads;

@@ -1,6 +1,0 @@
-use Rattle.std.proofs.Common.{◌≡◌, map, take}
-use Rattle.std.specs.Prelude.{not}
-use Rattle.dwz_match_flags.proofs.spread.negated.Given as goal
-
-abbrev pub invariant-loop-mark : goal.invariant-loop-mark
-invariant-loop-mark l = l.flags.items ≡ map not (take l.mark-index l.marks)

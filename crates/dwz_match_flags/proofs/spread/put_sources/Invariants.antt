@@ -1,6 +1,0 @@
-use Rattle.std.proofs.Common.{take}
-use Rattle.dwz_match_flags.specs.Spread.{PutsSources}
-use Rattle.dwz_match_flags.proofs.spread.put_sources.Given as goal
-
-abbrev pub invariant-loop-target : goal.invariant-loop-target
-invariant-loop-target l = PutsSources l.first l.top (take l.target-index l.targets) l.fn.edges.items l.edges.items

@@ -1,6 +1,0 @@
-mod PutSteps
-mod ValueUnits
-mod UnitPuts
-mod UnitPlaces
-mod SpotUnits
-mod PartRefs

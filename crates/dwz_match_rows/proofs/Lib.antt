@@ -1,4 +1,0 @@
-mod SpaceRows
-mod UnitsFew
-mod AllInside
-mod LookSizes

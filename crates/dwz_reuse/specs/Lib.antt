@@ -1,0 +1,10 @@
+pub mod Puts
+pub mod Behind
+pub mod Binding
+pub mod Into
+pub mod Naming
+pub mod Operands
+pub mod Spread
+pub mod Beside
+pub mod Rows
+pub mod Matching

@@ -20,10 +20,10 @@ use Rattle.dwz_expand_sources.specs.declared.sources.NewUnit.{NewUnit}
 use Rattle.dwz_expand_sources.specs.declared.sources.SourceRange.{SourceRange}
 use Rattle.dwz_expand_sources.specs.Numbers.{copy_count}
 use Rattle.dwz_expand_sources.specs.Sources.{AreSources, Sources, all_entries, ranges_of}
-use Rattle.dwz_expand_copies.specs.Rows.{entry_lists, unit_entries}
-use Rattle.dwz_expand_copies.proofs.ForLemmas.{tests}
-use Rattle.dwz_expand_copies.proofs.SourceLemmas.{place, sources_places}
-use Rattle.dwz_expand_copies.proofs.StartLemmas.{many, ranges_long}
+use Rattle.dwz_expand_sources.specs.Rows.{entry_lists, unit_entries}
+use Rattle.dwz_expand_sources.proofs.ForLemmas.{tests}
+use Rattle.dwz_expand_sources.proofs.SourceLemmas.{place, sources_places}
+use Rattle.dwz_expand_sources.proofs.StartLemmas.{many, ranges_long}
 
 -- ---- what is among others once has no more items
 

@@ -35,7 +35,7 @@ use Rattle.dwz_check.proofs.WellRead.{well_read_back}
 use Rattle.dwz_check_index.specs.Index.{ListedEntry, listed_units}
 use Rattle.dwz_check_labels.specs.FilesSaid.{around_given}
 use Rattle.dwz_imports.specs.Imports.{same}
-use Rattle.dwz_expand_copies.proofs.ForLemmas.{tests}
+use Rattle.dwz_expand_sources.proofs.ForLemmas.{tests}
 use Rattle.dwz_expand_values.specs.declared.files.SourceFile.{SourceFile}
 use Rattle.dwz_expand_values.specs.Files.{around_beside, common_of, raw_in}
 use Rattle.dwz_expand_values.proofs.PlacesSaid.{said_many, units_joined, units_mapped, units_mean}

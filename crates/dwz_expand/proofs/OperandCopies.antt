@@ -17,8 +17,8 @@ use Rattle.dwz_graph.specs.Resolved.{place_at, places, scope_in}
 use Rattle.dwz_check_labels.proofs.AloneLemmas.{target_alone}
 use Rattle.dwz_imports.specs.Imports.{same}
 use Rattle.dwz_expand_sources.specs.Sources.{all_entries}
-use Rattle.dwz_expand_copies.specs.declared.copies.CopyAt.{CopyAt}
-use Rattle.dwz_expand_copies.specs.Copies.{IsCopyFor, IsCopyNumber}
+use Rattle.dwz_expand_sources.specs.declared.copies.CopyAt.{CopyAt}
+use Rattle.dwz_expand_sources.specs.Copies.{IsCopyFor, IsCopyNumber}
 use Rattle.dwz_expand.proofs.PlanLemmas.{keys_known}
 use Rattle.dwz_expand.specs.OneKnown.{stands_of}
 use Rattle.dwz_expand_layout.specs.Laid.{layout_view}

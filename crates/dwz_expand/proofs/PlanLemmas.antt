@@ -15,7 +15,7 @@ use Rattle.dwz_expand_sources.specs.Sources.{AreSources, IsNewUnit, Sources, all
 use Rattle.dwz_expand_values.specs.Files.{raw_in}
 use Rattle.dwz_law_copies.specs.Numbered.{key_in}
 use Rattle.dwz_law_copies.proofs.NumberLemmas.{numbers_law}
-use Rattle.dwz_expand_copies.proofs.SourceLemmas.{have_ranges}
+use Rattle.dwz_expand_sources.proofs.SourceLemmas.{have_ranges}
 use Rattle.dwz_def_tops.specs.Shown.{units_keys}
 use Rattle.dwz_expand.proofs.CopyBounds.{copies_few}
 use Rattle.dwz_expand.specs.OneKnown.{HasUnits, KeysLaw}

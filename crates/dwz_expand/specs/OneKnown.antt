@@ -23,7 +23,7 @@ use Rattle.dwz_imports.specs.Said.{SaysBeside, raw_beside}
 use Rattle.dwz_expand_sources.specs.Numbers.{HasRanges, copy_count}
 use Rattle.dwz_expand_sources.specs.Sources.{AreSources, Sources}
 use Rattle.dwz_expand_values.specs.declared.files.SourceFile.{SourceFile}
-use Rattle.dwz_expand_copies.specs.Rows.{AreCopies, Copies}
+use Rattle.dwz_expand_sources.specs.Rows.{AreCopies, Copies}
 use Rattle.dwz_expand_values.specs.Faults.{AreReady, KnowsBoth, count_in}
 use Rattle.dwz_expand_values.specs.Files.{IsCommonReady, IsFileReady, raw_in}
 use Rattle.dwz_expand_values.specs.Known.{KnowsKeys}

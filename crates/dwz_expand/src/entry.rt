@@ -23,9 +23,9 @@ ghost use Rattle.dwz_expand_values.specs.Files.{raw_in};
 
 use dwz_codes::{Class, DW_AT_SIBLING, class_of, names_list};
 use dwz_def_reading::Operand;
-use dwz_expand_copies::Copies;
 use dwz_expand_layout::{LaidUnit, NewLayout};
 use dwz_expand_passes::NewFile;
+use dwz_expand_sources::Copies;
 use dwz_forms::Raw;
 use dwz_graph::{Here, entry_of, offset_of, slot};
 use dwz_lists::walk_into;

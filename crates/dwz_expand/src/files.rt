@@ -8,7 +8,7 @@ ghost use Rattle.dwz_def_expand.specs.Chosen.{choice};
 ghost use Rattle.dwz_def_expand.specs.Refusals.{Where};
 ghost use Rattle.dwz_def_expand.specs.Source.{Copy};
 ghost use Rattle.dwz_encode.specs.Shown.{Keys};
-ghost use Rattle.dwz_expand_copies.specs.Rows.{AreCopies};
+ghost use Rattle.dwz_expand_sources.specs.Rows.{AreCopies};
 ghost use Rattle.dwz_expand_sources.specs.Sources.{AreSources, Sources};
 ghost use Rattle.dwz_expand_values.specs.Faults.{KnowsBoth, count_in};
 ghost use Rattle.dwz_expand_values.specs.Files.{IsKnownReady, Knows};
@@ -19,7 +19,7 @@ ghost use Rattle.dwz_expand.specs.OneKnown.{CanBeLookedUp, AreHeresBeside, AreSo
 ghost use Rattle.dwz_unit.specs.Rows.{units_of};
 
 use dwz_check_labels::heres_of;
-use dwz_expand_copies::Copies;
+use dwz_expand_sources::Copies;
 use dwz_expand_values::{Known, SourceFile, TablePaths};
 use dwz_graph::{File, Here};
 use dwz_model::NoMemory;

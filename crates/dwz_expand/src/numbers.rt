@@ -2,7 +2,7 @@
 
 ghost use Rattle.std.specs.Prelude.{◌≡◌, ◌++◌, ◌∷◌, ◌<◌, [], ℕ, IfOk, List, OnOk, Some, length, map, slice_get};
 ghost use Rattle.dwz_def_expand.specs.OneFile.{OneFile};
-ghost use Rattle.dwz_expand_copies.specs.Rows.{AreCopies};
+ghost use Rattle.dwz_expand_sources.specs.Rows.{AreCopies};
 ghost use Rattle.dwz_expand_layout.specs.Laid.{layout_view};
 ghost use Rattle.dwz_model.specs.Lists.{In};
 ghost use Rattle.dwz_expand.specs.Walked.{HasLists, told_by, told_of};
@@ -19,10 +19,9 @@ ghost use Rattle.dwz_expand_sources.specs.Walk.{sources_of};
 use crate::entry::{AtUnit, put_values};
 use crate::rows::row_numbers;
 use dwz_def_reading::Operand;
-use dwz_expand_copies::Copies;
 use dwz_expand_layout::NewLayout;
 use dwz_expand_passes::NewFile;
-use dwz_expand_sources::{CopyNumbers, SourceWalk};
+use dwz_expand_sources::{Copies, CopyNumbers, SourceWalk};
 use dwz_expand_values::SourceFile;
 use dwz_graph_resolve::ListOperand;
 use dwz_model::NoMemory;

@@ -8,8 +8,7 @@ ghost use Rattle.dwz_expand_values.specs.Faults.{count_in};
 ghost use Rattle.dwz_graph.specs.Files.{FilesRead};
 
 use crate::files::SourceFiles;
-use dwz_expand_copies::Copies;
-use dwz_expand_sources::{CopyNumbers, Sources, sources_of};
+use dwz_expand_sources::{Copies, CopyNumbers, Sources, sources_of};
 use dwz_graph::File;
 use dwz_model::NoMemory;
 use std::alloc::Global;

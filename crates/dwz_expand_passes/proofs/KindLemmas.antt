@@ -20,8 +20,8 @@ use Rattle.dwz_model.specs.Lists.{In, NoneTwice}
 use Rattle.dwz_graph.specs.Here.{Here}
 use Rattle.dwz_graph.specs.Operands.{LooksUp}
 use Rattle.dwz_graph.specs.Places.{place_at}
-use Rattle.dwz_expand_copies.specs.Copies.{IsCopyFor}
-use Rattle.dwz_expand_copies.specs.declared.copies.CopyAt.{CopyAt}
+use Rattle.dwz_expand_sources.specs.Copies.{IsCopyFor}
+use Rattle.dwz_expand_sources.specs.declared.copies.CopyAt.{CopyAt}
 use Rattle.dwz_expand_values.proofs.FitLemmas.{stands_first}
 use Rattle.dwz_expand_values.proofs.PlacesSaid.{entry_said, unit_said, units_mean}
 use Rattle.dwz_expand_values.specs.Known.{StandsAt}

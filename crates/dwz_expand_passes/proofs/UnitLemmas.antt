@@ -23,7 +23,7 @@ use Rattle.dwz_graph.specs.Resolved.{sources_view}
 use Rattle.dwz_model.proofs.ListFacts.{got_below, got_index_or, got_there, same_got}
 use Rattle.dwz_model.specs.Lists.{Each, NoneTwice}
 use Rattle.dwz_model.specs.declared.fault.Fault.{Fault}
-use Rattle.dwz_expand_copies.specs.Rows.{AreCopies}
+use Rattle.dwz_expand_sources.specs.Rows.{AreCopies}
 use Rattle.dwz_expand_layout.specs.Depths.{DeepLine, with_ends}
 use Rattle.dwz_expand_layout.specs.Lines.{Line, line, lines}
 use Rattle.dwz_expand_layout.specs.Shown.{KindShows}

@@ -6,7 +6,7 @@ ghost use Rattle.dwz_def_expand.specs.Refusals.{Where};
 ghost use Rattle.dwz_def_expand.specs.Source.{source_places};
 ghost use Rattle.dwz_def_reading.specs.Documents.{DwUnit, OfType, kind_map};
 ghost use Rattle.dwz_def_reading.specs.Units.{RawUnit, entries_in};
-ghost use Rattle.dwz_expand_copies.specs.Rows.{AreCopies};
+ghost use Rattle.dwz_expand_sources.specs.Rows.{AreCopies};
 ghost use Rattle.dwz_expand_layout.specs.Shown.{KindShows};
 ghost use Rattle.dwz_expand_passes.specs.Kinds.{IsMain};
 ghost use Rattle.dwz_expand_passes.specs.Passes.{IsReady, Says, entry_many};
@@ -18,8 +18,8 @@ ghost use Rattle.dwz_model.specs.Lists.{In};
 
 use crate::file::NewFile;
 use dwz_codes::DW_UT_COMPILE;
-use dwz_expand_copies::Copies;
 use dwz_expand_layout::NewKind;
+use dwz_expand_sources::Copies;
 use dwz_expand_values::SourceFile;
 use dwz_expr::Operand;
 use dwz_graph::entry_of;

@@ -4,7 +4,7 @@ ghost use Rattle.std.specs.Prelude.{◌≡◌, ◌++◌, ◌∷◌, ◌<◌, ℕ
 ghost use Rattle.dwz_def_cross.specs.Tops.{WithCommon, whole_units};
 ghost use Rattle.dwz_def_expand.specs.Refusals.{Where};
 ghost use Rattle.dwz_def_reading.specs.Documents.{DwUnit, kind_map};
-ghost use Rattle.dwz_expand_copies.specs.Rows.{AreCopies};
+ghost use Rattle.dwz_expand_sources.specs.Rows.{AreCopies};
 ghost use Rattle.dwz_expand_layout.specs.Entries.{UnitLines};
 ghost use Rattle.dwz_expand_layout.specs.Laid.{Made};
 ghost use Rattle.dwz_expand_layout.specs.Shown.{KindShows};
@@ -27,9 +27,8 @@ use crate::file::NewFile;
 use crate::kinds::kind_of;
 use crate::pass::Pass;
 use crate::tables::LastTable;
-use dwz_expand_copies::Copies;
 use dwz_expand_layout::NewKind;
-use dwz_expand_sources::{CopyNumbers, NewUnit, SourceWalk};
+use dwz_expand_sources::{Copies, CopyNumbers, NewUnit, SourceWalk};
 use dwz_expand_values::{Known, SourceFile};
 use dwz_model::{NoMemory, ReadErr};
 

@@ -10,3 +10,10 @@ pub mod PlanSaid
 pub mod NumberSteps
 pub mod WalkLemmas
 pub mod GotLemmas
+pub mod NotedLemmas
+pub mod StartLemmas
+pub mod RowLemmas
+pub mod ForLemmas
+pub mod PlaceLemmas
+pub mod SourceLemmas
+pub mod AnswerLemmas

@@ -5,8 +5,8 @@ use Rattle.std.specs.Option.{option_map}
 use Rattle.dwz_def_expand.specs.Source.{copy, source_places, unit_for}
 use Rattle.dwz_graph.specs.Surroundings.{entries_among}
 use Rattle.dwz_imports.specs.Imports.{same}
-use Rattle.dwz_expand_copies.specs.Copies.{IsCopyFor, IsCopyNumber}
-use Rattle.dwz_expand_copies.specs.declared.copies.CopyAt.{CopyAt}
+use Rattle.dwz_expand_sources.specs.Copies.{IsCopyFor, IsCopyNumber}
+use Rattle.dwz_expand_sources.specs.declared.copies.CopyAt.{CopyAt}
 use Rattle.dwz_expand_values.specs.declared.files.SourceEntry.{SourceEntry}
 use Rattle.dwz_expand_values.specs.Copied.{IsAnswer, IsCopied, Lost}
 use Rattle.dwz_expand_values.specs.Known.{Fits, Setting, StandsAt, copied, place_named, raw_of}

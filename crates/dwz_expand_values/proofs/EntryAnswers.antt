@@ -14,7 +14,7 @@ use Rattle.dwz_graph.specs.Named.{refs_beside, value_refs}
 use Rattle.dwz_graph.specs.Resolved.{stored}
 use Rattle.dwz_graph.specs.Surroundings.{AreAmong}
 use Rattle.dwz_layout.specs.Attributes.{plain_pair}
-use Rattle.dwz_expand_copies.specs.declared.copies.CopyAt.{CopyAt}
+use Rattle.dwz_expand_sources.specs.declared.copies.CopyAt.{CopyAt}
 use Rattle.dwz_expand_layout.specs.declared.entries.Content.TheVariants.{OfCopy}
 use Rattle.dwz_expand_layout.specs.declared.entries.NewAttr.{NewAttr}
 use Rattle.dwz_expand_layout.specs.declared.entries.NewOperand.{NewOperand}

@@ -33,7 +33,7 @@ use Rattle.dwz_check_labels.proofs.RefLemmas.{common_place}
 use Rattle.dwz_imports.specs.Imports.{same}
 use Rattle.dwz_encode.specs.Shown.{Keys}
 use Rattle.dwz_expand_sources.specs.Sources.{all_entries}
-use Rattle.dwz_expand_copies.proofs.ForLemmas.{tests}
+use Rattle.dwz_expand_sources.proofs.ForLemmas.{tests}
 use Rattle.dwz_expand_values.specs.declared.files.Known.{Known}
 use Rattle.dwz_expand_values.specs.declared.files.SourceFile.{SourceFile}
 use Rattle.dwz_expand_values.specs.Files.{KnowsCommon, KnowsFile, Knows, around_at, around_beside, common_of, forms_of, holder_for, raw_in}

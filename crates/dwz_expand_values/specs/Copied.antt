@@ -29,7 +29,7 @@ use Rattle.dwz_def_expand.specs.Refusals.{IsLost, Site, SiteFault, not_imported,
 use Rattle.dwz_def_expand.specs.Source.{Copy, copy, source_places, unit_for}
 use Rattle.dwz_imports.specs.Imports.{same}
 use Rattle.dwz_encode.specs.Shown.{attr_held, held_of}
-use Rattle.dwz_expand_copies.specs.declared.copies.CopyAt.{CopyAt}
+use Rattle.dwz_expand_sources.specs.declared.copies.CopyAt.{CopyAt}
 use Rattle.dwz_expand_layout.specs.declared.entries.Content.{Content}
 use Rattle.dwz_expand_layout.specs.declared.entries.Content.TheVariants.{Expression, OfCopy, Stored}
 use Rattle.dwz_expand_layout.specs.declared.entries.NewAttr.{NewAttr}

@@ -18,7 +18,7 @@ use Rattle.dwz_check_index.specs.Index.{ListedEntry}
 use Rattle.dwz_imports.specs.Imports.{same}
 use Rattle.dwz_encode.specs.Shown.{Keys}
 use Rattle.dwz_expand_sources.specs.Sources.{Sources, all_entries}
-use Rattle.dwz_expand_copies.specs.Rows.{AreCopies, Copies}
+use Rattle.dwz_expand_sources.specs.Rows.{AreCopies, Copies}
 use Rattle.dwz_expand_values.specs.declared.files.SourceFile.{SourceFile}
 use Rattle.dwz_expand_values.specs.Files.{IsCommonReady, IsFileReady, KnowsCommon, KnowsFile, StandSo, around_beside, common_count}
 use Rattle.dwz_expand_values.specs.Files.{common_of, raw_in}

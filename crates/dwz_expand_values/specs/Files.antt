@@ -28,7 +28,7 @@ use Rattle.dwz_imports.specs.Imports.{same}
 use Rattle.dwz_encode.specs.Shown.{Keys, attr_held, held_of}
 use Rattle.dwz_layout.specs.Ways.{holder_view}
 use Rattle.dwz_expand_sources.specs.Sources.{Sources}
-use Rattle.dwz_expand_copies.specs.Rows.{AreCopies}
+use Rattle.dwz_expand_sources.specs.Rows.{AreCopies}
 use Rattle.dwz_expand_layout.specs.declared.entries.NewAttr.{NewAttr}
 use Rattle.dwz_expand_layout.specs.declared.entries.NewOperand.{NewOperand}
 use Rattle.dwz_expand_layout.specs.Entries.{attr_view}

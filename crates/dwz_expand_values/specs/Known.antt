@@ -20,8 +20,8 @@ use Rattle.dwz_imports.specs.Imports.{same}
 use Rattle.dwz_layout.specs.Ways.{holder_view}
 use Rattle.dwz_encode.specs.Shown.{Keys}
 use Rattle.dwz_expand_sources.specs.Sources.{AreSources, Sources, all_entries}
-use Rattle.dwz_expand_copies.specs.Copies.{IsCopyNumber}
-use Rattle.dwz_expand_copies.specs.Rows.{AreCopies, Copies}
+use Rattle.dwz_expand_sources.specs.Copies.{IsCopyNumber}
+use Rattle.dwz_expand_sources.specs.Rows.{AreCopies, Copies}
 use Rattle.dwz_expand_values.specs.Paths.{IsPathsOf}
 use Rattle.dwz_expand_values.specs.declared.files.SourceEntry.{SourceEntry}
 

@@ -6,8 +6,8 @@ ghost use Rattle.dwz_expand_values.specs.Copied.{AddsAll, AddsOperand, AnswersCo
 ghost use Rattle.dwz_expand_values.specs.Known.{Fits, IsReady, LeadWithin, Setting, StandsAt, place_named, raw_of};
 
 use crate::files::SourceEntry;
-use dwz_expand_copies::CopyAt;
 use dwz_expand_layout::NewOperand;
+use dwz_expand_sources::CopyAt;
 use dwz_expr::Operand;
 use dwz_model::{DEBUG_INFO, Fault, ReadErr, Reason};
 

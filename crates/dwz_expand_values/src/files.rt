@@ -1,7 +1,7 @@
 //! What is known of a file whose entries are copied, and of the common file beside which it was read.
 
 use crate::paths::TablePaths;
-use dwz_expand_copies::Copies;
+use dwz_expand_sources::Copies;
 use dwz_graph::{Here, InputSections};
 use dwz_layout::UnitRole;
 use dwz_lines::TableRows;

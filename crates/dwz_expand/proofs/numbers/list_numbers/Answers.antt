@@ -1,5 +1,5 @@
 use Rattle.std.proofs.Common.{◌∙◌}
-use Rattle.dwz_expand_copies.proofs.SourceLemmas.{have_ranges}
+use Rattle.dwz_expand_sources.proofs.SourceLemmas.{have_ranges}
 use Rattle.dwz_def_cross.specs.Tops.{whole_units}
 use Rattle.dwz_expand_layout.specs.Laid.{layout_view}
 use Rattle.dwz_expand.proofs.AllTold.{all_told}

@@ -1,6 +1,6 @@
 use Rattle.std.proofs.Common.{◌≡◌, length, take}
 use Rattle.dwz_def_expand.specs.OneFile.{OneFile}
-use Rattle.dwz_expand_copies.specs.Rows.{AreCopies}
+use Rattle.dwz_expand_sources.specs.Rows.{AreCopies}
 use Rattle.dwz_expand_layout.specs.Laid.{layout_view}
 use Rattle.dwz_expand.specs.Walked.{HasLists, told_of}
 use Rattle.dwz_expand_passes.specs.Noted.{plan_sources}

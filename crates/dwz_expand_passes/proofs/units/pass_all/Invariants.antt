@@ -1,5 +1,5 @@
 use Rattle.std.proofs.Common.{◌≡◌, List, [], ◌++◌, length}
-use Rattle.dwz_expand_copies.specs.Rows.{AreCopies}
+use Rattle.dwz_expand_sources.specs.Rows.{AreCopies}
 use Rattle.dwz_expand_layout.specs.Entries.{UnitLines}
 use Rattle.dwz_expand_layout.specs.Laid.{Made}
 use Rattle.dwz_expand_passes.specs.Noted.{Noted}

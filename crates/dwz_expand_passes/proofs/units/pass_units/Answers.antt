@@ -1,4 +1,4 @@
-use Rattle.dwz_expand_copies.proofs.SourceLemmas.{have_ranges}
+use Rattle.dwz_expand_sources.proofs.SourceLemmas.{have_ranges}
 use Rattle.dwz_def_cross.specs.Tops.{whole_units}
 use Rattle.dwz_expand_passes.proofs.units.pass_units.Goals as goal
 

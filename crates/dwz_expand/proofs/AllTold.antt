@@ -21,12 +21,12 @@ use Rattle.dwz_imports.specs.Imports.{same}
 use Rattle.dwz_graph.proofs.RowLemmas.{rows-length}
 use Rattle.dwz_unit.specs.Rows.{EntryRow, rows_of}
 use Rattle.dwz_expand_layout.specs.Laid.{Made}
-use Rattle.dwz_expand_values.specs.Files.{raw_in}
+use Rattle.dwz_expand_passes.specs.Files.{raw_in}
 use Rattle.dwz_expand_sections.specs.Narrow.{operand_after}
 use Rattle.dwz_expand.proofs.SameScope.{list_same}
 use Rattle.dwz_expand.proofs.FaultMaps.{site_map, sites_mapped}
 use Rattle.dwz_expand_passes.specs.Noted.{plan_sources}
-use Rattle.dwz_expand_passes.specs.declared.file.NewFile.{NewFile}
+use Rattle.dwz_expand_passes.specs.declared.new_file.NewFile.{NewFile}
 use Rattle.dwz_expand.proofs.PlanSites.{planned_line, planned_site, site_planned}
 use Rattle.dwz_expand.proofs.StoredEntries.{own_entry}
 use Rattle.dwz_expand.proofs.ValuesIn.{from_site, in_site, spoken_of}

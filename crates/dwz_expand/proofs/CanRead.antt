@@ -23,13 +23,13 @@ use Rattle.dwz_unit.specs.Rows.{EntryRow, rows_of}
 use Rattle.dwz_expand.specs.OneKnown.{stands_of}
 use Rattle.dwz_expand_layout.specs.Laid.{Made}
 use Rattle.dwz_expand_passes.proofs.LineSteps.{node_there}
-use Rattle.dwz_expand_passes.specs.declared.file.NewFile.{NewFile}
+use Rattle.dwz_expand_passes.specs.declared.new_file.NewFile.{NewFile}
 use Rattle.dwz_expand_passes.specs.Noted.{plan_sources}
 use Rattle.dwz_expand_passes.specs.Passes.{forms_in}
 use Rattle.dwz_expand.specs.Units.{IsLaidOf, IsOfOne}
 use Rattle.dwz_expand.proofs.PlanSites.{planned_line, planned_site}
-use Rattle.dwz_expand_values.specs.Files.{raw_in}
-use Rattle.dwz_expand_values.proofs.FitLemmas.{got_first_entry}
+use Rattle.dwz_expand_passes.specs.Files.{raw_in}
+use Rattle.dwz_expand_passes.proofs.FitLemmas.{got_first_entry}
 use Rattle.dwz_expand.specs.Gathered.{CanBeRead, own_around, own_scope}
 use Rattle.dwz_expand.proofs.KeptTargets.{targets_kept}
 

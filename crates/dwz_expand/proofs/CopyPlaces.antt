@@ -32,7 +32,7 @@ use Rattle.dwz_law_copies.specs.Copied.{HaveCopies, IsCopyOf}
 use Rattle.dwz_law_copies.specs.Lined.{StandsAs, all_lines}
 use Rattle.dwz_law_copies.specs.Numbered.{key_in}
 use Rattle.dwz_law_copies.specs.OfFile.{IsNewFile}
-use Rattle.dwz_expand_passes.specs.declared.file.NewFile.{NewFile}
+use Rattle.dwz_expand_passes.specs.declared.new_file.NewFile.{NewFile}
 use Rattle.dwz_expand_passes.specs.Passes.{forms_in}
 use Rattle.dwz_expand.specs.OneKnown.{stands_of}
 use Rattle.dwz_expand.specs.Units.{IsLaidOf, IsOfOne}

@@ -16,11 +16,11 @@ use Rattle.dwz_def_check.proofs.ReadRefs.{means_keys}
 use Rattle.dwz_def_expand.specs.OneFile.{CommonReads, FileRead, OneFile, rule_for, units_read}
 use Rattle.dwz_def_expand.proofs.FileLemmas.{own_place}
 use Rattle.dwz_graph.specs.Surroundings.{behind_own}
-use Rattle.dwz_expand_values.specs.declared.files.SourceFile.{SourceFile}
-use Rattle.dwz_expand_values.specs.Files.{KnowsCommon, around_beside, common_of, raw_in}
-use Rattle.dwz_expand_values.proofs.OperandLemmas.{map_twice}
-use Rattle.dwz_expand_values.proofs.PlacesSaid.{units_mean}
-use Rattle.dwz_expand_passes.specs.declared.file.NewFile.{NewFile}
+use Rattle.dwz_expand_passes.specs.declared.files.SourceFile.{SourceFile}
+use Rattle.dwz_expand_passes.specs.Files.{KnowsCommon, around_beside, common_of, raw_in}
+use Rattle.dwz_expand_passes.proofs.OperandLemmas.{map_twice}
+use Rattle.dwz_expand_passes.proofs.PlacesSaid.{units_mean}
+use Rattle.dwz_expand_passes.specs.declared.new_file.NewFile.{NewFile}
 use Rattle.dwz_expand.specs.OneKnown.{stands_of}
 use Rattle.dwz_expand.specs.Units.{HasRaw, IsOfOne}
 

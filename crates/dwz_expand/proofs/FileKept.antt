@@ -23,8 +23,8 @@ use Rattle.dwz_graph.specs.Surroundings.{AreAmong, sources_view}
 use Rattle.dwz_graph.proofs.IndexRoom.{entries_within}
 use Rattle.dwz_check_labels.specs.Files.{AreHeres, texts_in}
 use Rattle.dwz_check_labels.specs.FilesSaid.{around_given}
-use Rattle.dwz_expand_values.specs.declared.files.SourceFile.{SourceFile}
-use Rattle.dwz_expand_values.specs.Files.{IsFileReady, KnowsFile, StandSo, around_beside, raw_in}
+use Rattle.dwz_expand_passes.specs.declared.files.SourceFile.{SourceFile}
+use Rattle.dwz_expand_passes.specs.Files.{IsFileReady, KnowsFile, StandSo, around_beside, raw_in}
 use Rattle.dwz_expand.specs.OneKnown.{IsSourceOf}
 
 -- its parts

@@ -11,9 +11,9 @@ use Rattle.dwz_def_reading.specs.Meant.{meaning}
 use Rattle.dwz_def_reading.specs.Shared.{operands_of}
 use Rattle.dwz_def_reading.specs.Units.{RawUnit}
 use Rattle.dwz_label_entries.proofs.PlainLemmas.{list_means}
-use Rattle.dwz_expand_passes.specs.declared.file.NewFile.{NewFile}
-use Rattle.dwz_expand_values.proofs.ContentLemmas.{as_class_of}
-use Rattle.dwz_expand_values.proofs.NamedLemmas.{list_at_place, list_by_slot}
+use Rattle.dwz_expand_passes.specs.declared.new_file.NewFile.{NewFile}
+use Rattle.dwz_expand_passes.proofs.ContentLemmas.{as_class_of}
+use Rattle.dwz_expand_passes.proofs.NamedLemmas.{list_at_place, list_by_slot}
 use Rattle.dwz_expand.specs.Gathered.{list_operands, own_scope}
 use Rattle.dwz_expand.proofs.ListOperands.{class_cases, no_list, offset_operands, other_none, slot_operands}
 

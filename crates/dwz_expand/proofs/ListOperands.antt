@@ -12,7 +12,7 @@ use Rattle.dwz_def_reading.specs.Meant.{list_read}
 use Rattle.dwz_def_reading.specs.NamedLists.{by_base, by_offset, list_of_attr, lists_as, named_at, named_by}
 use Rattle.dwz_def_reading.specs.Shared.{ListOperand, NamedList, of_unit, operands_in_lists, operands_of}
 use Rattle.dwz_def_reading.specs.Texts.{slot, slot_place}
-use Rattle.dwz_expand_values.proofs.NamedLemmas.{ListBySlot}
+use Rattle.dwz_expand_passes.proofs.NamedLemmas.{ListBySlot}
 use Rattle.dwz_expand.specs.Gathered.{list_operands}
 
 named_list : (s : MeaningContext ℕ) (slot : Option ℕ) (place : ℕ) (l : LocList) → list_read s place ≡ Ok l → named_at s slot place ≡ record { unit = s.unit; from = place; slot = slot; list = l } ∷ []

@@ -36,9 +36,9 @@ use Rattle.dwz_check_index.specs.Index.{ListedEntry, listed_units}
 use Rattle.dwz_check_labels.specs.FilesSaid.{around_given}
 use Rattle.dwz_imports.specs.Imports.{same}
 use Rattle.dwz_expand_sources.proofs.ForLemmas.{tests}
-use Rattle.dwz_expand_values.specs.declared.files.SourceFile.{SourceFile}
-use Rattle.dwz_expand_values.specs.Files.{around_beside, common_of, raw_in}
-use Rattle.dwz_expand_values.proofs.PlacesSaid.{said_many, units_joined, units_mapped, units_mean}
+use Rattle.dwz_expand_passes.specs.declared.files.SourceFile.{SourceFile}
+use Rattle.dwz_expand_passes.specs.Files.{around_beside, common_of, raw_in}
+use Rattle.dwz_expand_passes.proofs.PlacesSaid.{said_many, units_joined, units_mapped, units_mean}
 use Rattle.dwz_expand.specs.Refused.{StandForPlaces}
 use Rattle.dwz_law_copies.specs.Renamed.{SameChoice, renamed}
 use Rattle.dwz_law_copies.proofs.RenamedLemmas.{tests_agree}

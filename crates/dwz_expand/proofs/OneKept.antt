@@ -13,7 +13,7 @@ use Rattle.dwz_def_reading.specs.Units.{RawUnit}
 use Rattle.dwz_def_reading.proofs.FileLemmas.{file_agrees_by}
 use Rattle.dwz_graph.specs.ByRule.{doc_placed, numbered_rule}
 use Rattle.dwz_unit.specs.Rows.{units_of}
-use Rattle.dwz_expand_values.specs.declared.files.SourceFile.{SourceFile}
+use Rattle.dwz_expand_passes.specs.declared.files.SourceFile.{SourceFile}
 use Rattle.dwz_def_output.specs.Refusals.{InFile}
 use Rattle.dwz_def_reading.specs.Documents.{DwUnit, unit_map}
 use Rattle.dwz_def_reading.specs.FirstOf.{OfFirst}
@@ -33,14 +33,14 @@ use Rattle.dwz_expand_layout.specs.Laid.{Made, laid}
 use Rattle.dwz_expand_layout.specs.Shown.{keys_of}
 use Rattle.dwz_expand_sources.specs.declared.sources.NewUnit.{NewUnit}
 use Rattle.dwz_expand_sources.specs.Sources.{AreSources, Sources, all_entries}
-use Rattle.dwz_expand_values.specs.Faults.{KnowsBoth, count_in, file_number}
+use Rattle.dwz_expand_passes.specs.Faults.{KnowsBoth, count_in, file_number}
 use Rattle.dwz_law_copies.proofs.SourceMaps.{whole_mapped}
 use Rattle.dwz_law_copies.specs.Renamed.{copy_map, renamed}
 use Rattle.dwz_expand.specs.Refused.{FaultLaw, NumbersLaw}
 use Rattle.dwz_law_copies.specs.Copied.{HaveCopies}
 use Rattle.dwz_law_copies.specs.Numbered.{key_in}
 use Rattle.dwz_law_copies.specs.OfFile.{FileLaw}
-use Rattle.dwz_expand_passes.specs.declared.file.NewFile.{NewFile}
+use Rattle.dwz_expand_passes.specs.declared.new_file.NewFile.{NewFile}
 use Rattle.dwz_expand_passes.specs.Passes.{AreNew, IsRefused, RefusesFile, Says, forms_in}
 use Rattle.dwz_expand.specs.declared.files.SourceFiles.{SourceFiles}
 use Rattle.dwz_expand.specs.OneKnown.{HasUnits, IsOneKnown, KeysLaw, stands_of}

@@ -28,10 +28,10 @@ use Rattle.dwz_expand.proofs.CopyPlaces.{number_stands}
 use Rattle.dwz_expand.proofs.EntryPlaces.{own_at}
 use Rattle.dwz_expand.proofs.OperandNames.{target_led}
 use Rattle.dwz_expand.proofs.PlanSites.{two_long}
-use Rattle.dwz_expand_values.specs.Files.{raw_in}
-use Rattle.dwz_expand_values.specs.Known.{StandsAt}
-use Rattle.dwz_expand_values.proofs.FitLemmas.{stands_first}
-use Rattle.dwz_expand_values.proofs.PlacesSaid.{entry_said}
+use Rattle.dwz_expand_passes.specs.Files.{raw_in}
+use Rattle.dwz_expand_passes.specs.Known.{StandsAt}
+use Rattle.dwz_expand_passes.proofs.FitLemmas.{stands_first}
+use Rattle.dwz_expand_passes.proofs.PlacesSaid.{entry_said}
 use Rattle.dwz_graph.proofs.PlaceLemmas.{places_are, places_many}
 use Rattle.dwz_law_copies.specs.Numbered.{key_in}
 use Rattle.dwz_model.specs.Lists.{In}

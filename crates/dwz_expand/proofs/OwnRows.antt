@@ -15,12 +15,12 @@ use Rattle.dwz_graph.proofs.TreeLemmas.{node_attrs}
 use Rattle.dwz_unit.specs.Rows.{EntryRow, rows_of}
 use Rattle.dwz_expand_sources.specs.Sources.{all_entries}
 use Rattle.dwz_expand_layout.specs.Lines.{Line}
-use Rattle.dwz_expand_values.specs.declared.files.SourceFile.{SourceFile}
-use Rattle.dwz_expand_values.specs.Files.{KnowsCommon, around_beside, common_count, common_of, raw_in}
-use Rattle.dwz_expand_values.proofs.FitLemmas.{common_source, got_first_entry, got_second_entry}
+use Rattle.dwz_expand_passes.specs.declared.files.SourceFile.{SourceFile}
+use Rattle.dwz_expand_passes.specs.Files.{KnowsCommon, around_beside, common_count, common_of, raw_in}
+use Rattle.dwz_expand_passes.proofs.FitLemmas.{common_source, got_first_entry, got_second_entry}
 use Rattle.dwz_expand_passes.proofs.LineSteps.{node_there}
 use Rattle.dwz_expand_passes.proofs.SaidLemmas.{all_many}
-use Rattle.dwz_expand_passes.specs.declared.file.NewFile.{NewFile}
+use Rattle.dwz_expand_passes.specs.declared.new_file.NewFile.{NewFile}
 use Rattle.dwz_law_copies.specs.Lined.{all_lines}
 use Rattle.dwz_expand.specs.OneKnown.{stands_of}
 use Rattle.dwz_expand.specs.Units.{IsOfOne}

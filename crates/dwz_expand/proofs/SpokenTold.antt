@@ -28,8 +28,8 @@ use Rattle.dwz_expand_layout.specs.Laid.{Made}
 use Rattle.dwz_expand_layout.specs.Lines.{Line}
 use Rattle.dwz_expand_layout.specs.Shown.{keys_of}
 use Rattle.dwz_expand_layout.specs.declared.entries.NewOperand.{NewOperand}
-use Rattle.dwz_expand_values.specs.declared.files.SourceFile.{SourceFile}
-use Rattle.dwz_expand_values.specs.Files.{SpeaksAs, around_beside, common_count, common_of, raw_in}
+use Rattle.dwz_expand_passes.specs.declared.files.SourceFile.{SourceFile}
+use Rattle.dwz_expand_passes.specs.Files.{SpeaksAs, around_beside, common_count, common_of, raw_in}
 use Rattle.dwz_expand_sources.specs.Sources.{all_entries}
 use Rattle.dwz_expand_sections.specs.Narrow.{FirstPlace, operand_after}
 use Rattle.dwz_expand.proofs.FaultMaps.{site_map, sites_mapped}
@@ -39,7 +39,7 @@ use Rattle.dwz_expand_passes.proofs.LineSteps.{node_there}
 use Rattle.dwz_expand_passes.proofs.SaidLemmas.{all_many}
 use Rattle.dwz_expand_passes.specs.Noted.{AreNoted, IsNoted, IsNotedAt, Noted, plan_sources}
 use Rattle.dwz_expand_passes.specs.Passes.{Says}
-use Rattle.dwz_expand_passes.specs.declared.file.NewFile.{NewFile}
+use Rattle.dwz_expand_passes.specs.declared.new_file.NewFile.{NewFile}
 use Rattle.dwz_expand.specs.OneKnown.{stands_of}
 use Rattle.dwz_expand.specs.Units.{HasRaw, IsLaidOf, IsOfOne}
 use Rattle.dwz_expand.proofs.CopyPlaces.{number_stands}

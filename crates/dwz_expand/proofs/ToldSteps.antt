@@ -9,9 +9,9 @@ use Rattle.dwz_def_reading.specs.Meant.{meaning}
 use Rattle.dwz_def_reading.specs.Units.{RawUnit}
 use Rattle.dwz_def_cross.specs.Tops.{WithCommon}
 use Rattle.dwz_def_expand.specs.OneFile.{OneFile}
-use Rattle.dwz_expand_passes.specs.declared.file.NewFile.{NewFile}
+use Rattle.dwz_expand_passes.specs.declared.new_file.NewFile.{NewFile}
 use Rattle.dwz_graph.proofs.StepLemmas as Steps
-use Rattle.dwz_expand_values.proofs.OperandLemmas.{take_one}
+use Rattle.dwz_expand_passes.proofs.OperandLemmas.{take_one}
 use Rattle.dwz_expand.specs.Gathered.{AllKept, CanBeRead, list_operands, own_scope, told_at, told_in}
 
 module _ (f : OneFile) (n : ℕ) (s : MeaningContext ℕ) where

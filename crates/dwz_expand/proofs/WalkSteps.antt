@@ -9,10 +9,10 @@ use Rattle.dwz_def_reading.specs.declared.exprs.Operand.{Operand}
 use Rattle.dwz_def_expand.specs.OneFile.{OneFile}
 use Rattle.dwz_expand_sources.specs.declared.sources.NewUnit.{NewUnit}
 use Rattle.dwz_expand_sources.specs.declared.sources.SourceRange.{SourceRange}
-use Rattle.dwz_expand_values.proofs.OperandLemmas.{long_take, take_one, take_whole}
+use Rattle.dwz_expand_passes.proofs.OperandLemmas.{long_take, take_one, take_whole}
 use Rattle.dwz_expand_sources.specs.Walk.{sources_of}
 use Rattle.dwz_expand_passes.specs.Noted.{plan_sources}
-use Rattle.dwz_expand_passes.specs.declared.file.NewFile.{NewFile}
+use Rattle.dwz_expand_passes.specs.declared.new_file.NewFile.{NewFile}
 use Rattle.dwz_expand.specs.Walked.{told_by, told_of}
 
 flat_joined : {X Y : Type 0} (f : X → List Y) (xs ys : List X) → flat_map f (xs ++ ys) ≡ flat_map f xs ++ flat_map f ys

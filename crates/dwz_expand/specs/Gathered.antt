@@ -20,11 +20,11 @@ use Rattle.dwz_graph.specs.Resolved.{IsHere}
 use Rattle.dwz_imports.specs.Imports.{same}
 use Rattle.dwz_expand_sources.specs.Rows.{AreCopies}
 use Rattle.dwz_expand_layout.specs.Laid.{layout_view}
-use Rattle.dwz_expand_passes.specs.declared.file.NewFile.{NewFile}
+use Rattle.dwz_expand_passes.specs.declared.new_file.NewFile.{NewFile}
 use Rattle.dwz_expand_passes.specs.Passes.{IsReady, entry_many}
 use Rattle.dwz_expand_sections.specs.Narrow.{operand_after}
 use Rattle.dwz_expand.specs.Units.{IsLaidOf, IsOfOne}
-use Rattle.dwz_expand_values.specs.Files.{around_beside, common_of, raw_in}
+use Rattle.dwz_expand_passes.specs.Files.{around_beside, common_of, raw_in}
 use Rattle.dwz_expand.specs.declared.entry.AtUnit.{AtUnit}
 
 -- what surrounds the units of the file

@@ -22,11 +22,11 @@ use Rattle.dwz_imports.specs.Imports.{same}
 use Rattle.dwz_imports.specs.Said.{SaysBeside, raw_beside}
 use Rattle.dwz_expand_sources.specs.Numbers.{HasRanges, copy_count}
 use Rattle.dwz_expand_sources.specs.Sources.{AreSources, Sources}
-use Rattle.dwz_expand_values.specs.declared.files.SourceFile.{SourceFile}
+use Rattle.dwz_expand_passes.specs.declared.files.SourceFile.{SourceFile}
 use Rattle.dwz_expand_sources.specs.Rows.{AreCopies, Copies}
-use Rattle.dwz_expand_values.specs.Faults.{AreReady, KnowsBoth, count_in}
-use Rattle.dwz_expand_values.specs.Files.{IsCommonReady, IsFileReady, raw_in}
-use Rattle.dwz_expand_values.specs.Known.{KnowsKeys}
+use Rattle.dwz_expand_passes.specs.Faults.{AreReady, KnowsBoth, count_in}
+use Rattle.dwz_expand_passes.specs.Files.{IsCommonReady, IsFileReady, raw_in}
+use Rattle.dwz_expand_passes.specs.Known.{KnowsKeys}
 use Rattle.dwz_expand_layout.specs.Shown.{keys_of}
 use Rattle.dwz_law_copies.specs.Numbered.{key_in}
 use Rattle.dwz_expand.specs.Refused.{InFiles, StandForPlaces}

@@ -10,7 +10,7 @@ use Rattle.dwz_def_cross.specs.Tops.{WithCommon, whole_units}
 use Rattle.dwz_expand_sources.specs.Numbers.{root_numbers}
 use Rattle.dwz_expand_sources.specs.Sources.{AreSources, Sources, all_entries}
 use Rattle.dwz_expand_sources.specs.Rows.{AreCopies}
-use Rattle.dwz_expand_values.specs.Faults.{count_in}
+use Rattle.dwz_expand_passes.specs.Faults.{count_in}
 use Rattle.dwz_expand.specs.declared.files.SourceFiles.{SourceFiles}
 use Rattle.dwz_expand.specs.declared.plan.Plan.{Plan}
 use Rattle.dwz_def_expand.specs.Chosen.{choice}

@@ -9,9 +9,9 @@ use Rattle.dwz_def_expand.specs.OneFile.{OneFile}
 use Rattle.dwz_graph.specs.Resolved.{sources_view}
 use Rattle.dwz_unit.specs.Rows.{EntryRow, rows_of}
 use Rattle.dwz_expand_layout.specs.Laid.{Made}
-use Rattle.dwz_expand_passes.specs.declared.file.NewFile.{NewFile}
+use Rattle.dwz_expand_passes.specs.declared.new_file.NewFile.{NewFile}
 use Rattle.dwz_expand.specs.Units.{IsLaidOf, IsOfOne}
-use Rattle.dwz_expand_values.specs.Files.{raw_in}
+use Rattle.dwz_expand_passes.specs.Files.{raw_in}
 use Rattle.dwz_expand.specs.Gathered.{own_scope, told_in}
 
 -- what is kept is of the file, with its sections, and its new units are laid so

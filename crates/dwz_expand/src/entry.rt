@@ -19,7 +19,7 @@ ghost use Rattle.dwz_graph.specs.Resolved.{stored};
 ghost use Rattle.dwz_unit.specs.Rows.{EntryRow, rows_of};
 ghost use Rattle.dwz_expand.specs.Gathered.{AllKept, CanBeRead, CanTell, LosesOne, Tells, own_around, own_scope, spoken_at, told_at, told_in};
 ghost use Rattle.dwz_expand_sections.specs.Narrow.{operand_after};
-ghost use Rattle.dwz_expand_values.specs.Files.{raw_in};
+ghost use Rattle.dwz_expand_passes.specs.Files.{raw_in};
 
 use dwz_codes::{Class, DW_AT_SIBLING, class_of, names_list};
 use dwz_def_reading::Operand;

@@ -13,16 +13,15 @@ ghost use Rattle.dwz_expand_sections.specs.NumberLaws.{GivesNumbers};
 ghost use Rattle.dwz_expand_sources.specs.Numbers.{root_numbers};
 ghost use Rattle.dwz_expand_sources.specs.declared.sources.NewUnit.{NewUnit};
 ghost use Rattle.dwz_expand.specs.Units.{CanBeCopied};
-ghost use Rattle.dwz_expand_values.specs.Files.{common_count};
+ghost use Rattle.dwz_expand_passes.specs.Files.{common_count};
 ghost use Rattle.dwz_expand_sources.specs.Walk.{sources_of};
 
 use crate::entry::{AtUnit, put_values};
 use crate::rows::row_numbers;
 use dwz_def_reading::Operand;
 use dwz_expand_layout::NewLayout;
-use dwz_expand_passes::NewFile;
+use dwz_expand_passes::{NewFile, SourceFile};
 use dwz_expand_sources::{Copies, CopyNumbers, SourceWalk};
-use dwz_expand_values::SourceFile;
 use dwz_graph_resolve::ListOperand;
 use dwz_model::NoMemory;
 

@@ -4,7 +4,7 @@ ghost use Rattle.std.specs.Prelude.{◌≡◌, IfOk};
 ghost use Rattle.std.specs.Option.{option_map};
 ghost use Rattle.dwz_expand.specs.OneKnown.{CanBeLookedUp, IsOneKnown};
 ghost use Rattle.dwz_expand.specs.Plans.{IsPlanOf};
-ghost use Rattle.dwz_expand_values.specs.Faults.{count_in};
+ghost use Rattle.dwz_expand_passes.specs.Faults.{count_in};
 ghost use Rattle.dwz_graph.specs.Files.{FilesRead};
 
 use crate::files::SourceFiles;

@@ -7,7 +7,7 @@ ghost use Rattle.dwz_def_reading.specs.Files.{unit_places};
 ghost use Rattle.dwz_expand.specs.Expanded.{IsFileOf};
 ghost use Rattle.dwz_expand.specs.Units.{IsLaidOf};
 ghost use Rattle.dwz_expand_layout.specs.Laid.{layout_view};
-ghost use Rattle.dwz_expand_passes.specs.declared.file.NewFile.{NewFile};
+ghost use Rattle.dwz_expand_passes.specs.declared.new_file.NewFile.{NewFile};
 ghost use Rattle.dwz_unit.specs.Rows.{units_of};
 
 use dwz_codes::DW_UT_PARTIAL;

@@ -9,8 +9,8 @@ ghost use Rattle.dwz_graph.specs.Files.{FilesRead};
 
 use crate::files::SourceFiles;
 use crate::plan::{Plan, entries_of};
+use dwz_expand_passes::first_fault;
 use dwz_expand_sources::Copies;
-use dwz_expand_values::first_fault;
 use dwz_model::GraphErr;
 use std::alloc::Global;
 

@@ -5,7 +5,7 @@ ghost use Rattle.dwz_def_expand.specs.OneFile.{OneFile, ReadsOne};
 ghost use Rattle.dwz_def_output.specs.NewFiles.{IsFound};
 ghost use Rattle.dwz_expand.specs.Units.{IsLaidOf};
 ghost use Rattle.dwz_expand_layout.specs.Laid.{layout_view};
-ghost use Rattle.dwz_expand_passes.specs.declared.file.NewFile.{NewFile};
+ghost use Rattle.dwz_expand_passes.specs.declared.new_file.NewFile.{NewFile};
 ghost use Rattle.dwz_expand_sections.specs.Refusals.{HavePlaces, SizeRefusal};
 
 use dwz_expand_layout::NewLayout;

@@ -14,10 +14,10 @@ use Rattle.dwz_model.proofs.ListFacts.{got_map, got_there}
 use Rattle.dwz_graph.specs.Surroundings.{behind_own}
 use Rattle.dwz_expand_layout.specs.Lines.{Line, lines, unit_lines}
 use Rattle.dwz_expand_layout.specs.Shown.{Keys}
-use Rattle.dwz_expand_values.proofs.PlacesSaid.{first_got, second_got, units_mean}
-use Rattle.dwz_expand_values.specs.Files.{Knows, KnowsCommon, around_at, around_beside, raw_in}
-use Rattle.dwz_expand_values.specs.declared.files.Known.{Known}
-use Rattle.dwz_expand_values.specs.declared.files.SourceFile.{SourceFile}
+use Rattle.dwz_expand_passes.proofs.PlacesSaid.{first_got, second_got, units_mean}
+use Rattle.dwz_expand_passes.specs.Files.{Knows, KnowsCommon, around_at, around_beside, raw_in}
+use Rattle.dwz_expand_passes.specs.declared.files.Known.{Known}
+use Rattle.dwz_expand_passes.specs.declared.files.SourceFile.{SourceFile}
 use Rattle.dwz_expand_passes.specs.Heads.{IsHead, IsHeadOf}
 use Rattle.dwz_expand_passes.specs.declared.heads.Head.{Head}
 use Rattle.dwz_law_copies.specs.Lined.{all_lines, units_lines}

@@ -22,9 +22,9 @@ use Rattle.dwz_graph.specs.Operands.{LooksUp}
 use Rattle.dwz_graph.specs.Places.{place_at}
 use Rattle.dwz_expand_sources.specs.Copies.{IsCopyFor}
 use Rattle.dwz_expand_sources.specs.declared.copies.CopyAt.{CopyAt}
-use Rattle.dwz_expand_values.proofs.FitLemmas.{stands_first}
-use Rattle.dwz_expand_values.proofs.PlacesSaid.{entry_said, unit_said, units_mean}
-use Rattle.dwz_expand_values.specs.Known.{StandsAt}
+use Rattle.dwz_expand_passes.proofs.FitLemmas.{stands_first}
+use Rattle.dwz_expand_passes.proofs.PlacesSaid.{entry_said, unit_said, units_mean}
+use Rattle.dwz_expand_passes.specs.Known.{StandsAt}
 use Rattle.dwz_expand_passes.specs.Kinds.{IsMain}
 use Rattle.dwz_law_copies.proofs.NumberLemmas.{numbers_law}
 use Rattle.dwz_law_copies.proofs.StandLemmas.{same_test}

@@ -16,9 +16,9 @@ use Rattle.dwz_expand_layout.specs.Entries.{attr_view}
 use Rattle.dwz_expand_layout.specs.declared.entries.NewAttr.{NewAttr}
 use Rattle.dwz_expand_layout.specs.declared.entries.NewOperand.{NewOperand}
 use Rattle.dwz_expand_sources.specs.Sources.{all_entries}
-use Rattle.dwz_expand_values.proofs.OperandLemmas.{map_twice}
-use Rattle.dwz_expand_values.specs.Files.{AnswersEntry, forms_of}
-use Rattle.dwz_expand_values.specs.declared.files.Known.{Known}
+use Rattle.dwz_expand_passes.proofs.OperandLemmas.{map_twice}
+use Rattle.dwz_expand_passes.specs.Files.{AnswersEntry, forms_of}
+use Rattle.dwz_expand_passes.specs.declared.files.Known.{Known}
 use Rattle.dwz_expand_passes.specs.Heads.{IsHeadOf}
 use Rattle.dwz_expand_passes.specs.Steps.{AnswersLine}
 use Rattle.dwz_expand_passes.specs.declared.heads.Head.{Head}

@@ -7,18 +7,18 @@ use Rattle.dwz_def_expand.specs.Refusals.{Where}
 use Rattle.dwz_expand_layout.specs.Shown.{keys_of}
 use Rattle.dwz_expand_sources.specs.declared.sources.NewUnit.{NewUnit}
 use Rattle.dwz_expand_sources.specs.declared.sources.SourceRange.{SourceRange}
-use Rattle.dwz_expand_values.proofs.OperandLemmas.{long_take, take_one, take_whole}
+use Rattle.dwz_expand_passes.proofs.OperandLemmas.{long_take, take_one, take_whole}
 use Rattle.std.specs.Prelude.{IsTrue, ◌↔◌}
 use Rattle.dwz_def_reading.specs.Units.{entries_in}
-use Rattle.dwz_expand_values.specs.Files.{SpeaksEntry, raw_in}
-use Rattle.dwz_expand_values.specs.declared.files.Known.{Known}
-use Rattle.dwz_expand_values.specs.declared.files.SourceFile.{SourceFile}
+use Rattle.dwz_expand_passes.specs.Files.{SpeaksEntry, raw_in}
+use Rattle.dwz_expand_passes.specs.declared.files.Known.{Known}
+use Rattle.dwz_expand_passes.specs.declared.files.SourceFile.{SourceFile}
 use Rattle.dwz_expand_sources.specs.Walk.{sources_of}
 use Rattle.dwz_expand_passes.specs.Noted.{AreNoted, AreNotedOf, IsNoted, IsNotedAt, Noted, plan_sources}
 use Rattle.dwz_expand_passes.specs.Passes.{Says}
 use Rattle.dwz_expand_passes.specs.Steps.{KnowsHere, NotedTo, rest_of}
 use Rattle.dwz_expand_passes.specs.declared.copied.Source.{Source}
-use Rattle.dwz_expand_passes.specs.declared.file.NewFile.{NewFile}
+use Rattle.dwz_expand_passes.specs.declared.new_file.NewFile.{NewFile}
 use Rattle.dwz_model.proofs.ListFacts.{got_there}
 use Rattle.dwz_law_copies.specs.Numbered.{key_in}
 

@@ -28,7 +28,7 @@ use Rattle.std.specs.List.{flat_map}
 use Rattle.std.proofs.lemmas.List.{length-map}
 use Rattle.dwz_def_expand.specs.Refusals.{Where}
 use Rattle.dwz_expand_passes.specs.Passes.{AreNew, Says, forms_in}
-use Rattle.dwz_expand_passes.specs.declared.file.NewFile.{NewFile}
+use Rattle.dwz_expand_passes.specs.declared.new_file.NewFile.{NewFile}
 use Rattle.dwz_law_copies.proofs.NumberLemmas.{copies_many, lengths}
 use Rattle.dwz_law_copies.proofs.ReferLemmas.{copy_refers, kind_refers}
 use Rattle.dwz_law_copies.proofs.StandLemmas.{same_test}

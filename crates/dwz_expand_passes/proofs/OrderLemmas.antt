@@ -16,10 +16,10 @@ use Rattle.dwz_model.specs.declared.fault.ReadErr.TheVariants.{NoMemory, Refused
 use Rattle.dwz_expand_layout.specs.Entries.{UnitLines}
 use Rattle.dwz_expand_sources.specs.declared.sources.NewUnit.{NewUnit}
 use Rattle.dwz_expand_sources.specs.Sources.{IsNewUnit}
-use Rattle.dwz_expand_values.proofs.PlacesSaid.{first_got}
+use Rattle.dwz_expand_passes.proofs.PlacesSaid.{first_got}
 use Rattle.dwz_expand_passes.specs.Passes.{AreNew, IsRefused, Says, forms_in}
 use Rattle.dwz_expand_passes.specs.Units.{IsNewOf, RefusesAt, RefusesUnit}
-use Rattle.dwz_expand_passes.specs.declared.file.NewFile.{NewFile}
+use Rattle.dwz_expand_passes.specs.declared.new_file.NewFile.{NewFile}
 use Rattle.dwz_expand_passes.proofs.StepLemmas.{first_front, free_first}
 use Rattle.dwz_expand_passes.proofs.UnitLemmas.{no_first}
 use Rattle.dwz_law_copies.specs.Copied.{HasCopies, HaveCopies}

@@ -7,11 +7,11 @@ use Rattle.dwz_def_expand.specs.Refusals.{Where}
 use Rattle.dwz_def_reading.specs.Documents.{DwUnit, entries_map, node_map}
 use Rattle.dwz_graph.specs.Surroundings.{behind_own}
 use Rattle.dwz_expand_sources.specs.Sources.{all_entries}
-use Rattle.dwz_expand_values.proofs.PlacesSaid.{said_many, units_joined, units_mapped}
-use Rattle.dwz_expand_values.specs.Files.{KnowsCommon, around_beside, common_count, common_of, raw_in}
-use Rattle.dwz_expand_values.specs.declared.files.SourceFile.{SourceFile}
+use Rattle.dwz_expand_passes.proofs.PlacesSaid.{said_many, units_joined, units_mapped}
+use Rattle.dwz_expand_passes.specs.Files.{KnowsCommon, around_beside, common_count, common_of, raw_in}
+use Rattle.dwz_expand_passes.specs.declared.files.SourceFile.{SourceFile}
 use Rattle.dwz_expand_passes.specs.Passes.{Says, entry_many}
-use Rattle.dwz_expand_passes.specs.declared.file.NewFile.{NewFile}
+use Rattle.dwz_expand_passes.specs.declared.new_file.NewFile.{NewFile}
 
 common_many : (c : Option SourceFile) (common : List (DwUnit ℕ)) (stands : Where ℕ) → KnowsCommon c common stands → length (listed_units common) ≡ common_count c
 unfolding listed_units

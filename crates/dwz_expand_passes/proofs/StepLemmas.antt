@@ -15,8 +15,8 @@ use Rattle.dwz_model.specs.declared.fault.ReadErr.TheVariants.{NoMemory, Refused
 use Rattle.dwz_expand_layout.specs.Depths.{DeepLine, with_ends}
 use Rattle.dwz_expand_layout.specs.Entries.{NewLine}
 use Rattle.dwz_expand_layout.specs.Lines.{Line}
-use Rattle.dwz_expand_values.specs.Files.{forms_of}
-use Rattle.dwz_expand_values.specs.declared.files.Known.{Known}
+use Rattle.dwz_expand_passes.specs.Files.{forms_of}
+use Rattle.dwz_expand_passes.specs.declared.files.Known.{Known}
 use Rattle.dwz_expand_passes.specs.Steps.{AnswersLine, AreCopied, CopyThere, IsSource, KnowsHere, PassedTo, RefusesIn, RefusesLine, RefusesLines, line_before, lines_before, rest_of}
 use Rattle.dwz_expand_passes.specs.declared.copied.Source.{Source}
 use Rattle.dwz_law_copies.specs.Copied.{NamesNoRoot}

@@ -31,11 +31,11 @@ use Rattle.dwz_expand_layout.specs.declared.entries.NewKind.{NewKind}
 use Rattle.dwz_expand_sources.specs.declared.sources.NewUnit.{NewUnit}
 use Rattle.dwz_expand_sources.specs.declared.sources.SourceRange.{SourceRange}
 use Rattle.dwz_expand_sources.specs.Sources.{AreSources, IsNewUnit, IsRange, Sources, all_entries, in_range, ranges_of}
-use Rattle.dwz_expand_values.specs.Files.{KnowsCommon, KnowsFile, StandSo, around_at, around_beside, common_of, forms_of, raw_in}
-use Rattle.dwz_expand_values.specs.declared.files.SourceFile.{SourceFile}
-use Rattle.dwz_expand_values.specs.declared.paths.TablePaths.{TablePaths}
-use Rattle.dwz_expand_values.specs.Paths.{IsPathsOf}
-use Rattle.dwz_expand_values.specs.declared.files.Known.{Known}
+use Rattle.dwz_expand_passes.specs.Files.{KnowsCommon, KnowsFile, StandSo, around_at, around_beside, common_of, forms_of, raw_in}
+use Rattle.dwz_expand_passes.specs.declared.files.SourceFile.{SourceFile}
+use Rattle.dwz_expand_passes.specs.declared.paths.TablePaths.{TablePaths}
+use Rattle.dwz_expand_passes.specs.Paths.{IsPathsOf}
+use Rattle.dwz_expand_passes.specs.declared.files.Known.{Known}
 use Rattle.dwz_expand_sources.proofs.GotLemmas.{each_there, sources_got}
 use Rattle.dwz_expand_sources.specs.Walk.{sources_of}
 use Rattle.dwz_expand_passes.specs.Passes.{IsPlanned, Says, entry_many, forms_in}
@@ -44,7 +44,7 @@ use Rattle.dwz_expand_passes.specs.Units.{IsNewOf, RefusesAt, RefusesUnit}
 use Rattle.dwz_model.specs.declared.fault.ReadErr.{ReadErr}
 use Rattle.dwz_model.specs.declared.fault.ReadErr.TheVariants.{NoMemory, Refused}
 use Rattle.dwz_def_expand.specs.Chosen.{choice}
-use Rattle.dwz_expand_passes.specs.declared.file.NewFile.{NewFile}
+use Rattle.dwz_expand_passes.specs.declared.new_file.NewFile.{NewFile}
 use Rattle.dwz_expand_passes.proofs.KindLemmas.{raw_unit}
 use Rattle.dwz_law_copies.proofs.LineLemmas.{all_nodes, listed_node, node_of}
 use Rattle.dwz_law_copies.proofs.NumberLemmas.{numbers_law}

@@ -1,3 +1,10 @@
+pub mod Paths
+pub mod Refusing
+pub mod Known
+pub mod Copied
+pub mod Attributes
+pub mod Files
+pub mod Faults
 pub mod Heads
 pub mod Steps
 pub mod Kinds

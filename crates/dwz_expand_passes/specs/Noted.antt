@@ -10,11 +10,11 @@ use Rattle.dwz_expand_layout.specs.declared.entries.NewEntry.{NewEntry}
 use Rattle.dwz_expand_layout.specs.declared.entries.NewOperand.{NewOperand}
 use Rattle.dwz_expand_sources.specs.declared.sources.SourceRange.{SourceRange}
 use Rattle.dwz_expand_sources.specs.declared.sources.NewUnit.{NewUnit}
-use Rattle.dwz_expand_values.specs.Files.{SpeaksEntry, raw_in}
-use Rattle.dwz_expand_values.specs.declared.files.SourceFile.{SourceFile}
+use Rattle.dwz_expand_passes.specs.Files.{SpeaksEntry, raw_in}
+use Rattle.dwz_expand_passes.specs.declared.files.SourceFile.{SourceFile}
 use Rattle.dwz_expand_sources.specs.Walk.{sources_of}
 use Rattle.dwz_expand_passes.specs.Passes.{Says}
-use Rattle.dwz_expand_passes.specs.declared.file.NewFile.{NewFile}
+use Rattle.dwz_expand_passes.specs.declared.new_file.NewFile.{NewFile}
 use Rattle.dwz_law_copies.specs.Lined.{all_lines}
 use Rattle.dwz_law_copies.specs.Numbered.{key_in}
 

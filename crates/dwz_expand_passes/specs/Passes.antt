@@ -16,9 +16,9 @@ use Rattle.dwz_model.specs.declared.fault.ReadErr.TheVariants.{NoMemory, Refused
 use Rattle.dwz_expand_layout.specs.Entries.{UnitLines}
 use Rattle.dwz_expand_sources.specs.Numbers.{copy_count}
 use Rattle.dwz_expand_sources.specs.Sources.{AreSources, all_entries}
-use Rattle.dwz_expand_values.specs.Files.{IsCommonReady, IsFileReady, KnowsCommon, KnowsFile, StandSo}
-use Rattle.dwz_expand_values.specs.Files.{around_beside, common_count, common_of, raw_in}
-use Rattle.dwz_expand_passes.specs.declared.file.NewFile.{NewFile}
+use Rattle.dwz_expand_passes.specs.Files.{IsCommonReady, IsFileReady, KnowsCommon, KnowsFile, StandSo}
+use Rattle.dwz_expand_passes.specs.Files.{around_beside, common_count, common_of, raw_in}
+use Rattle.dwz_expand_passes.specs.declared.new_file.NewFile.{NewFile}
 use Rattle.dwz_law_copies.specs.Copied.{HaveCopies}
 
 -- how many entries both files have

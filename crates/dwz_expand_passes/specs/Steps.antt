@@ -16,8 +16,8 @@ use Rattle.dwz_expand_layout.specs.Entries.{CanStore, NewLine, UnitLines, attr_v
 use Rattle.dwz_expand_layout.specs.Lines.{Line}
 use Rattle.dwz_expand_layout.specs.Shown.{keys_of}
 use Rattle.dwz_expand_layout.specs.declared.entries.NewKind.{NewKind}
-use Rattle.dwz_expand_values.specs.Files.{Knows, forms_of}
-use Rattle.dwz_expand_values.specs.declared.files.Known.{Known}
+use Rattle.dwz_expand_passes.specs.Files.{Knows, forms_of}
+use Rattle.dwz_expand_passes.specs.declared.files.Known.{Known}
 use Rattle.dwz_expand_passes.specs.Heads.{IsHeadOf}
 use Rattle.dwz_expand_passes.specs.Noted.{AreNotedOf, Noted}
 use Rattle.dwz_expand_passes.specs.declared.copied.CopiedEntry.{CopiedEntry}

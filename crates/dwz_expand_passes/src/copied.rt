@@ -8,15 +8,16 @@ ghost use Rattle.dwz_expand_layout.specs.Lines.{Line};
 ghost use Rattle.dwz_expand_passes.specs.Steps.{AnswersLine, CanBeWritten, IsSource, KnowsHere};
 ghost use Rattle.dwz_expand_passes.specs.Steps.{copied_deep, copied_line, depth_at, line_before};
 ghost use Rattle.dwz_expand_layout.specs.Shown.{keys_of};
-ghost use Rattle.dwz_expand_values.specs.Files.{IsKnownReady, SpeaksEntry, entry_count};
+ghost use Rattle.dwz_expand_passes.specs.Files.{IsKnownReady, SpeaksEntry, entry_count};
 ghost use Rattle.dwz_law_copies.specs.Lined.{all_lines};
 ghost use Rattle.dwz_law_copies.specs.Numbered.{key_in};
 ghost use Rattle.dwz_model.specs.Lists.{Each};
 
+use crate::files::Known;
 use crate::heads::{Head, head_of};
+use crate::values::put_attrs;
 use dwz_expand_layout::{NewAttr, NewEntry, NewOperand};
 use dwz_expand_sources::SourceWalk;
-use dwz_expand_values::{Known, put_attrs};
 use dwz_expr::Operand;
 use dwz_model::ReadErr;
 use std::alloc::Global;

@@ -8,13 +8,13 @@ ghost use Rattle.dwz_expand_layout.specs.Laid.{Made};
 ghost use Rattle.dwz_expand_layout.specs.declared.entries.NewKind.{NewKind as Kind};
 ghost use Rattle.dwz_expand_passes.specs.Steps.{AreCopied, KnowsHere, RefusesIn};
 ghost use Rattle.dwz_expand_passes.specs.Noted.{AreNotedOf, Noted};
-ghost use Rattle.dwz_expand_values.specs.Files.{IsKnownReady, entry_count, raw_in};
+ghost use Rattle.dwz_expand_passes.specs.Files.{IsKnownReady, entry_count, raw_in};
 ghost use Rattle.dwz_model.specs.Lists.{Each};
 
 use crate::copied::{CopiedEntry, next_source};
+use crate::files::Known;
 use crate::pass::Pass;
 use dwz_expand_sources::SourceWalk;
-use dwz_expand_values::Known;
 use dwz_model::ReadErr;
 
 // Whether an entry is one of the common file: those have the numbers behind the file's own.

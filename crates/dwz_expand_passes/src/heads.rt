@@ -7,12 +7,12 @@ ghost use Rattle.dwz_def_expand.specs.Source.{Copy};
 ghost use Rattle.dwz_def_reading.specs.Units.{entries_in};
 ghost use Rattle.dwz_expand_layout.specs.Lines.{Line};
 ghost use Rattle.dwz_expand_layout.specs.Shown.{Keys};
-ghost use Rattle.dwz_expand_values.specs.Files.{IsKnownReady, Knows, entry_count};
+ghost use Rattle.dwz_expand_passes.specs.Files.{IsKnownReady, Knows, entry_count};
 ghost use Rattle.dwz_expand_passes.specs.Heads.{IsHead, IsHeadOf};
 ghost use Rattle.dwz_law_copies.specs.Lined.{all_lines};
 ghost use Rattle.dwz_unit.specs.Rows.{EntryRow, rows_of, units_of};
 
-use dwz_expand_values::Known;
+use crate::files::Known;
 use dwz_unit::Units;
 
 /// The tag of an entry, and how deep it stands in its unit: a root has depth 1.

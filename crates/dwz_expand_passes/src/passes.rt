@@ -8,7 +8,7 @@ ghost use Rattle.dwz_expand_layout.specs.Laid.{laid, layout_view};
 ghost use Rattle.dwz_expand_layout.specs.Written.{written};
 ghost use Rattle.dwz_expand_passes.specs.Passes.{AreNew, IsReady, IsRefused, Says};
 
-use crate::file::NewFile;
+use crate::new_file::NewFile;
 use crate::units::pass_units;
 use dwz_expand_layout::{Laying, NewLayout, Writing};
 use dwz_model::ReadErr;

@@ -3,10 +3,10 @@
 ghost use Rattle.std.specs.Prelude.{IfOk, OnOk};
 ghost use Rattle.dwz_def_expand.specs.Chosen.{paths_at};
 ghost use Rattle.dwz_expand_passes.specs.Tables.{IsTableOf};
-ghost use Rattle.dwz_expand_values.specs.Paths.{IsPathsOf};
+ghost use Rattle.dwz_expand_passes.specs.Paths.{IsPathsOf};
 ghost use Rattle.dwz_graph.specs.Resolved.{sources_view};
 
-use dwz_expand_values::TablePaths;
+use crate::paths::TablePaths;
 use dwz_graph::InputSections;
 use dwz_model::NoMemory;
 use std::alloc::Global;

@@ -16,20 +16,20 @@ ghost use Rattle.dwz_expand_passes.specs.Units.{IsNewOf, RefusesAt};
 ghost use Rattle.dwz_expand_sources.specs.Numbers.{HasRanges, root_numbers};
 ghost use Rattle.dwz_expand_sources.specs.declared.sources.NewUnit.{NewUnit as UnitInPlan};
 ghost use Rattle.dwz_expand_sources.specs.Walk.{sources_of};
-ghost use Rattle.dwz_expand_values.specs.Files.{IsKnownReady, common_count, entry_count};
+ghost use Rattle.dwz_expand_passes.specs.Files.{IsKnownReady, common_count, entry_count};
 ghost use Rattle.dwz_law_copies.specs.Copied.{named_copy};
 ghost use Rattle.dwz_law_copies.specs.Numbered.{key_in};
 ghost use Rattle.dwz_model.specs.Lists.{Each};
 
 use crate::copied::CopiedEntry;
 use crate::entries::pass_entries;
-use crate::file::NewFile;
+use crate::files::{Known, SourceFile};
 use crate::kinds::kind_of;
+use crate::new_file::NewFile;
 use crate::pass::Pass;
 use crate::tables::LastTable;
 use dwz_expand_layout::NewKind;
 use dwz_expand_sources::{Copies, CopyNumbers, NewUnit, SourceWalk};
-use dwz_expand_values::{Known, SourceFile};
 use dwz_model::{NoMemory, ReadErr};
 
 // Takes a new unit, of a kind, where that is known of both files.

@@ -7,8 +7,8 @@ use Rattle.dwz_def_reading.specs.Shared.{operands_of}
 use Rattle.dwz_def_reading.specs.Texts.{slot}
 use Rattle.dwz_graph.specs.Resolved.{stored}
 use Rattle.dwz_label_entries.proofs.PlainLemmas.{list_means}
-use Rattle.dwz_expand_values.proofs.ContentLemmas.{as_class_of}
-use Rattle.dwz_expand_values.proofs.NamedLemmas.{list_at_place, list_by_slot}
+use Rattle.dwz_expand_passes.proofs.ContentLemmas.{as_class_of}
+use Rattle.dwz_expand_passes.proofs.NamedLemmas.{list_at_place, list_by_slot}
 use Rattle.dwz_expand.specs.Gathered.{AllKept, own_scope, told_at}
 use Rattle.dwz_expand.proofs.ListOperands.{no_list, offset_operands, other_none, slot_operands}
 use Rattle.dwz_expand.proofs.ToldSteps.{read_one, told_none, told_one, told_skip}

@@ -5,7 +5,7 @@ use Rattle.dwz_model.specs.declared.place.Base.TheVariants.{Unit as FromUnit}
 use Rattle.dwz_graph.specs.Operands.{is_named}
 use Rattle.dwz_label_entries.proofs.RefLemmas.{each_named}
 use Rattle.dwz_model.proofs.ListFacts.{got_in}
-use Rattle.dwz_expand_values.proofs.OperandLemmas.{got_or_default}
+use Rattle.dwz_expand_passes.proofs.OperandLemmas.{got_or_default}
 use Rattle.dwz_expand_sections.specs.Narrow.{operand_after}
 use Rattle.dwz_expand.specs.Gathered.{own_scope, spoken_at}
 use Rattle.dwz_expand.proofs.entry.put_operands.Goals as goal

@@ -7,8 +7,8 @@ use Rattle.dwz_forms.specs.RawValues.{raw_view}
 use Rattle.dwz_unit.proofs.ReadsLemmas.{reads_count, reads_next}
 use Rattle.dwz_graph.proofs.RowLemmas.{row_there}
 use Rattle.dwz_graph.proofs.ValueSteps.{next_read, no_pair}
-use Rattle.dwz_expand_values.specs.Files.{raw_in}
-use Rattle.dwz_expand_values.proofs.OperandLemmas.{take_whole}
+use Rattle.dwz_expand_passes.specs.Files.{raw_in}
+use Rattle.dwz_expand_passes.proofs.OperandLemmas.{take_whole}
 use Rattle.dwz_expand.specs.Gathered.{own_scope, told_in}
 use Rattle.dwz_expand.proofs.ToldSteps.{read_at, told_next, told_start}
 use Rattle.dwz_expand.proofs.entry.put_values.Goals as goal

@@ -5,7 +5,7 @@ use Rattle.dwz_def_reading.specs.Units.{RawUnit}
 use Rattle.dwz_unit.specs.Rows.{EntryRow, rows_of}
 use Rattle.dwz_unit.specs.Values.{Reads}
 use Rattle.dwz_expand.specs.Gathered.{CanBeRead, Tells, own_scope, told_in}
-use Rattle.dwz_expand_values.specs.Files.{raw_in}
+use Rattle.dwz_expand_passes.specs.Files.{raw_in}
 use Rattle.dwz_expand.proofs.entry.put_values.Given as goal
 
 abbrev pub invariant-loop-pair : goal.invariant-loop-pair

@@ -9,7 +9,7 @@ use Rattle.dwz_graph.proofs.RowLemmas.{entry_row}
 use Rattle.dwz_unit.specs.declared.rows.RawEntry.{RawEntry as EntryOfCode}
 use Rattle.dwz_expand_layout.specs.Laid.{layout_view}
 use Rattle.dwz_expand_passes.proofs.KindLemmas.{here_there}
-use Rattle.dwz_expand_values.specs.Files.{raw_in}
+use Rattle.dwz_expand_passes.specs.Files.{raw_in}
 use Rattle.dwz_expand.proofs.AllTold.{no_row, row_tells}
 use Rattle.dwz_expand.proofs.CanRead.{can_read}
 use Rattle.dwz_expand.proofs.numbers.put_source.Goals as goal

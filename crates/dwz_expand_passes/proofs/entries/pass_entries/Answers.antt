@@ -6,7 +6,7 @@ use Rattle.dwz_expand_layout.specs.Entries.{NewLine, line_view}
 use Rattle.dwz_expand_layout.specs.Shown.{keys_of}
 use Rattle.dwz_expand_layout.specs.declared.entries.NewOperand.{NewOperand}
 use Rattle.dwz_law_copies.specs.Numbered.{key_in}
-use Rattle.dwz_expand_values.specs.Files.{SpeaksEntry, entry_count}
+use Rattle.dwz_expand_passes.specs.Files.{SpeaksEntry, entry_count}
 use Rattle.dwz_expand_passes.specs.Noted.{Noted, noted_of}
 use Rattle.dwz_expand_passes.proofs.NotedLemmas.{none_noted, noted_none, noted_some, one_noted}
 use Rattle.dwz_expand_passes.specs.Steps.{copied_deep, depth_at, lines_before, rest_of}

@@ -1,6 +1,6 @@
 use Rattle.std.proofs.Common.{◌≡◌, ℕ, ◌-◌, ◌<◌, ◌≤◌, Some, slice_get, arith, ap, subst}
 use Rattle.dwz_def_reading.specs.Units.{entries_in}
-use Rattle.dwz_expand_values.specs.Files.{common_count, raw_in}
+use Rattle.dwz_expand_passes.specs.Files.{common_count, raw_in}
 use Rattle.dwz_expand_passes.specs.Heads.{IsHead}
 use Rattle.dwz_unit.specs.Rows.{EntryRow, rows_of}
 use Rattle.dwz_expand_passes.proofs.HeadLemmas.{common_head, own_head}

@@ -1,7 +1,7 @@
 use Rattle.std.proofs.Common.{refl}
 use Rattle.dwz_expand_passes.proofs.KindLemmas.{compile_shows, raw_unit, type_shows}
 use Rattle.dwz_expand_passes.proofs.kinds.kind_of.Goals as goal
-use Rattle.dwz_expand_values.specs.Files.{common_of, around_beside, raw_in}
+use Rattle.dwz_expand_passes.specs.Files.{common_of, around_beside, raw_in}
 use Rattle.dwz_graph.proofs.UnitBuilding.{kind_is}
 
 pub returns-then-read-eq-DW_UT_COMPILE : goal.returns-then-read-eq-DW_UT_COMPILE

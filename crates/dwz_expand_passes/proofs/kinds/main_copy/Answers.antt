@@ -1,6 +1,6 @@
 use Rattle.std.proofs.Common.{ℕ, None, Some, refl, sym, subst, ◌∙◌}
 use Rattle.dwz_expand_sources.specs.Copies.{IsCopyFor}
-use Rattle.dwz_expand_values.specs.Files.{around_beside, common_of, raw_in}
+use Rattle.dwz_expand_passes.specs.Files.{around_beside, common_of, raw_in}
 use Rattle.dwz_expand_passes.proofs.KindLemmas.{copy_named, main_stands, main_there, raw_unit}
 use Rattle.dwz_expand_passes.proofs.SaidLemmas.{all_many}
 use Rattle.dwz_expand_passes.proofs.kinds.main_copy.Goals as goal

@@ -7,7 +7,7 @@ use Rattle.dwz_graph.proofs.UnitBuilding.{kind_is}
 use Rattle.dwz_graph.specs.Here.{Here}
 use Rattle.dwz_unit.specs.declared.rows.RawUnit.{RawUnit as UnitOfCode}
 use Rattle.dwz_graph.specs.Resolved.{IsHere, scope_in}
-use Rattle.dwz_expand_values.specs.Files.{raw_in}
+use Rattle.dwz_expand_passes.specs.Files.{raw_in}
 use Rattle.dwz_expand_passes.proofs.KindLemmas.{here_there, main_told}
 use Rattle.dwz_model.proofs.ListFacts.{same_got}
 use Rattle.dwz_expand_passes.proofs.kinds.main_of.Goals as goal

@@ -2,7 +2,7 @@ use Rattle.std.proofs.Common.{◌≡◌, ◌<◌, List, None, Some, length, slic
 use Rattle.std.specs.Prelude.{slice_index_or}
 use Rattle.dwz_graph.specs.Here.{Here}
 use Rattle.dwz_expand_sources.specs.declared.sources.NewUnit.{NewUnit}
-use Rattle.dwz_expand_values.specs.Files.{raw_in}
+use Rattle.dwz_expand_passes.specs.Files.{raw_in}
 use Rattle.dwz_expand_passes.proofs.KindLemmas.{here_there}
 use Rattle.dwz_expand_passes.proofs.SaidLemmas.{all_many}
 use Rattle.dwz_expand_passes.proofs.UnitLemmas.{got_item, knows_here, paths_told, planned_unit}

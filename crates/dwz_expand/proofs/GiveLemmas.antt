@@ -6,7 +6,7 @@ use Rattle.dwz_model.proofs.Members.{in_nth, nth_get}
 use Rattle.dwz_def_reading.specs.declared.exprs.Operand.{Operand}
 use Rattle.dwz_def_expand.specs.OneFile.{OneFile, ReadsOne}
 use Rattle.dwz_def_expand.specs.Output.{Spoken, in_lists, number_of_operand}
-use Rattle.dwz_graph_resolve.specs.declared.operands.ListOperand.{ListOperand}
+use Rattle.dwz_graph.specs.ListOperand.{ListOperand}
 use Rattle.dwz_expand_sections.specs.ListLaws.{AreListed, CanHaveNumbers, ListsLaw}
 use Rattle.dwz_expand_sections.specs.Narrow.{operand_after}
 use Rattle.dwz_expand_sections.specs.NumberLaws.{GivesNumbers, IsOperandOf}

@@ -16,7 +16,7 @@ use Rattle.dwz_graph.specs.declared.file.File.{File}
 use Rattle.dwz_graph.specs.ByRule.{AreReadAs, IsReadBy, numbered_rule}
 use Rattle.dwz_graph.specs.Surroundings.{sources_view}
 use Rattle.dwz_graph.specs.Files.{AreBack, FilesRead, HasCommon}
-use Rattle.dwz_graph_resolve.specs.ListRows.{operand_view}
+use Rattle.dwz_graph.specs.ListRows.{operand_view}
 use Rattle.dwz_expand_sections.specs.ListLaws.{AreListed}
 
 own_sources : (file : FileRead) (common : Option FileRead) → (around (record { file = file; common = common }) 0).sources ≡ sources_of file.bytes

@@ -9,8 +9,8 @@ use Rattle.dwz_model.proofs.ListFacts.{in_cases, in_left, in_right}
 use Rattle.dwz_def_reading.specs.declared.exprs.Operand.{Operand}
 use Rattle.dwz_def_reading.specs.Shared.{ListOperand as Row, StandApart}
 use Rattle.dwz_def_reading.specs.Units.{RawUnit}
-use Rattle.dwz_graph_resolve.specs.declared.operands.ListOperand.{ListOperand}
-use Rattle.dwz_graph_resolve.specs.ListRows.{operand_view}
+use Rattle.dwz_graph.specs.ListOperand.{ListOperand}
+use Rattle.dwz_graph.specs.ListRows.{operand_view}
 use Rattle.dwz_expand.specs.Rows.{AreNumbered, HasPlace, Rise}
 
 -- ---- they rise

@@ -10,7 +10,7 @@ use Rattle.dwz_def_tops.proofs.SpotLemmas.{numbers_same, numbers_true}
 use Rattle.dwz_def_output.specs.Contents.{if_other}
 use Rattle.dwz_def_expand.specs.OneFile.{OneFile}
 use Rattle.dwz_graph.specs.declared.file.File.{File}
-use Rattle.dwz_graph_resolve.specs.declared.operands.ListOperand.{ListOperand}
+use Rattle.dwz_graph.specs.ListOperand.{ListOperand}
 use Rattle.dwz_expand_sections.specs.ListLaws.{AreListed}
 use Rattle.dwz_expand_sections.specs.Lists.{HasNumbers}
 use Rattle.dwz_expand_sections.specs.NumberLaws.{GivesNumbers, ListNumbersLaw}

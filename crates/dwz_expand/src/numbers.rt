@@ -22,7 +22,7 @@ use dwz_def_reading::Operand;
 use dwz_expand_layout::NewLayout;
 use dwz_expand_passes::{NewFile, SourceFile};
 use dwz_expand_sources::{Copies, CopyNumbers, SourceWalk};
-use dwz_graph_resolve::ListOperand;
+use dwz_graph::ListOperand;
 use dwz_model::NoMemory;
 
 /// A new unit, by its number.

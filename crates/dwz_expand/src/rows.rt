@@ -4,7 +4,7 @@ ghost use Rattle.std.specs.Prelude.{◌≡◌, ◌++◌, ◌∷◌, ◌<◌, ◌
 ghost use Rattle.std.specs.List.Sorted.{IsNonDecreasingBy, IsPartitionPoint};
 ghost use Rattle.dwz_def_expand.specs.OneFile.{OneFile, ReadsOne};
 ghost use Rattle.dwz_def_reading.specs.declared.exprs.Operand.{Operand};
-ghost use Rattle.dwz_graph_resolve.specs.declared.operands.ListOperand.{ListOperand};
+ghost use Rattle.dwz_graph.specs.ListOperand.{ListOperand};
 ghost use Rattle.dwz_expand_sections.specs.ListLaws.{AreListed};
 ghost use Rattle.dwz_expand_sections.specs.NumberLaws.{GivesNumbers};
 ghost use Rattle.dwz_expand.specs.Rows.{AreNumbered, Rise};
@@ -12,7 +12,7 @@ ghost use Rattle.dwz_expand.specs.Listed.{AreTold};
 
 use dwz_def_reading::Operand;
 use dwz_expand_sections::list_laws;
-use dwz_graph_resolve::ListOperand;
+use dwz_graph::ListOperand;
 use dwz_model::NoMemory;
 use std::alloc::Global;
 

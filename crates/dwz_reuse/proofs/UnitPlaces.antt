@@ -19,7 +19,7 @@ use Rattle.dwz_def_tops.specs.Shown.{keys, unit_keys, units_keys}
 use Rattle.dwz_def_tops.specs.Spots.{EntryName, Within}
 use Rattle.dwz_graph.proofs.RowUnits.{rows_unit}
 use Rattle.dwz_graph.proofs.TopLemmas.{get_cases}
-use Rattle.dwz_graph_resolve.proofs.PlaceLemmas.{in_places}
+use Rattle.dwz_graph.proofs.PlaceLemmas.{in_places}
 use Rattle.dwz_unit.specs.Rows.{EntryRow, rows_from, rows_in}
 
 -- the places of the entries of a unit

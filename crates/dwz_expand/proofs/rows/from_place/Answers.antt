@@ -2,7 +2,7 @@ use Rattle.std.proofs.Common.{nat_lt, of_calls, rules}
 use Rattle.std.proofs.lemmas.Bool.{ltb-true, ltb-false}
 use Rattle.std.proofs.lemmas.Fn.{always_returns_same}
 use Rattle.std.proofs.lemmas.List.Sorted.{IsPartitionedBy-ltb}
-use Rattle.dwz_graph_resolve.specs.declared.operands.ListOperand.{ListOperand}
+use Rattle.dwz_graph.specs.ListOperand.{ListOperand}
 use Rattle.dwz_expand.proofs.rows.from_place.Goals as goal
 
 pub returns-clause-begin : goal.returns-clause-begin

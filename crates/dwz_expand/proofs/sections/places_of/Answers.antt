@@ -1,5 +1,5 @@
 use Rattle.std.proofs.Common.{List, subst, sym}
-use Rattle.dwz_graph_resolve.specs.declared.operands.ListOperand.{ListOperand}
+use Rattle.dwz_graph.specs.ListOperand.{ListOperand}
 use Rattle.dwz_expand_sections.specs.Lists.{HasNumbers}
 use Rattle.dwz_expand.proofs.sections.places_of.Goals as goal
 

@@ -1,7 +1,7 @@
 use Rattle.std.proofs.Common.{List, refl, ap, subst, sym, ◌∙◌}
 use Rattle.dwz_def_encoding.specs.Writing.{joined}
 use Rattle.dwz_def_output.specs.Contents.{if_other}
-use Rattle.dwz_graph_resolve.specs.declared.operands.ListOperand.{ListOperand}
+use Rattle.dwz_graph.specs.ListOperand.{ListOperand}
 use Rattle.dwz_expand_layout.specs.Laid.{Made}
 use Rattle.dwz_expand_sections.specs.Lists.{HasNumbers}
 use Rattle.dwz_expand.proofs.SectionsMade.{sections_made}

@@ -33,8 +33,9 @@ use Rattle.dwz_nodes.specs.Looks.{IsRefined}
 use Rattle.dwz_check.specs.Nodes.{AreNodesOf}
 use Rattle.dwz_check.proofs.Few.{count_fits}
 use Rattle.dwz_check.proofs.GraphSays.{GraphSays}
-use Rattle.dwz_check.proofs.Pairs.{one_meaning, one_pair, two_of}
-use Rattle.dwz_check.proofs.WellRead.{well_read_back}
+use Rattle.dwz_law_check.proofs.Placed.{one_meaning}
+use Rattle.dwz_check.proofs.Pairs.{one_pair, two_of}
+use Rattle.dwz_law_check.proofs.WellRead.{well_read_back}
 
 in_first : {X : Type 0} (xs : List X) (x y : X) → xs ≡ x ∷ y ∷ [] → In x xs
 in_first xs x y e = subst (λ (w : List _). In x w) (sym e) (inl refl)

@@ -1,6 +1,5 @@
 -- What the two files of a graph say, and their common one: where numbers stand for places, and with places.
 use Rattle.std.proofs.Common.{◌≡◌, ℕ, ◌+◌, ◌^◌, ◌≤◌, true, false, List, [], ◌∷◌, length, map, Option, Some, None, Result, Ok, refl, sym, ap, subst, ◌∙◌, get_or, arith}
-use Rattle.std.proofs.Common.{Bor}
 use Rattle.std.specs.Option.{option_map}
 use Rattle.dwz_def_reading.specs.Documents.{Doc, DwUnit, unit_map}
 use Rattle.dwz_def_reading.specs.Files.{Limits, ReadsBy, file_meaning_by, limits_after, no_files_before}
@@ -31,8 +30,9 @@ use Rattle.dwz_law_check.specs.MappedRows.{TellsApart, files_map}
 use Rattle.dwz_unit.specs.declared.mode.FileKind.{FileKind}
 use Rattle.dwz_unit.specs.declared.mode.FileKind.TheVariants.{Back, Common as Shared}
 use Rattle.dwz_unit.specs.Rows.{units_of}
-use Rattle.dwz_check.proofs.Numbered.{alone_units, behind_units, lie_below, means_of, number_behind, numbers_apart, own_apart}
-use Rattle.dwz_check.proofs.Pairs.{one_meaning, pair_read, two_of}
+use Rattle.dwz_law_check.proofs.Numbered.{alone_units, behind_units, lie_below, means_of, number_behind, numbers_apart, own_apart}
+use Rattle.dwz_law_check.proofs.Placed.{ArePlaced, one_meaning}
+use Rattle.dwz_check.proofs.Pairs.{pair_read, two_of}
 
 -- what is known of the files, as the graph keeps them, and of the contents that it has
 pub record GraphSays (r : FilesRead) (old new : File) (common : Option File) : Type 0 where
@@ -59,13 +59,6 @@ pub record GraphSays (r : FilesRead) (old new : File) (common : Option File) : T
   pub new_apart : TellsApart g
   pub old_placed : files_map f (beside a c) ≡ beside_common (said_finished r) x
   pub new_placed : files_map g (beside b c) ≡ beside_common (said_finished r) y
-
--- what they say with places is what they say where numbers stand for these
-pub record ArePlaced : Type 0 where
-  pub common : (number : ℕ) (l : Limits) (bytes : List ℕ) (raw : List RawUnit) (doc : Doc ℕ) → file_meaning_by (numbered_rule (rule_of_common number)) l bytes ≡ Ok (raw, doc)
-      → file_meaning_by (rule_of_common number) l bytes ≡ Ok (raw, doc_placed (rule_of_common number) bytes raw doc)
-  pub back : (given : Option GivenCommon) (number : ℕ) (l : Limits) (bytes : List ℕ) (raw : List RawUnit) (doc : Doc ℕ)
-      → file_meaning_by (numbered_rule (rule_of_back given number)) l bytes ≡ Ok (raw, doc) → file_meaning_by (rule_of_back given number) l bytes ≡ Ok (raw, doc_placed (rule_of_back given number) bytes raw doc)
 
 said_is : (r : FilesRead) (said : FinishedDocs) → ReadFinished r.common r.back said → said_finished r ≡ said
 unfolding said_finished
@@ -298,11 +291,6 @@ says_at r common files old new h x y =
     let first : h.old ≡ old = sym (x ∙ ap (λ (w : List File). get_or w 0 old) h.are) in
     let second : h.new ≡ new = sym (y ∙ ap (λ (w : List File). get_or w 1 new) h.are) in
     subst (λ (w : File). GraphSays r old w common) second (subst (λ (w : File). GraphSays r w h.new common) first h.says)
-
--- the common file by its units
-pub units_beside : (o : Option (Bor File)) → option_map (λ f. f.units) (option_map (λ f. f.now) o) ≡ option_map (λ f. f.now.units) o
-units_beside None = refl
-units_beside (Some f) = refl
 
 none_meant : (around : Around ℕ) (c : List (DwUnit ℕ)) → c ≡ [] → units_meaning around [] ≡ Ok c
 unfolding units_meaning

@@ -1,5 +1,3 @@
-pub mod WellRead
-pub mod Numbered
 pub mod Few
 pub mod Pairs
 pub mod GraphSays

@@ -8,6 +8,7 @@ use Rattle.dwz_check_labels.specs.Graph.{SayTwo}
 use Rattle.dwz_graph.specs.ByRule.{AreReadAs}
 use Rattle.dwz_graph.specs.declared.file.File.{File}
 use Rattle.dwz_unit.specs.Rows.{units_of}
+use Rattle.dwz_law_check.proofs.Placed.{one_meaning}
 
 pub two_of : {X : Type 0} (xs : List X) → length xs ≡ 2 → (x : X) × (y : X) × (xs ≡ x ∷ y ∷ [])
 two_of [] e = absurd (omega (arith, e))
@@ -21,15 +22,6 @@ pair_read Is l x y [] end h = absurd h
 pair_read Is l x y (f ∷ []) end h = absurd h.1
 pair_read Is l x y (f ∷ g ∷ []) end h = (f, g, refl, h.0, h.1.0)
 pair_read Is l x y (f ∷ g ∷ k ∷ files) end h = absurd h.1.1
-
--- what files say by a rule is told by the rule
-pub one_meaning : (rule : ReadingRule ℕ) (l : Limits) (bytes : List ℕ) (raw other : List RawUnit) (doc said : Doc ℕ) → file_meaning_by rule l bytes ≡ Ok (raw, doc)
-    → file_meaning_by rule l bytes ≡ Ok (other, said) → (raw ≡ other) × (doc ≡ said)
-one_meaning rule l bytes raw other doc said e h =
-    let p : List RawUnit × Doc ℕ = (raw, doc) in
-    let q : List RawUnit × Doc ℕ = (other, said) in
-    let both : p ≡ q = cc in
-    ((λ i. (both i).0), λ i. (both i).1)
 
 pub one_pair : (rule : ReadingRule ℕ) (l : Limits) (x y : List ℕ) (a b c d : List (DwUnit ℕ)) → SayTwo rule l (x ∷ y ∷ []) a b → SayTwo rule l (x ∷ y ∷ []) c d → (a ≡ c) × (b ≡ d)
 one_pair rule l x y a b c d s t =

@@ -28,10 +28,9 @@ use Rattle.dwz_graph.specs.ByRule.{AreReadAs, IsReadBy, doc_placed, numbered_rul
 use Rattle.dwz_graph.specs.Files.{AreBack, AreReadFromBy, HasCommon}
 use Rattle.dwz_graph.specs.Surroundings.{behind_own, sources_view}
 use Rattle.dwz_graph.proofs.PlaceLemmas.{places_are, places_many}
-use Rattle.dwz_check.proofs.GraphSays.{ArePlaced}
-use Rattle.dwz_check.proofs.Numbered.{alone_units, behind_units, lie_below, means_of, number_behind, numbers_apart, own_apart}
-use Rattle.dwz_check.proofs.Pairs.{one_meaning}
-use Rattle.dwz_check.proofs.WellRead.{well_read_back}
+use Rattle.dwz_law_check.proofs.Placed.{ArePlaced, one_meaning}
+use Rattle.dwz_law_check.proofs.Numbered.{alone_units, behind_units, lie_below, means_of, number_behind, numbers_apart, own_apart}
+use Rattle.dwz_law_check.proofs.WellRead.{well_read_back}
 use Rattle.dwz_check_index.specs.Index.{ListedEntry, listed_units}
 use Rattle.dwz_check_labels.specs.FilesSaid.{around_given}
 use Rattle.dwz_imports.specs.Imports.{same}

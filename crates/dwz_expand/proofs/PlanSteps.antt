@@ -5,7 +5,7 @@ use Rattle.dwz_def_cross.specs.Tops.{WithCommon}
 use Rattle.dwz_unit.specs.Rows.{Source, units_of}
 use Rattle.dwz_graph.specs.declared.file.File.{File}
 use Rattle.dwz_graph.specs.Files.{FilesRead}
-use Rattle.dwz_check.proofs.GraphSays.{units_beside}
+use Rattle.dwz_law_check.proofs.Placed.{units_beside}
 use Rattle.dwz_imports.specs.Said.{SaysBeside, raw_beside}
 use Rattle.dwz_expand_sources.specs.Sources.{all_entries}
 use Rattle.dwz_expand_passes.specs.Faults.{count_in}

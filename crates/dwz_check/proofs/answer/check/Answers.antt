@@ -7,7 +7,8 @@ use Rattle.dwz_check_index.specs.Both.{raw_beside}
 use Rattle.dwz_nodes.specs.Looks.{IsRefined}
 use Rattle.dwz_unit.specs.Rows.{Source}
 use Rattle.dwz_check.proofs.Decides.{are_closed, are_columns, is_same, labels_few, two_say}
-use Rattle.dwz_check.proofs.GraphSays.{graph_of, pair_long, says_at, units_beside}
+use Rattle.dwz_law_check.proofs.Placed.{units_beside}
+use Rattle.dwz_check.proofs.GraphSays.{graph_of, pair_long, says_at}
 use Rattle.dwz_check.proofs.answer.check.Goals as goal
 
 pub nodes_of-requires-clause-few : goal.nodes_of-requires-clause-few

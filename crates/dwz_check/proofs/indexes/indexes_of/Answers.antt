@@ -7,7 +7,8 @@ use Rattle.dwz_check_index.specs.Both.{raw_beside}
 use Rattle.dwz_graph.specs.declared.file.File.{File}
 use Rattle.dwz_unit.specs.Rows.{Source, units_of}
 use Rattle.dwz_check.proofs.Decides.{indexes_are}
-use Rattle.dwz_check.proofs.GraphSays.{common_meant, graph_of, pair_long, says_at, units_beside}
+use Rattle.dwz_law_check.proofs.Placed.{units_beside}
+use Rattle.dwz_check.proofs.GraphSays.{common_meant, graph_of, pair_long, says_at}
 use Rattle.dwz_check.proofs.indexes.indexes_of.Goals as goal
 
 pub bounds-files-0 : goal.bounds-files-0

@@ -15,8 +15,8 @@ use Rattle.dwz_def_expand.specs.OneFile.{OneFile}
 use Rattle.dwz_def_expand.specs.Chosen.{Choice}
 use Rattle.dwz_def_expand.specs.Refusals.{IsLost, LostFault, Site, SiteFault, Where, not_imported, sites, with_numbers}
 use Rattle.dwz_def_expand.specs.Source.{source_places}
-use Rattle.dwz_imports.specs.Imports.{same}
-use Rattle.dwz_check_index.specs.Index.{listed_units}
+use Rattle.dwz_expand_sources.specs.Imports.{same}
+use Rattle.dwz_expand_sources.specs.Index.{listed_units}
 use Rattle.dwz_check_labels.proofs.EntryLemmas.{row_of}
 use Rattle.dwz_graph.proofs.TreeLemmas.{node_attrs}
 use Rattle.dwz_unit.specs.Rows.{EntryRow, rows_of}

@@ -14,8 +14,8 @@ use Rattle.dwz_def_cross.specs.Tops.{WithCommon, unless_partial, units_with_comm
 use Rattle.dwz_def_expand.specs.Source.{is_partial, source_places, source_unit}
 use Rattle.dwz_def_expand.proofs.SourceLemmas.{in_whole, source_none}
 use Rattle.dwz_law_expand.proofs.SiteLemmas.{key_from}
-use Rattle.dwz_check_index.specs.Index.{listed, listed_units}
-use Rattle.dwz_imports.specs.Imports.{same}
+use Rattle.dwz_expand_sources.specs.Index.{listed, listed_units}
+use Rattle.dwz_expand_sources.specs.Imports.{same}
 use Rattle.dwz_expand_sources.specs.declared.sources.NewUnit.{NewUnit}
 use Rattle.dwz_expand_sources.specs.declared.sources.SourceRange.{SourceRange}
 use Rattle.dwz_expand_sources.specs.Numbers.{copy_count}

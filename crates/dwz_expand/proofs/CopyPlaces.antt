@@ -14,7 +14,7 @@ use Rattle.dwz_def_expand.specs.Output.{Spoken, new_places, new_start, number_of
 use Rattle.dwz_def_expand.specs.Source.{Copy, copy_for, source_places, source_unit}
 use Rattle.dwz_def_reading.specs.Documents.{DwUnit}
 use Rattle.dwz_def_reading.specs.Places.{Place}
-use Rattle.dwz_imports.specs.Imports.{same}
+use Rattle.dwz_expand_sources.specs.Imports.{same}
 use Rattle.dwz_expand_layout.specs.Depths.{DeepLine, with_ends}
 use Rattle.dwz_expand_layout.specs.Entries.{NewLine, UnitLines, line_count}
 use Rattle.dwz_expand_layout.specs.Laid.{Made, laid}

@@ -17,7 +17,7 @@ use Rattle.dwz_def_images.proofs.ApartOwn.{keys_joined}
 use Rattle.dwz_def_tops.proofs.ShownLemmas.{unit_key}
 use Rattle.dwz_law_expand.proofs.SiteLemmas.{node_from, node_key, owner_is, owner_none}
 use Rattle.dwz_expand_sources.proofs.ForLemmas.{tests}
-use Rattle.dwz_imports.specs.Imports.{same}
+use Rattle.dwz_expand_sources.specs.Imports.{same}
 use Rattle.dwz_expand_passes.specs.Faults.{file_number}
 use Rattle.dwz_expand.specs.Refused.{InFiles}
 

@@ -1,7 +1,7 @@
 -- New units that have the copies of a plan are the new file.
 use Rattle.dwz_def_expand.specs.Chosen.{choice}
 use Rattle.dwz_graph.specs.Surroundings.{sources_view}
-use Rattle.dwz_imports.specs.Imports.{same}
+use Rattle.dwz_expand_sources.specs.Imports.{same}
 use Rattle.dwz_law_copies.proofs.FileLemmas.{file_law}
 use Rattle.dwz_expand.specs.Plans.{NewFileLaw}
 

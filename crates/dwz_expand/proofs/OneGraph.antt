@@ -31,9 +31,9 @@ use Rattle.dwz_graph.proofs.PlaceLemmas.{places_are, places_many}
 use Rattle.dwz_law_check.proofs.Placed.{ArePlaced, one_meaning}
 use Rattle.dwz_law_check.proofs.Numbered.{alone_units, behind_units, lie_below, means_of, number_behind, numbers_apart, own_apart}
 use Rattle.dwz_law_check.proofs.WellRead.{well_read_back}
-use Rattle.dwz_check_index.specs.Index.{ListedEntry, listed_units}
+use Rattle.dwz_expand_sources.specs.Index.{ListedEntry, listed_units}
 use Rattle.dwz_check_labels.specs.FilesSaid.{around_given}
-use Rattle.dwz_imports.specs.Imports.{same}
+use Rattle.dwz_expand_sources.specs.Imports.{same}
 use Rattle.dwz_expand_sources.proofs.ForLemmas.{tests}
 use Rattle.dwz_expand_passes.specs.declared.files.SourceFile.{SourceFile}
 use Rattle.dwz_expand_passes.specs.Files.{around_beside, common_of, raw_in}

@@ -27,7 +27,7 @@ use Rattle.dwz_def_expand.specs.Source.{source_places}
 use Rattle.dwz_graph.specs.declared.file.File.{File}
 use Rattle.dwz_graph.specs.Files.{FilesRead, HasCommon}
 use Rattle.dwz_graph.specs.Resolved.{sources_view}
-use Rattle.dwz_imports.specs.Imports.{same}
+use Rattle.dwz_expand_sources.specs.Imports.{same}
 use Rattle.dwz_expand_layout.specs.Entries.{UnitLines}
 use Rattle.dwz_expand_layout.specs.Laid.{Made, laid}
 use Rattle.dwz_expand_layout.specs.Shown.{keys_of}

@@ -15,7 +15,7 @@ use Rattle.dwz_def_expand.specs.Source.{copy, copy_for, source_places, unit_for}
 use Rattle.dwz_graph.specs.Operands.{LooksUp}
 use Rattle.dwz_graph.specs.Resolved.{place_at, places, scope_in}
 use Rattle.dwz_check_labels.proofs.AloneLemmas.{target_alone}
-use Rattle.dwz_imports.specs.Imports.{same}
+use Rattle.dwz_expand_sources.specs.Imports.{same}
 use Rattle.dwz_expand_sources.specs.Sources.{all_entries}
 use Rattle.dwz_expand_sources.specs.declared.copies.CopyAt.{CopyAt}
 use Rattle.dwz_expand_sources.specs.Copies.{IsCopyFor, IsCopyNumber}

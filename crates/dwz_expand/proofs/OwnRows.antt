@@ -9,7 +9,7 @@ use Rattle.dwz_model.proofs.ListFacts.{got_below}
 use Rattle.dwz_def_reading.specs.Places.{Place}
 use Rattle.dwz_def_reading.specs.Units.{RawUnit, entries_in}
 use Rattle.dwz_def_expand.specs.OneFile.{OneFile}
-use Rattle.dwz_check_index.specs.Index.{listed_units}
+use Rattle.dwz_expand_sources.specs.Index.{listed_units}
 use Rattle.dwz_check_labels.proofs.EntryLemmas.{row_of}
 use Rattle.dwz_graph.proofs.TreeLemmas.{node_attrs}
 use Rattle.dwz_unit.specs.Rows.{EntryRow, rows_of}

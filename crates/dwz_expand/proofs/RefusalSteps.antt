@@ -10,7 +10,7 @@ use Rattle.dwz_def_expand.specs.Refusals.{sites}
 use Rattle.dwz_graph.specs.declared.file.File.{File}
 use Rattle.dwz_graph.specs.Files.{FilesRead}
 use Rattle.dwz_graph.specs.Surroundings.{sources_view}
-use Rattle.dwz_imports.specs.Imports.{same}
+use Rattle.dwz_expand_sources.specs.Imports.{same}
 use Rattle.dwz_expand_passes.specs.Faults.{FirstRefusalIs, ValueRefusal, file_number}
 use Rattle.dwz_expand.proofs.FaultMaps.{fault_law}
 use Rattle.dwz_expand.proofs.FileNumbers.{numbers_law}

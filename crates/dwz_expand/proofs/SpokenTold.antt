@@ -21,7 +21,7 @@ use Rattle.dwz_def_expand.specs.OneFile.{FileRead, OneFile, StoredAttr, around, 
 use Rattle.dwz_def_expand.specs.Output.{Spoken, in_expression, sites_of_file, spoken_in}
 use Rattle.dwz_def_expand.specs.Refusals.{Site, sites}
 use Rattle.dwz_def_expand.specs.Source.{copy_for, source_places}
-use Rattle.dwz_imports.specs.Imports.{same}
+use Rattle.dwz_expand_sources.specs.Imports.{same}
 use Rattle.dwz_graph.specs.Surroundings.{behind_own}
 use Rattle.dwz_unit.specs.Rows.{EntryRow}
 use Rattle.dwz_expand_layout.specs.Laid.{Made}

@@ -15,7 +15,7 @@ use Rattle.dwz_def_reading.specs.Units.{RawUnit, entries_in}
 use Rattle.dwz_def_reading.proofs.PartLemmas.{bind_ok}
 use Rattle.dwz_def_expand.specs.OneFile.{FileRead, IsStoredAmong, IsStoredIn, OneFile, around, part, stored_attr, with_scope}
 use Rattle.dwz_def_expand.proofs.StoredLemmas.{attr_stored}
-use Rattle.dwz_check_index.specs.Index.{ListedEntry, listed_units}
+use Rattle.dwz_expand_sources.specs.Index.{ListedEntry, listed_units}
 use Rattle.dwz_check_labels.proofs.EntryLemmas.{row_of}
 use Rattle.dwz_graph.specs.Named.{entries_of, preorder}
 use Rattle.dwz_graph.specs.Surroundings.{behind_own}

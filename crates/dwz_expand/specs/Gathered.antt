@@ -17,7 +17,7 @@ use Rattle.dwz_def_expand.specs.Output.{Spoken}
 use Rattle.dwz_def_expand.specs.Refusals.{IsLost}
 use Rattle.dwz_def_expand.specs.Source.{source_places}
 use Rattle.dwz_graph.specs.Resolved.{IsHere}
-use Rattle.dwz_imports.specs.Imports.{same}
+use Rattle.dwz_expand_sources.specs.Imports.{same}
 use Rattle.dwz_expand_sources.specs.Rows.{AreCopies}
 use Rattle.dwz_expand_layout.specs.Laid.{layout_view}
 use Rattle.dwz_expand_passes.specs.declared.new_file.NewFile.{NewFile}

@@ -18,7 +18,7 @@ use Rattle.dwz_graph.specs.Files.{AreBack, FilesRead, HasCommon}
 use Rattle.dwz_graph.specs.Here.{Here}
 use Rattle.dwz_graph.specs.Surroundings.{sources_view}
 use Rattle.dwz_check_labels.specs.Files.{AreHeres}
-use Rattle.dwz_imports.specs.Imports.{same}
+use Rattle.dwz_expand_sources.specs.Imports.{same}
 use Rattle.dwz_imports.specs.Said.{SaysBeside, raw_beside}
 use Rattle.dwz_expand_sources.specs.Numbers.{HasRanges, copy_count}
 use Rattle.dwz_expand_sources.specs.Sources.{AreSources, Sources}

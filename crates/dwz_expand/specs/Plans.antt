@@ -14,7 +14,7 @@ use Rattle.dwz_expand_passes.specs.Faults.{count_in}
 use Rattle.dwz_expand.specs.declared.files.SourceFiles.{SourceFiles}
 use Rattle.dwz_expand.specs.declared.plan.Plan.{Plan}
 use Rattle.dwz_def_expand.specs.Chosen.{choice}
-use Rattle.dwz_imports.specs.Imports.{same}
+use Rattle.dwz_expand_sources.specs.Imports.{same}
 use Rattle.dwz_graph.specs.declared.file.File.{File}
 use Rattle.dwz_graph.specs.Files.{FilesRead}
 use Rattle.dwz_graph.specs.Surroundings.{sources_view}

@@ -13,7 +13,7 @@ use Rattle.dwz_def_reading.specs.FirstOf.{OfFirst}
 use Rattle.dwz_def_reading.specs.Places.{Place}
 use Rattle.dwz_def_reading.specs.Meanings.{Sources}
 use Rattle.dwz_def_tops.specs.Shown.{units_keys}
-use Rattle.dwz_imports.specs.Imports.{same}
+use Rattle.dwz_expand_sources.specs.Imports.{same}
 use Rattle.dwz_expand_passes.specs.Faults.{file_number}
 use Rattle.dwz_law_copies.specs.Renamed.{SameChoice, renamed}
 

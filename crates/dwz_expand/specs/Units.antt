@@ -7,7 +7,7 @@ use Rattle.dwz_def_cross.specs.Tops.{WithCommon}
 use Rattle.dwz_def_expand.specs.OneFile.{FileRead, OneFile, ReadsOne}
 use Rattle.dwz_def_expand.specs.Output.{SiteRefusal, sites_of_file, wholes}
 use Rattle.dwz_def_expand.specs.Source.{Copy}
-use Rattle.dwz_imports.specs.Imports.{same}
+use Rattle.dwz_expand_sources.specs.Imports.{same}
 use Rattle.dwz_expand_layout.specs.Entries.{UnitLines}
 use Rattle.dwz_expand_layout.specs.Laid.{Made, laid}
 use Rattle.dwz_expand_passes.specs.declared.files.SourceFile.{SourceFile}

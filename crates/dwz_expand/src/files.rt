@@ -14,7 +14,7 @@ ghost use Rattle.dwz_expand_passes.specs.Faults.{KnowsBoth, count_in};
 ghost use Rattle.dwz_expand_passes.specs.Files.{IsKnownReady, Knows};
 ghost use Rattle.dwz_expand_passes.specs.Paths.{IsPathsOf};
 ghost use Rattle.dwz_graph.specs.Surroundings.{sources_view};
-ghost use Rattle.dwz_imports.specs.Imports.{same};
+ghost use Rattle.dwz_expand_sources.specs.Imports.{same};
 ghost use Rattle.dwz_expand.specs.OneKnown.{CanBeLookedUp, AreHeresBeside, AreSourceFiles, IsSourceOf, strs_beside};
 ghost use Rattle.dwz_unit.specs.Rows.{units_of};
 

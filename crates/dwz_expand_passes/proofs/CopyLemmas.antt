@@ -4,7 +4,7 @@ use Rattle.std.specs.Prelude.{IfSome, unwrap_or}
 use Rattle.std.specs.Option.{option_map}
 use Rattle.dwz_def_expand.specs.Source.{copy, source_places, unit_for}
 use Rattle.dwz_graph.specs.Surroundings.{entries_among}
-use Rattle.dwz_imports.specs.Imports.{same}
+use Rattle.dwz_expand_sources.specs.Imports.{same}
 use Rattle.dwz_expand_sources.specs.Copies.{IsCopyFor, IsCopyNumber}
 use Rattle.dwz_expand_sources.specs.declared.copies.CopyAt.{CopyAt}
 use Rattle.dwz_expand_passes.specs.declared.files.SourceEntry.{SourceEntry}

@@ -13,13 +13,13 @@ use Rattle.dwz_def_cross.specs.Tops.{WithCommon}
 use Rattle.dwz_def_expand.specs.Refusals.{Where}
 use Rattle.dwz_def_expand.specs.Source.{Copy, copy_for, source_places}
 use Rattle.dwz_def_output.specs.Refusals.{operands_of_attrs}
-use Rattle.dwz_imports.specs.Imports.{same as same_place}
+use Rattle.dwz_expand_sources.specs.Imports.{same as same_place}
 use Rattle.std.specs.Prelude.{OnOk}
 use Rattle.std.proofs.lemmas.Result.{on_ok_weaker}
 use Rattle.dwz_graph.specs.Places.{place_at, places}
 use Rattle.dwz_graph.specs.Surroundings.{behind_own}
 use Rattle.dwz_unit.specs.Rows.{EntryRow, rows_of}
-use Rattle.dwz_check_index.specs.Index.{ListedEntry, listed_units}
+use Rattle.dwz_expand_sources.specs.Index.{ListedEntry, listed_units}
 use Rattle.dwz_check_labels.proofs.EntryLemmas.{here_of, row_of}
 use Rattle.dwz_encode.specs.Shown.{Keys, held_of}
 use Rattle.dwz_expand_layout.specs.declared.entries.NewAttr.{NewAttr}

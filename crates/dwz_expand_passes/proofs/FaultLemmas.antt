@@ -12,7 +12,7 @@ use Rattle.dwz_def_reading.specs.FirstOf.{OfFirst}
 use Rattle.dwz_def_reading.specs.Trees.{End, Entry}
 use Rattle.dwz_def_output.specs.Refusals.{InFile}
 use Rattle.dwz_def_expand.specs.Refusals.{Site, nodes, sites_from, sites_in, sites_of, with_numbers}
-use Rattle.dwz_check_index.specs.Index.{ListedEntry, listed}
+use Rattle.dwz_expand_sources.specs.Index.{ListedEntry, listed}
 use Rattle.dwz_expand_sources.specs.declared.sources.SourceRange.{SourceRange}
 use Rattle.dwz_expand_sources.specs.Sources.{in_range}
 use Rattle.dwz_expand_passes.specs.Faults.{FirstRefusalIs, entry_sites}

@@ -23,11 +23,11 @@ use Rattle.dwz_def_reading.specs.Units.{CompileUnit, PartialUnit, RawKind, RawUn
 use Rattle.dwz_def_cross.specs.Tops.{WithCommon, units_with_common, whole_units}
 use Rattle.dwz_def_expand.specs.Refusals.{Site, SiteFault, Where, nodes, sites_in, sites_of, with_numbers}
 use Rattle.dwz_def_expand.specs.Source.{Copy, source_places, source_unit, source_units}
-use Rattle.dwz_check_index.specs.Index.{ListedEntry}
+use Rattle.dwz_expand_sources.specs.Index.{ListedEntry}
 use Rattle.dwz_check_labels.proofs.EntryLemmas.{row_of}
 use Rattle.dwz_graph.specs.Files.{refused_file}
 use Rattle.dwz_graph.specs.Surroundings.{behind_own}
-use Rattle.dwz_imports.specs.Imports.{same}
+use Rattle.dwz_expand_sources.specs.Imports.{same}
 use Rattle.dwz_encode.specs.Shown.{Keys}
 use Rattle.dwz_expand_layout.specs.declared.entries.NewAttr.{NewAttr}
 use Rattle.dwz_expand_layout.specs.declared.entries.NewOperand.{NewOperand}

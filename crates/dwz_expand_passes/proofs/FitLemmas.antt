@@ -28,9 +28,9 @@ use Rattle.dwz_graph.proofs.PlaceLemmas.{places_are, places_many}
 use Rattle.dwz_graph.proofs.SurroundingLemmas.{own_place}
 use Rattle.dwz_unit.specs.Rows.{EntryRow, rows_of}
 use Rattle.dwz_label_entries.proofs.AttrsLemmas.{entry_in}
-use Rattle.dwz_check_index.specs.Index.{ListedEntry, listed_units}
+use Rattle.dwz_expand_sources.specs.Index.{ListedEntry, listed_units}
 use Rattle.dwz_check_labels.proofs.RefLemmas.{common_place}
-use Rattle.dwz_imports.specs.Imports.{same}
+use Rattle.dwz_expand_sources.specs.Imports.{same}
 use Rattle.dwz_encode.specs.Shown.{Keys}
 use Rattle.dwz_expand_sources.specs.Sources.{all_entries}
 use Rattle.dwz_expand_sources.proofs.ForLemmas.{tests}

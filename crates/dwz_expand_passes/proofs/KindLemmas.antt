@@ -14,7 +14,7 @@ use Rattle.dwz_def_reading.specs.Meanings.{Around, MeaningContext, MeansKind, Me
 use Rattle.dwz_def_reading.specs.Meant.{units_meaning}
 use Rattle.dwz_def_reading.specs.Units.{CompileUnit, PartialUnit, RawKind, RawUnit, TypeUnit, entries_in}
 use Rattle.dwz_def_reading.specs.declared.exprs.Operand.{Operand}
-use Rattle.dwz_imports.specs.Imports.{same}
+use Rattle.dwz_expand_sources.specs.Imports.{same}
 use Rattle.dwz_model.proofs.ListFacts.{got_in, got_index_or, got_map, got_there, in_map, same_got}
 use Rattle.dwz_model.specs.Lists.{In, NoneTwice}
 use Rattle.dwz_graph.specs.Here.{Here}

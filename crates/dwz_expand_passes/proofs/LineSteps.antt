@@ -1,7 +1,7 @@
 -- What was made of an entry is its copy.
 use Rattle.std.proofs.Common.{◌≡◌, ℕ, ◌<◌, List, length, map, Some, Result, Ok, Err, slice_get, sym, ap, ◌∙◌, arith}
 use Rattle.std.proofs.lemmas.List.{length-map}
-use Rattle.dwz_check_index.specs.Index.{ListedEntry}
+use Rattle.dwz_expand_sources.specs.Index.{ListedEntry}
 use Rattle.dwz_def_cross.specs.Tops.{WithCommon, units_with_common}
 use Rattle.dwz_def_expand.specs.Chosen.{chosen_attr}
 use Rattle.dwz_def_expand.specs.Refusals.{Where}

@@ -10,7 +10,7 @@ use Rattle.dwz_def_expand.specs.Source.{Copy, copy, source_places, source_unit}
 use Rattle.dwz_def_reading.specs.Documents.{DwUnit, Kind, kind_map}
 use Rattle.dwz_def_reading.specs.Documents as document
 use Rattle.dwz_def_tops.specs.Shown.{unit_keys, units_keys}
-use Rattle.dwz_imports.specs.Imports.{same}
+use Rattle.dwz_expand_sources.specs.Imports.{same}
 use Rattle.dwz_model.proofs.ListFacts.{in_cases, same_got}
 use Rattle.dwz_model.proofs.Members.{in_map_from}
 use Rattle.dwz_model.proofs.OnceLemmas.{none_append, none_map}

@@ -8,7 +8,7 @@ use Rattle.dwz_def_expand.specs.Refusals.{Site, SiteFault, Where, nodes, sites_f
 use Rattle.dwz_def_expand.specs.Source.{source_places, source_unit}
 use Rattle.dwz_def_reading.specs.Documents.{DwUnit}
 use Rattle.dwz_def_reading.specs.FirstOf.{OfFirst}
-use Rattle.dwz_imports.specs.Imports.{same}
+use Rattle.dwz_expand_sources.specs.Imports.{same}
 use Rattle.dwz_model.proofs.ListFacts.{get_last, got_below, got_there, same_got}
 use Rattle.dwz_model.specs.declared.fault.Fault.{Fault}
 use Rattle.dwz_model.specs.declared.fault.ReadErr.{ReadErr}

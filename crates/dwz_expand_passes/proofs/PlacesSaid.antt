@@ -15,7 +15,7 @@ use Rattle.dwz_def_encoding.specs.Meant.{entry_keys}
 use Rattle.dwz_graph.specs.Named.{entries_of, preorder}
 use Rattle.dwz_graph.specs.Places.{place_at, places}
 use Rattle.dwz_graph.proofs.PlaceLemmas.{places_are, places_many}
-use Rattle.dwz_check_index.specs.Index.{ListedEntry, listed, listed_units}
+use Rattle.dwz_expand_sources.specs.Index.{ListedEntry, listed, listed_units}
 
 abbrev pub place_in : ListedEntry ℕ → ℕ
 place_in d = d.0.at

@@ -1,7 +1,7 @@
 -- How many entries files have that are said.
 use Rattle.std.proofs.Common.{◌≡◌, ℕ, List, length, Option, None, Some, ap, ◌∙◌, arith}
 use Rattle.std.proofs.lemmas.List.{length-append, length-map}
-use Rattle.dwz_check_index.specs.Index.{ListedEntry, listed_units}
+use Rattle.dwz_expand_sources.specs.Index.{ListedEntry, listed_units}
 use Rattle.dwz_def_cross.specs.Tops.{WithCommon}
 use Rattle.dwz_def_expand.specs.Refusals.{Where}
 use Rattle.dwz_def_reading.specs.Documents.{DwUnit, entries_map, node_map}

@@ -7,7 +7,7 @@ use Rattle.dwz_def_cross.specs.Tops.{WithCommon}
 use Rattle.dwz_def_expand.specs.Refusals.{SiteFault, Where, sites_in, sites_of}
 use Rattle.dwz_def_expand.specs.Source.{source_places}
 use Rattle.dwz_def_reading.specs.FirstOf.{OfFirst}
-use Rattle.dwz_imports.specs.Imports.{same}
+use Rattle.dwz_expand_sources.specs.Imports.{same}
 use Rattle.dwz_model.specs.Lists.{Each}
 use Rattle.dwz_model.specs.declared.fault.Fault.{Fault}
 use Rattle.dwz_model.specs.declared.fault.ReadErr.{ReadErr}

@@ -17,7 +17,7 @@ use Rattle.dwz_def_reading.specs.Meanings.{base_in, first_raw, scope_of}
 use Rattle.dwz_def_reading.specs.Trees.{End, Entry}
 use Rattle.dwz_def_reading.specs.Units.{RawUnit}
 use Rattle.dwz_def_tops.specs.Shown.{units_keys}
-use Rattle.dwz_imports.specs.Imports.{same}
+use Rattle.dwz_expand_sources.specs.Imports.{same}
 use Rattle.dwz_graph.specs.Here.{Here}
 use Rattle.dwz_graph.specs.Resolved.{sources_view}
 use Rattle.dwz_model.proofs.ListFacts.{got_below, got_index_or, got_there, same_got}

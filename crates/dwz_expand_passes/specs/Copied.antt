@@ -27,7 +27,7 @@ use Rattle.dwz_def_expand.specs.Chosen.{chosen_attr}
 use Rattle.dwz_def_expand.specs.OneFile.{named_in_attr, nth_at}
 use Rattle.dwz_def_expand.specs.Refusals.{IsLost, Site, SiteFault, not_imported, with_numbers}
 use Rattle.dwz_def_expand.specs.Source.{Copy, copy, source_places, unit_for}
-use Rattle.dwz_imports.specs.Imports.{same}
+use Rattle.dwz_expand_sources.specs.Imports.{same}
 use Rattle.dwz_encode.specs.Shown.{attr_held, held_of}
 use Rattle.dwz_expand_sources.specs.declared.copies.CopyAt.{CopyAt}
 use Rattle.dwz_expand_layout.specs.declared.entries.Content.{Content}

@@ -14,8 +14,8 @@ use Rattle.dwz_def_cross.specs.Tops.{WithCommon, units_with_common}
 use Rattle.dwz_def_expand.specs.Chosen.{Choice}
 use Rattle.dwz_def_expand.specs.Refusals.{Site, SiteFault, Where, sites_of}
 use Rattle.dwz_def_expand.specs.Source.{Copy, source_places}
-use Rattle.dwz_check_index.specs.Index.{ListedEntry}
-use Rattle.dwz_imports.specs.Imports.{same}
+use Rattle.dwz_expand_sources.specs.Index.{ListedEntry}
+use Rattle.dwz_expand_sources.specs.Imports.{same}
 use Rattle.dwz_encode.specs.Shown.{Keys}
 use Rattle.dwz_expand_sources.specs.Sources.{Sources, all_entries}
 use Rattle.dwz_expand_sources.specs.Rows.{AreCopies, Copies}

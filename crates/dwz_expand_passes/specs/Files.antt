@@ -24,7 +24,7 @@ use Rattle.dwz_graph.specs.Resolved.{sources_view}
 use Rattle.dwz_graph.specs.Surroundings.{AreAmong, behind_own}
 use Rattle.dwz_unit.specs.Rows.{EntryRow, rows_of, units_of}
 use Rattle.dwz_check_labels.specs.Files.{AreHeres, IsHereOf, texts_in}
-use Rattle.dwz_imports.specs.Imports.{same}
+use Rattle.dwz_expand_sources.specs.Imports.{same}
 use Rattle.dwz_encode.specs.Shown.{Keys, attr_held, held_of}
 use Rattle.dwz_layout.specs.Ways.{holder_view}
 use Rattle.dwz_expand_sources.specs.Sources.{Sources}

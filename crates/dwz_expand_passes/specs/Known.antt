@@ -14,9 +14,9 @@ use Rattle.dwz_def_expand.specs.Source.{Copy, copy, copy_for, source_places}
 use Rattle.dwz_graph.specs.Resolved.{IsHere, sources_view}
 use Rattle.dwz_graph.specs.Surroundings.{entries_among, place_among}
 use Rattle.dwz_unit.specs.Rows.{units_of}
-use Rattle.dwz_check_index.specs.Index.{ListedEntry}
+use Rattle.dwz_expand_sources.specs.Index.{ListedEntry}
 use Rattle.dwz_check_labels.specs.Files.{texts_in}
-use Rattle.dwz_imports.specs.Imports.{same}
+use Rattle.dwz_expand_sources.specs.Imports.{same}
 use Rattle.dwz_layout.specs.Ways.{holder_view}
 use Rattle.dwz_encode.specs.Shown.{Keys}
 use Rattle.dwz_expand_sources.specs.Sources.{AreSources, Sources, all_entries}

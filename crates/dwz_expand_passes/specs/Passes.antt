@@ -7,7 +7,7 @@ use Rattle.dwz_def_expand.specs.Source.{source_places}
 use Rattle.dwz_def_reading.specs.FirstOf.{OfFirst}
 use Rattle.dwz_def_reading.specs.Units.{entries_in}
 use Rattle.dwz_def_tops.specs.Shown.{units_keys}
-use Rattle.dwz_imports.specs.Imports.{same}
+use Rattle.dwz_expand_sources.specs.Imports.{same}
 use Rattle.dwz_graph.specs.Resolved.{sources_view}
 use Rattle.dwz_model.specs.Lists.{Each, NoneTwice}
 use Rattle.dwz_model.specs.declared.fault.Fault.{Fault}

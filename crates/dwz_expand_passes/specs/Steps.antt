@@ -10,7 +10,7 @@ use Rattle.dwz_model.specs.Lists.{Each}
 use Rattle.dwz_model.specs.declared.fault.Fault.{Fault}
 use Rattle.dwz_model.specs.declared.fault.ReadErr.{ReadErr}
 use Rattle.dwz_model.specs.declared.fault.ReadErr.TheVariants.{NoMemory, Refused}
-use Rattle.dwz_imports.specs.Imports.{same}
+use Rattle.dwz_expand_sources.specs.Imports.{same}
 use Rattle.dwz_expand_layout.specs.Depths.{DeepLine}
 use Rattle.dwz_expand_layout.specs.Entries.{CanStore, NewLine, UnitLines, attr_view}
 use Rattle.dwz_expand_layout.specs.Lines.{Line}

@@ -11,7 +11,7 @@ ghost use Rattle.dwz_expand_layout.specs.Shown.{KindShows};
 ghost use Rattle.dwz_expand_passes.specs.Kinds.{IsMain};
 ghost use Rattle.dwz_expand_passes.specs.Passes.{IsReady, Says, entry_many};
 ghost use Rattle.dwz_expand_passes.specs.Files.{IsFileReady, raw_in};
-ghost use Rattle.dwz_imports.specs.Imports.{same};
+ghost use Rattle.dwz_expand_sources.specs.Imports.{same};
 ghost use Rattle.dwz_law_copies.specs.Copied.{named_copy};
 ghost use Rattle.dwz_law_copies.specs.Numbered.{key_in};
 ghost use Rattle.dwz_model.specs.Lists.{In};

@@ -5,7 +5,7 @@ ghost use Rattle.dwz_model.specs.Lists.{Each};
 ghost use Rattle.dwz_expand_layout.specs.Entries.{CanStore};
 ghost use Rattle.dwz_def_cross.specs.Tops.{WithCommon};
 ghost use Rattle.dwz_def_reading.specs.Units.{RawUnit, entries_in};
-ghost use Rattle.dwz_check_index.specs.Index.{ListedEntry};
+ghost use Rattle.dwz_expand_sources.specs.Index.{ListedEntry};
 ghost use Rattle.dwz_def_expand.specs.Refusals.{Where};
 ghost use Rattle.dwz_def_expand.specs.Source.{Copy};
 ghost use Rattle.dwz_encode.specs.Shown.{Keys};

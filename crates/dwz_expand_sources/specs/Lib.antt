@@ -4,3 +4,5 @@ pub mod Numbers
 pub mod Walk
 pub mod Copies
 pub mod Rows
+pub use Rattle.dwz_check_index.specs.Index
+pub use Rattle.dwz_imports.specs.Imports

@@ -16,7 +16,7 @@ use Rattle.dwz_def_reading.specs.Trees.{End, Entry}
 use Rattle.dwz_def_tops.specs.Lists.{NoneTwice}
 use Rattle.dwz_def_tops.specs.Shown.{keys, unit_keys, units_keys}
 use Rattle.dwz_expand_layout.specs.Shown.{held_of}
-use Rattle.dwz_imports.specs.Imports.{same}
+use Rattle.dwz_expand_sources.specs.Imports.{same}
 use Rattle.dwz_expand_layout.specs.Lines.{Line, line, lines, unit_lines}
 use Rattle.dwz_model.proofs.ListFacts.{in_map}
 use Rattle.dwz_model.proofs.Members.{each_of, nth_below}

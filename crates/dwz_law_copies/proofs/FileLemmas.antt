@@ -21,7 +21,7 @@ use Rattle.dwz_expand_layout.specs.Entries.{UnitLines}
 use Rattle.dwz_expand_layout.specs.Laid.{laid}
 use Rattle.dwz_expand_layout.specs.Laws.{AreLaid}
 use Rattle.dwz_expand_sources.specs.Sources.{AreSources, Sources}
-use Rattle.dwz_imports.specs.Imports.{same}
+use Rattle.dwz_expand_sources.specs.Imports.{same}
 use Rattle.dwz_law_copies.proofs.RenamedLemmas.{renamed_law, tests_agree}
 use Rattle.dwz_law_copies.proofs.SourceMaps.{whole_mapped}
 use Rattle.dwz_law_copies.specs.Renamed.{SameChoice, SameWritten, copy_map, renamed}

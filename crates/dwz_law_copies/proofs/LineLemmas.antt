@@ -1,7 +1,7 @@
 -- Entries with their depths: those of the sources of a unit are among those of all units, and stand as deep.
 use Rattle.std.proofs.Common.{◌≡◌, ℕ, suc, Bool, List, [], ◌∷◌, ◌++◌, inl, inr, map, refl, sym, ap, subst, ◌∙◌, append_assoc}
 use Rattle.std.proofs.lemmas.List.{map-append}
-use Rattle.dwz_check_index.specs.Index.{ListedEntry, listed, listed_units}
+use Rattle.dwz_expand_sources.specs.Index.{ListedEntry, listed, listed_units}
 use Rattle.dwz_def_encoding.specs.Meant.{entry_keys}
 use Rattle.dwz_def_expand.proofs.SourceLemmas.{imports_good, once_good}
 use Rattle.dwz_def_expand.specs.ExpandLaws.{IsTest}

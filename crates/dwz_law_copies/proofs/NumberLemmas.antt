@@ -8,7 +8,7 @@ use Rattle.dwz_def_cross.specs.Tops.{WithCommon}
 use Rattle.dwz_def_expand.proofs.WholeLemmas.{unit_at}
 use Rattle.dwz_def_expand.specs.Source.{Copy, copy, source_places, unit_for}
 use Rattle.std.proofs.lemmas.Bool.{cases_lt}
-use Rattle.dwz_imports.specs.Imports.{same}
+use Rattle.dwz_expand_sources.specs.Imports.{same}
 use Rattle.dwz_model.proofs.ListFacts.{got_below, got_index_or}
 use Rattle.dwz_model.proofs.Members.{nth_below}
 use Rattle.dwz_law_copies.proofs.StandLemmas.{same_test}

@@ -17,7 +17,7 @@ use Rattle.dwz_expand_layout.specs.declared.entries.NewOperand.{NewOperand}
 use Rattle.dwz_expand_layout.specs.Entries.{attr_view, content_view}
 use Rattle.dwz_expand_layout.specs.Depths.{DeepLine, with_ends}
 use Rattle.dwz_expand_layout.specs.Shown.{AttrRefers, ContentRefers, KindRefers, KindShows, LineRefers, keys_of}
-use Rattle.dwz_imports.specs.Imports.{same}
+use Rattle.dwz_expand_sources.specs.Imports.{same}
 use Rattle.dwz_expand_layout.specs.Attributes.{Content, OfEntry, OfParts, OfRoot, OutAttr, Read}
 use Rattle.dwz_law_copies.proofs.NumberLemmas.{lengths, named_in, one_of_all}
 use Rattle.dwz_law_copies.specs.Copied.{NamesNoRoot, copied_attrs, named_copy}

@@ -3,7 +3,7 @@ use Rattle.std.proofs.Common.{◌≡◌, ℕ, ◌<◌, List, [], ◌∷◌, inl,
 use Rattle.std.specs.List.{flat_map}
 use Rattle.std.proofs.lemmas.Bool.{eq-eqb, eqb-true}
 use Rattle.std.proofs.lemmas.List.{length-map}
-use Rattle.dwz_check_index.specs.Index.{ListedEntry}
+use Rattle.dwz_expand_sources.specs.Index.{ListedEntry}
 use Rattle.dwz_def_cross.specs.CrossSame.{EachTwo}
 use Rattle.dwz_def_cross.specs.Tops.{WithCommon, units_with_common, whole_units}
 use Rattle.dwz_def_expand.proofs.WholeLemmas.{in_all}
@@ -11,7 +11,7 @@ use Rattle.dwz_def_expand.specs.ExpandLaws.{IsTest}
 use Rattle.dwz_def_expand.specs.Source.{source_unit}
 use Rattle.dwz_def_reading.specs.Documents.{DwUnit, Node}
 use Rattle.dwz_def_tops.specs.Shown.{units_keys}
-use Rattle.dwz_imports.specs.Imports.{same}
+use Rattle.dwz_expand_sources.specs.Imports.{same}
 use Rattle.dwz_expand_layout.specs.Lines.{Line, line, lines}
 use Rattle.dwz_model.proofs.ListFacts.{got_below, got_in, got_map, got_there}
 use Rattle.dwz_model.specs.Lists.{Each, In, NoneTwice}

@@ -17,7 +17,7 @@ use Rattle.dwz_expand_layout.specs.Laws.{AreUnits}
 use Rattle.dwz_expand_layout.specs.Shown.{KindShows, keys_of}
 use Rattle.dwz_expand_sources.specs.declared.sources.NewUnit.{NewUnit}
 use Rattle.dwz_expand_sources.specs.Sources.{AreSources, Sources, in_range, ranges_of}
-use Rattle.dwz_imports.specs.Imports.{same}
+use Rattle.dwz_expand_sources.specs.Imports.{same}
 use Rattle.dwz_expand_layout.specs.Attributes.{OfRoot, OutAttr}
 use Rattle.dwz_expand_layout.specs.Lines.{Line}
 use Rattle.dwz_law_copies.specs.Lined.{all_lines}

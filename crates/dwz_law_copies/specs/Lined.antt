@@ -7,7 +7,7 @@ use Rattle.dwz_def_cross.specs.Tops.{WithCommon, units_with_common, whole_units}
 use Rattle.dwz_def_expand.specs.Source.{source_unit}
 use Rattle.dwz_def_tops.specs.Lists.{NoneTwice}
 use Rattle.dwz_def_tops.specs.Shown.{units_keys}
-use Rattle.dwz_imports.specs.Imports.{same}
+use Rattle.dwz_expand_sources.specs.Imports.{same}
 use Rattle.dwz_expand_layout.specs.Lines.{Line, line, lines, unit_lines}
 use Rattle.dwz_expand_sources.specs.declared.sources.NewUnit.{NewUnit}
 use Rattle.dwz_expand_sources.specs.declared.sources.SourceRange.{SourceRange}

@@ -3,7 +3,7 @@ use Rattle.std.specs.Prelude.{◌≡◌, ℕ, suc, ◌+◌, List, [], ◌∷◌,
 use Rattle.std.specs.List.{sum_by}
 use Rattle.dwz_def_cross.specs.Tops.{WithCommon}
 use Rattle.dwz_def_expand.specs.Source.{Copy, copy, source_places}
-use Rattle.dwz_imports.specs.Imports.{same}
+use Rattle.dwz_expand_sources.specs.Imports.{same}
 
 -- those of units in order, of which the first has that number
 unfoldable pub copies_from : ℕ → List (List ℕ) → List (Copy ℕ)

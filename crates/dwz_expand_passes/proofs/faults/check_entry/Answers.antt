@@ -2,7 +2,7 @@ use Rattle.std.proofs.Common.{Err, sym, subst}
 use Rattle.dwz_model.specs.declared.fault.GraphErr.{GraphErr}
 use Rattle.dwz_def_expand.specs.Refusals.{SiteFault, sites_of}
 use Rattle.dwz_def_expand.specs.Source.{source_places}
-use Rattle.dwz_imports.specs.Imports.{same}
+use Rattle.dwz_expand_sources.specs.Imports.{same}
 use Rattle.dwz_expand_passes.specs.Faults.{FirstRefusalIs, ValueRefusal, file_number}
 use Rattle.dwz_expand_passes.specs.Files.{forms_of}
 use Rattle.dwz_expand_passes.proofs.FaultLemmas.{none_in_one}

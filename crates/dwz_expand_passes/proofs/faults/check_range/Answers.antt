@@ -3,7 +3,7 @@ use Rattle.std.proofs.lemmas.Result.{err_from_is_err_and}
 use Rattle.dwz_model.proofs.ListFacts.{got_there}
 use Rattle.dwz_def_expand.specs.Refusals.{sites_of}
 use Rattle.dwz_def_reading.specs.FirstOf.{OfFirst}
-use Rattle.dwz_check_index.specs.Index.{ListedEntry}
+use Rattle.dwz_expand_sources.specs.Index.{ListedEntry}
 use Rattle.dwz_expand_sources.specs.Sources.{all_entries, in_range}
 use Rattle.dwz_expand_passes.specs.Faults.{ValueRefusal, entry_sites}
 use Rattle.dwz_expand_passes.specs.Files.{entry_count, forms_of}

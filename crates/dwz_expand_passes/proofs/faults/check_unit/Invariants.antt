@@ -4,7 +4,7 @@ use Rattle.dwz_def_cross.specs.Tops.{WithCommon}
 use Rattle.dwz_def_expand.specs.Refusals.{Where, sites_of}
 use Rattle.dwz_def_expand.specs.Source.{Copy}
 use Rattle.dwz_def_reading.specs.FirstOf.{OfFirst}
-use Rattle.dwz_check_index.specs.Index.{ListedEntry}
+use Rattle.dwz_expand_sources.specs.Index.{ListedEntry}
 use Rattle.dwz_encode.specs.Shown.{Keys}
 use Rattle.dwz_expand_sources.specs.declared.sources.SourceRange.{SourceRange}
 use Rattle.dwz_expand_sources.specs.Sources.{all_entries, in_range, ranges_of}

@@ -6,7 +6,7 @@ use Rattle.dwz_def_expand.specs.Source.{source_unit, source_units}
 use Rattle.dwz_def_reading.specs.FirstOf.{OfFirst}
 use Rattle.dwz_graph.specs.Here.{Here}
 use Rattle.dwz_graph.specs.Surroundings.{sources_view}
-use Rattle.dwz_imports.specs.Imports.{same}
+use Rattle.dwz_expand_sources.specs.Imports.{same}
 use Rattle.dwz_def_cross.specs.Tops.{units_with_common}
 use Rattle.dwz_expand_sources.specs.declared.sources.NewUnit.{NewUnit}
 use Rattle.dwz_expand_sources.specs.declared.sources.SourceRange.{SourceRange}

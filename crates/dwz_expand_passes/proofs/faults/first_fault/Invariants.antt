@@ -7,7 +7,7 @@ use Rattle.dwz_def_expand.specs.Source.{Copy, source_units}
 use Rattle.dwz_def_reading.specs.FirstOf.{OfFirst}
 use Rattle.dwz_encode.specs.Shown.{Keys}
 use Rattle.dwz_graph.specs.Surroundings.{sources_view}
-use Rattle.dwz_imports.specs.Imports.{same}
+use Rattle.dwz_expand_sources.specs.Imports.{same}
 use Rattle.dwz_expand_sources.specs.Sources.{AreSources}
 use Rattle.dwz_expand_passes.specs.Faults.{AreReady, KnowsBoth, ValueRefusal}
 use Rattle.dwz_expand_passes.specs.Paths.{IsPathsOf}

@@ -2,7 +2,7 @@ use Rattle.std.proofs.Common.{◌≡◌, ◌∙◌, ℕ, ◌-◌, ◌<◌, ◌�
 use Rattle.std.proofs.lemmas.Result.{on_ok_weaker}
 use Rattle.dwz_def_expand.specs.Source.{copy_for, source_places}
 use Rattle.dwz_graph.specs.Surroundings.{behind_own}
-use Rattle.dwz_imports.specs.Imports.{same}
+use Rattle.dwz_expand_sources.specs.Imports.{same}
 use Rattle.dwz_def_reading.specs.Units.{entries_in}
 use Rattle.dwz_expand_passes.specs.declared.files.SourceFile.{SourceFile}
 use Rattle.dwz_expand_passes.specs.Attributes.{IsEntryOf}

@@ -4,8 +4,8 @@
 //! Each entry of a new unit stands as deep as its source did in its own unit: so the numbers of sources and the depths that were read tell
 //! where lists of children end (`depth_laws`). The number that is counted of a copy is its index among all copies; and new units that have
 //! the copies of these sources, each with what it stores, show the units of the file that is written without its partial ones
-//! (`copy_laws`), which is what the layout asks for (`layout_laws` of `dwz_expand_layout`). So what is laid and written of them are the new
-//! sections of the file (`file_laws`).
+//! (`copy_laws`), which is what the layout asks for (`layout_laws` of `dwz_expand_layout`). So what is laid and written of them are the
+//! new sections of the file (`file_laws`).
 //!
 //! Code goes over numbers that stand for places of a file and of its common file; what is promised speaks of places. Along a function that
 //! takes no two together, the new units are the same, and so are their sections and where copies stand (`place_laws`).

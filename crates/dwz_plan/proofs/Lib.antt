@@ -20,6 +20,7 @@ pub mod PartialLemmas
 pub mod PlaceLemmas
 pub mod RowLemmas
 pub mod ShownLemmas
+pub mod ShownMoves
 pub mod StepLemmas
 pub mod TurnedLemmas
 pub mod UserLemmas

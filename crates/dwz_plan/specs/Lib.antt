@@ -7,4 +7,5 @@ pub mod PlanLaws
 pub mod Planned
 pub mod Rows
 pub mod Shows
+pub mod ShowsMove
 pub mod Steps

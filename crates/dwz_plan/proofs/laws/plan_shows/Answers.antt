@@ -2,6 +2,7 @@ use Rattle.dwz_plan.proofs.BridgeLemmas.{file_numbers_are}
 use Rattle.dwz_plan.proofs.GainedLemmas.{plan_gained}
 use Rattle.dwz_plan.proofs.OnePlan.{one_plan, whole_plan}
 use Rattle.dwz_plan.proofs.RowLemmas.{length-rows_from}
+use Rattle.dwz_plan.proofs.ShownMoves.{plan_moves}
 use Rattle.dwz_plan.proofs.laws.plan_shows.Goals as goal
 
 pub returns-clause-plan : goal.returns-clause-plan
@@ -18,3 +19,6 @@ returns-clause-rows c scope tops least len = length-rows_from tops.files_of_unit
 
 pub returns-clause-files : goal.returns-clause-files
 returns-clause-files c docs = file_numbers_are 0 docs
+
+pub returns-clause-moves : goal.returns-clause-moves
+returns-clause-moves c rule units files planned shows = plan_moves rule units files planned shows

@@ -1,20 +1,18 @@
 -- The image of an entry stands as far behind the top that stands for its own as the entry behind its own top.
-use Rattle.std.proofs.Common.{◌≡◌, ◌⊎◌, ℕ, zero, suc, ◌+◌, ◌-◌, ◌<◌, ◌≤◌, Bool, true, false, List, [], ◌∷◌, ◌++◌, length, map, Some, slice_get, refl, sym, ap, subst, ◌∙◌, inl, inr, arith}
+use Rattle.std.proofs.Common.{◌≡◌, ℕ, zero, suc, ◌+◌, ◌-◌, ◌<◌, ◌≤◌, List, [], ◌∷◌, ◌++◌, length, map, Some, slice_get, refl, sym, ap, subst, ◌∙◌, inl, inr, arith}
 use Rattle.dwz_def_reading.specs.Lists.{In}
 use Rattle.dwz_def_reading.specs.Trees.{End, Entry}
 use Rattle.dwz_def_reading.proofs.ListFacts.{get_first, got_in}
 use Rattle.dwz_def_reading.specs.Documents.{Doc, Entries}
 use Rattle.dwz_def_tops.proofs.Members.{each_in}
-use Rattle.dwz_def_tops.specs.Alike.{IsAlike, Look, SameTop, TopScope}
-use Rattle.dwz_def_tops.specs.Deciding.{Test}
-use Rattle.dwz_def_tops.specs.Spots.{EntryName, FileUnit, Top, Within, tops_of, units_of}
-use Rattle.dwz_def_tops.proofs.TopNumbers.{number_below, one_top, top_at, tops_numbers}
-use Rattle.dwz_def_plan.specs.Homes.{Rule, first_alike, moves}
-use Rattle.dwz_def_plan.specs.Plan.{image, stand_in}
+use Rattle.dwz_def_tops.specs.Spots.{EntryName, Top, Within, tops_of, units_of}
+use Rattle.dwz_def_tops.proofs.TopNumbers.{number_below, top_at, tops_numbers}
+use Rattle.dwz_def_plan.specs.Moves.{Move, image_in}
 use Rattle.dwz_graph.proofs.TopLemmas.{get_cases, get_later}
+use Rattle.dwz_layout_numbers.specs.Images.{HasStandIn, HaveStandIns}
 use Rattle.dwz_layout_numbers.specs.Names.{all_names}
 use Rattle.dwz_layout_numbers.proofs.FileRuns.{files_between, files_run, many_tops, tops_in_all}
-use Rattle.dwz_layout_numbers.proofs.Paths.{paths_in, paths_of, paths_same}
+use Rattle.dwz_layout_numbers.proofs.Paths.{paths_in, paths_of, shape_paths}
 use Rattle.dwz_layout_numbers.proofs.Runs.{Between, Run}
 
 -- ---- where the names of a run are
@@ -84,65 +82,30 @@ top_inside docs top path n e =
 
 -- ---- the top that stands for one
 
-pub record AlikeTo (alike : Test) (tops : List Top) (n r : ℕ) : Type 0 where
-  pub top : Top
-  pub there : In top tops
-  pub number : top.number ≡ r
-  pub is : alike n r ≡ true
+module _ (docs : List (Doc ℕ)) (m : Move) (h : HaveStandIns docs m) where
+  -- what stands for the top with that number
+  stand_of : (top : ℕ) → top < length (tops_of (units_of docs)) → (t : Top) × In t (tops_of (units_of docs)) × (t.number ≡ top) × HasStandIn (tops_of (units_of docs)) m t
+  stand_of top lt = (let a = top_at 0 (tops_of (units_of docs)) top (tops_numbers (units_of docs)) (omega arith) (omega (arith, lt)) in (a.0, a.1, a.2, h a.0 a.1))
 
-first_cases : (alike : Test) (n : ℕ) (tops : List Top) → (first_alike alike n tops ≡ n) ⊎ AlikeTo alike tops n (first_alike alike n tops)
-unfolding first_alike
-first_cases alike n [] = inl refl
-first_cases alike n (t ∷ tops) = go (first_cases alike n tops) (alike n t.number) refl where
-  go : (first_alike alike n tops ≡ n) ⊎ AlikeTo alike tops n (first_alike alike n tops) → (b : Bool) → alike n t.number ≡ b
-      → (elim b as (λ _. ℕ) [ true ↦ t.number | false ↦ first_alike alike n tops ] ≡ n) ⊎ AlikeTo alike (t ∷ tops) n (elim b as (λ _. ℕ) [ true ↦ t.number | false ↦ first_alike alike n tops ])
-  go more true q = inr (record { top = t; there = inl refl; number = refl; is = q })
-  go (inl e) false q = inl e
-  go (inr h) false q = inr (record { top = h.top; there = inr h.there; number = h.number; is = h.is })
+  -- it is a top
+  pub stand_inside : (top : ℕ) → top < length (tops_of (units_of docs)) → m.stand top < length (tops_of (units_of docs))
+  stand_inside top lt =
+      let a = stand_of top lt in
+      let b = number_below 0 (tops_of (units_of docs)) a.3.top (tops_numbers (units_of docs)) a.3.there in
+      let e : a.3.top.number ≡ m.stand top = a.3.number ∙ ap m.stand a.2 in
+      omega (arith, b, e)
 
-pub stand_cases : (rule : Rule) (units : List (FileUnit EntryName)) (n : ℕ) → (stand_in rule units n ≡ n) ⊎ AlikeTo rule.alike (tops_of units) n (stand_in rule units n)
-unfolding stand_in
-stand_cases rule units n = go (moves rule units n) where
-  go : (b : Bool) → (elim b as (λ _. ℕ) [ true ↦ first_alike rule.alike n (tops_of units) | false ↦ n ] ≡ n) ⊎ AlikeTo rule.alike (tops_of units) n
-      (elim b as (λ _. ℕ) [ true ↦ first_alike rule.alike n (tops_of units) | false ↦ n ])
-  go true = first_cases rule.alike n (tops_of units)
-  go false = inl refl
-
--- it is a top
-pub stand_inside : (docs : List (Doc ℕ)) (rule : Rule) (top : ℕ) → top < length (tops_of (units_of docs)) → stand_in rule (units_of docs) top < length (tops_of (units_of docs))
-stand_inside docs rule top lt = elim (stand_cases rule (units_of docs) top) [
-  | inl e ↦ omega (arith, e)
-  | inr h ↦ (let b = number_below 0 (tops_of (units_of docs)) h.top (tops_numbers (units_of docs)) h.there in let e = h.number in omega (arith, b, e))
-]
-
--- alike tops have the same paths
-same_paths : (scope : TopScope) (units : List (FileUnit EntryName)) (alike : Test) → IsAlike scope units alike → (a b : Top) → In a (tops_of units) → In b (tops_of units)
-    → alike a.number b.number ≡ true → paths_in [] 0 a.below ≡ paths_in [] 0 b.below
-unfolding Look
-same_paths scope units alike d a b is js e =
-    let h = (d.decides a.number b.number e).equal 1 in
-    let s : SameTop (Look (tops_of units) 0) a b = h a b is js refl refl in
-    paths_same (Look (tops_of units) 0) [] 0 a.below b.below s.3
-
-pub image_there : (scope : TopScope) (docs : List (Doc ℕ)) (rule : Rule) → IsAlike scope (units_of docs) rule.alike → (top : ℕ) (path : List ℕ) (n from to : ℕ)
-    → slice_get (all_names docs) n ≡ Some (Within top path) → slice_get (all_names docs) from ≡ Some (Within top [])
-    → slice_get (all_names docs) to ≡ Some (Within (stand_in rule (units_of docs) top) [])
-    → (from ≤ n) × (slice_get (all_names docs) (to + (n - from)) ≡ Some (image rule (units_of docs) (Within top path)))
-image_there scope docs rule alike top path n from to e e' e'' =
-    let units = units_of docs in
-    let tops = tops_of units in
-    let names = all_names docs in
-    let high = tops_in_all docs in
-    let all = tops_numbers units in
-    let lt = top_inside docs top path n e in
-    let a = top_at 0 tops top all (omega arith) (omega arith) in
-    let r = stand_in rule units top in
-    let b = top_at 0 tops r all (omega arith) (let l = stand_inside docs rule top lt in omega (arith, l)) in
-    let run : (t : Top) → In t tops → Run 0 high names t.number (paths_of t.below) = λ t is. files_run 0 0 0 high docs (omega arith) t is in
-    let run_a : Run 0 high names top (paths_of a.0.below) = subst (λ (w : ℕ). Run 0 high names w (paths_of a.0.below)) a.2 (run a.0 a.1) in
-    let run_b : Run 0 high names r (paths_of b.0.below) = subst (λ (w : ℕ). Run 0 high names w (paths_of b.0.below)) b.2 (run b.0 b.1) in
-    let same : paths_in [] 0 a.0.below ≡ paths_in [] 0 b.0.below = elim (stand_cases rule units top) [
-      | inl s ↦ ap (λ (w : Top). paths_in [] 0 w.below) (one_top 0 tops a.0 b.0 all a.1 b.1 (a.2 ∙ sym s ∙ sym b.2))
-      | inr h ↦ same_paths scope units rule.alike alike a.0 b.0 a.1 b.1 ((λ j. rule.alike (a.2 j) (b.2 j)) ∙ h.is)
-    ] in
-    moved 0 high top r names a.0.below b.0.below run_a run_b same path n from to e e' e''
+  pub image_there : (top : ℕ) (path : List ℕ) (n from to : ℕ)
+      → slice_get (all_names docs) n ≡ Some (Within top path) → slice_get (all_names docs) from ≡ Some (Within top [])
+      → slice_get (all_names docs) to ≡ Some (Within (m.stand top) [])
+      → (from ≤ n) × (slice_get (all_names docs) (to + (n - from)) ≡ Some (image_in m (Within top path)))
+  image_there top path n from to e e' e'' =
+      let names = all_names docs in
+      let high = tops_in_all docs in
+      let a = stand_of top (top_inside docs top path n e) in
+      let b = a.3 in
+      let at : b.top.number ≡ m.stand top = b.number ∙ ap m.stand a.2 in
+      let run : (t : Top) → In t (tops_of (units_of docs)) → Run 0 high names t.number (paths_of t.below) = λ t is. files_run 0 0 0 high docs (omega arith) t is in
+      let run_a : Run 0 high names top (paths_of a.0.below) = subst (λ (w : ℕ). Run 0 high names w (paths_of a.0.below)) a.2 (run a.0 a.1) in
+      let run_b : Run 0 high names (m.stand top) (paths_of b.top.below) = subst (λ (w : ℕ). Run 0 high names w (paths_of b.top.below)) at (run b.top b.there) in
+      moved 0 high top (m.stand top) names a.0.below b.top.below run_a run_b (shape_paths [] 0 a.0.below b.top.below b.shape) path n from to e e' e''

@@ -17,3 +17,8 @@ pub mod OnceNames
 pub mod ReachLemmas
 pub mod BeforeLemmas
 pub mod StartLemmas
+pub mod PlanParts
+pub mod PlanMoves
+pub mod OverMoves
+pub mod BesideNames
+pub mod CommonOwned

@@ -1,5 +1,5 @@
 -- File by file the numbers of the units that are written: what was numbered, and what is left.
-use Rattle.std.proofs.Common.{◌≡◌, ℕ, zero, suc, ◌+◌, ◌-◌, ◌<◌, ◌≤◌, ◌==◌, Bool, true, false, List, [], ◌∷◌, ◌++◌, drop, get_or, length, map, Some, slice_get, cond, refl, sym, ap, subst, ◌∙◌}
+use Rattle.std.proofs.Common.{◌≡◌, ℕ, zero, suc, ◌+◌, ◌<◌, ◌≤◌, Bool, true, false, List, [], ◌∷◌, ◌++◌, drop, get_or, length, map, Some, slice_get, cond, refl, sym, ap, subst, ◌∙◌}
 use Rattle.std.proofs.Common.{inl, inr, arith, drop-cons, if◌then◌else◌}
 use Rattle.std.specs.Prelude.{replicate, slice_index_or}
 use Rattle.std.specs.List.{filter, range_with_len}
@@ -10,33 +10,31 @@ use Rattle.dwz_def_reading.specs.Documents.{Doc, DwUnit}
 use Rattle.dwz_def_tops.specs.Lists.{Nth}
 use Rattle.dwz_def_reading.specs.Lists.{Each}
 use Rattle.dwz_def_tops.proofs.Members.{each_append, each_in, each_more, nth_of}
-use Rattle.dwz_def_tops.specs.Spots.{EntryName, FileUnit, file_numbers, named_files, spot_in, spots_from, tops_among, units_of}
+use Rattle.dwz_def_tops.specs.Spots.{EntryName, FileUnit, named_files, spot_in, spots_from, tops_among, units_of}
 use Rattle.dwz_graph.proofs.TopLemmas.{get_cases, get_later}
-use Rattle.dwz_def_plan.specs.Homes.{Common, Home, Local, Rule}
+use Rattle.dwz_def_plan.specs.Homes.{Common, Home, Local, same_home}
 use Rattle.dwz_def_plan.specs.Moves.{Move}
-use Rattle.dwz_def_plan.specs.Plan.{PartialUnit, local_partials, partials, partials_at}
+use Rattle.dwz_def_plan.specs.Plan.{PartialUnit}
 use Rattle.dwz_plan.specs.declared.plan.Partial.{Partial}
 use Rattle.dwz_plan.specs.Planned.{file_of_home}
 use Rattle.dwz_plan.specs.Shows.{shown_part}
-use Rattle.dwz_plan.proofs.BridgeLemmas.{file_numbers_are}
-use Rattle.dwz_def_images.specs.Units.{changes, common_units, kept_unit, kept_units, out_units, partial_unit, partial_units, units_of_file}
-use Rattle.dwz_def_images.proofs.StillLemmas.{still}
-use Rattle.dwz_layout_numbers.specs.Numbering.{HaveUnits, leading, numbers_of}
-use Rattle.dwz_layout_numbers.specs.Owners.{AreUnitNumbers, IsFileWritten, IsNumber, all_written, file_written, files_written, move_of}
+use Rattle.dwz_def_images.specs.Units.{changes, common_units, kept_unit, kept_units, out_units, partial_unit, partial_units}
+use Rattle.dwz_layout_numbers.specs.Numbering.{HaveUnits, leading, numbers_of, parts_at, parts_of_files}
+use Rattle.dwz_layout_numbers.specs.Owners.{AreUnitNumbers, IsFileWritten, IsNumber, all_written, file_written, files_written}
 use Rattle.dwz_layout_numbers.proofs.OwnerSteps.{got}
 use Rattle.dwz_layout_numbers.proofs.FileRuns.{filed, filed_length}
-use Rattle.dwz_layout_numbers.proofs.NumberingLemmas.{IsLater, at_home, kept_at, kept_length, kept_list, kept_mid, later_common, later_not, leading_at, local_later, nth_get, numbered, numbered_at}
+use Rattle.dwz_layout_numbers.proofs.NumberingLemmas.{IsLater, at_home, files_later, kept_at, kept_length, kept_list, kept_mid, later_common, later_not, leading_at, nth_get, numbered, numbered_at}
 use Rattle.dwz_layout_numbers.proofs.NumberingLemmas.{numbered_length, parts_mid, range_at}
 
--- ---- a file of which nothing moves has no partial units
+-- ---- how many partial units a home has
 
-kept_count : (m : Move) (all : List (FileUnit EntryName)) (file s : ℕ) (xs : List (FileUnit EntryName)) → length (kept_units m all file s xs) ≡ length (units_of_file file xs)
-unfolding kept_units units_of_file
-kept_count m all file s [] = refl
-kept_count m all file s (u ∷ xs) = go (kept_count m all file (suc s) xs) (u.file == file) where
-  go : length (kept_units m all file (suc s) xs) ≡ length (map (λ (v : FileUnit EntryName). v.unit) (filter (λ v. v.file == file) xs)) → (b : Bool)
-      → length (elim b as (λ _. List (DwUnit EntryName)) [ true ↦ kept_unit m all s u ∷ kept_units m all file (suc s) xs | false ↦ kept_units m all file (suc s) xs ])
-      ≡ length (map (λ (v : FileUnit EntryName). v.unit) (cond b (u ∷ filter (λ v. v.file == file) xs) (filter (λ v. v.file == file) xs)))
+units_many : (m : Move) (h : Home) (s : ℕ) (xs : List PartialUnit) → length (partial_units m h s xs) ≡ length (filter (λ p. same_home p.home h) xs)
+unfolding partial_units
+units_many m h s [] = refl
+units_many m h s (p ∷ xs) = go (units_many m h (suc s) xs) (same_home p.home h) where
+  go : length (partial_units m h (suc s) xs) ≡ length (filter (λ (q : PartialUnit). same_home q.home h) xs) → (b : Bool)
+      → length (elim b as (λ _. List (DwUnit EntryName)) [ true ↦ partial_unit m s ∷ partial_units m h (suc s) xs | false ↦ partial_units m h (suc s) xs ])
+      ≡ length (cond b (p ∷ filter (λ (q : PartialUnit). same_home q.home h) xs) (filter (λ (q : PartialUnit). same_home q.home h) xs))
   go e true = ap suc e
   go e false = e
 
@@ -72,18 +70,12 @@ built_sum : (next k : ℕ) (w : Bool) (own : List (FileUnit EntryName)) (units :
 built_sum next k true own units e after is = omega (arith, e, is)
 built_sum next k false own units e after is = omega (arith, is)
 
-module _ (docs : List (Doc ℕ)) (rule : Rule) (shown : List Partial) (counts : List ℕ) (written : List Bool) (h : HaveUnits docs rule shown counts written) where
+module _ (docs : List (Doc ℕ)) (m : Move) (shown : List Partial) (counts : List ℕ) (written : List Bool) (h : HaveUnits docs m shown counts written) where
   abbrev units : List (FileUnit EntryName)
   units = units_of docs
 
-  abbrev m : Move
-  m = move_of rule docs
-
   abbrev all : List (DwUnit EntryName)
-  all = all_written (move_of rule docs) (units_of docs) written
-
-  abbrev left_from : ℕ → ℕ → List PartialUnit
-  left_from file n = local_partials rule (units_of docs) (range_with_len file n)
+  all = all_written m (units_of docs) written
 
   abbrev BeforeParts : ℕ → List PartialUnit → Type 0
   BeforeParts file done = (g : ℕ) → file ≤ g → Each (λ p. p.home ≡ Local g → ⊥) done
@@ -95,7 +87,7 @@ module _ (docs : List (Doc ℕ)) (rule : Rule) (shown : List Partial) (counts : 
   pub record Going (file next : ℕ) (rest : List (Doc ℕ)) (flags : List Bool) (parts olds : List ℕ) : Type 0 where
     pub last : file + length rest ≡ length docs
     pub done : List PartialUnit
-    pub parts_are : (move_of rule docs).parts ≡ done ++ local_partials rule (units_of docs) (range_with_len file (length rest))
+    pub parts_are : m.parts ≡ done ++ parts_of_files m (range_with_len file (length rest))
     pub parts_many : length done ≡ length parts
     pub parts_before : (g : ℕ) → file ≤ g → Each (λ p. p.home ≡ Local g → ⊥) done
     pub old : List (FileUnit EntryName)
@@ -105,11 +97,11 @@ module _ (docs : List (Doc ℕ)) (rule : Rule) (shown : List Partial) (counts : 
     pub olds_many : length old ≡ length olds
     pub olds_before : (g : ℕ) → file ≤ g → Each (λ u. u.file ≡ g → ⊥) old
     pub built : List (DwUnit EntryName)
-    pub all_are : all_written (move_of rule docs) (units_of docs) written ≡ built ++ files_written (move_of rule docs) (units_of docs) file flags
+    pub all_are : all_written m (units_of docs) written ≡ built ++ files_written m (units_of docs) file flags
     pub built_many : length built ≡ next
-    pub parts_ok : (n : ℕ) (part : PartialUnit) → Nth 0 done n part → IsNumber (all_written (move_of rule docs) (units_of docs) written) parts n (partial_unit (move_of rule docs) n)
+    pub parts_ok : (n : ℕ) (part : PartialUnit) → Nth 0 done n part → IsNumber (all_written m (units_of docs) written) parts n (partial_unit m n)
     pub olds_ok : (i : ℕ) (u : FileUnit EntryName) → Nth 0 old i u → IsFileWritten written u.file
-        → IsNumber (all_written (move_of rule docs) (units_of docs) written) olds i (kept_unit (move_of rule docs) (units_of docs) i u)
+        → IsNumber (all_written m (units_of docs) written) olds i (kept_unit m (units_of docs) i u)
 
   -- the numbers of partial units that stand one behind the other
   parts_more : (done mid : List PartialUnit) (parts : List ℕ) (first : ℕ) → length done ≡ length parts → ((n : ℕ) (part : PartialUnit) → Nth 0 done n part → IsNumber all parts n (partial_unit m n))
@@ -166,7 +158,7 @@ module _ (docs : List (Doc ℕ)) (rule : Rule) (shown : List Partial) (counts : 
 
   -- the partial units as the code sees them
   shown_are : map (shown_part (length docs)) m.parts ≡ shown
-  shown_are = ap (λ (fs : List ℕ). map (shown_part (length docs)) (partials rule units fs)) (file_numbers_are 0 docs) ∙ h.parts_are
+  shown_are = h.parts_are
 
   lead : (file : ℕ) (done mid rest : List PartialUnit) (parts : List ℕ) → m.parts ≡ done ++ (mid ++ rest) → length done ≡ length parts
       → Each (λ p. (shown_part (length docs) p).file ≡ file) mid → Each (λ p. (shown_part (length docs) p).file ≡ file → ⊥) rest
@@ -183,13 +175,7 @@ module _ (docs : List (Doc ℕ)) (rule : Rule) (shown : List Partial) (counts : 
 
   -- of a file of which nothing moves
   none_local : (file : ℕ) → changes m units file ≡ false → length (partial_units m (Local file) 0 m.parts) ≡ 0
-  unfolding out_units
-  none_local file c =
-      let e : length (partial_units m (Local file) 0 m.parts) + length (kept_units m units file 0 units) ≡ length (units_of_file file units) = sym
-      (length-append (partial_units m (Local file) 0 m.parts) (kept_units m units file 0 units))
-      ∙ ap (λ (w : List (DwUnit EntryName)). length w) (still h.scope docs rule h.alike h.choice (file_numbers 0 docs) file c) in
-      let k = kept_count m units file 0 units in
-      omega (arith, e, k)
+  none_local file c = units_many m (Local file) 0 m.parts ∙ ap (λ (w : List PartialUnit). length w) (h.still file c)
 
   -- what is written of a file, of whose partial units and old units so many are known
   file_units : (file k d o : ℕ) (own : List (FileUnit EntryName)) (w : Bool) → slice_index_or written file false ≡ w → partial_units m (Local file) 0 m.parts ≡ numbered m d k
@@ -218,13 +204,13 @@ module _ (docs : List (Doc ℕ)) (rule : Rule) (shown : List Partial) (counts : 
       → Going file next (doc ∷ rest) (w ∷ flags) parts olds → slice_index_or written file false ≡ w
       → k ≡ leading file (drop (length parts) shown) → more ≡ parts ++ range_with_len next k → others ≡ olds ++ numbers_of (next + k) (length doc.units) w
       → after ≡ next + k + (if w then length doc.units else 0) → Going (file + 1) after rest flags more others
-  unfolding local_partials named_files files_written
+  unfolding parts_of_files named_files files_written
   going_next file next k after doc rest w flags parts more olds others g flag count more_is others_is after_is =
-      let mid = partials_at rule units (Local file) in
-      let left = local_partials rule units (range_with_len (file + 1) (length rest)) in
-      let at_mid = at_home rule units (Local file) in
+      let mid = parts_at m (Local file) in
+      let left = parts_of_files m (range_with_len (file + 1) (length rest)) in
+      let at_mid = at_home (Local file) m.parts in
       let last = g.last in
-      let laters : Each (IsLater (file + 1) (length docs)) left = local_later rule units (file + 1) (length rest) (length docs) (omega arith) in
+      let laters : Each (IsLater (file + 1) (length docs)) left = files_later m (file + 1) (length rest) (length docs) (omega arith) in
       let shown_mid = each_more (λ (p : PartialUnit). p.home ≡ Local file) (λ (p : PartialUnit). (shown_part (length docs) p).file ≡ file) mid
       (λ p e. ap (λ (hm : Home). file_of_home (length docs) hm) e) at_mid in
       let lead_is : k ≡ length mid = count ∙ lead file g.done mid left parts g.parts_are g.parts_many shown_mid (later_shown (file + 1) (length docs) file left (omega arith) laters) in
@@ -278,13 +264,13 @@ module _ (docs : List (Doc ℕ)) (rule : Rule) (shown : List Partial) (counts : 
   -- the common file comes first
   pub going_first : (k : ℕ) (parts : List ℕ) → k ≡ leading (length docs) (drop 0 shown) → parts ≡ range_with_len 0 k → (length written ≡ length docs)
       → Going 0 k docs written parts [] × (k ≡ length (common_units m))
-  unfolding partials common_units
+  unfolding common_units
   going_first k parts count parts_is flags =
-      let mid = partials_at rule units Common in
-      let left = local_partials rule units (range_with_len 0 (length docs)) in
-      let at_mid = at_home rule units Common in
-      let laters : Each (IsLater 0 (length docs)) left = local_later rule units 0 (length docs) (length docs) (omega arith) in
-      let are : m.parts ≡ mid ++ left = ap (partials rule units) (file_numbers_are 0 docs) in
+      let mid = parts_at m Common in
+      let left = parts_of_files m (range_with_len 0 (length docs)) in
+      let at_mid = at_home Common m.parts in
+      let laters : Each (IsLater 0 (length docs)) left = files_later m 0 (length docs) (length docs) (omega arith) in
+      let are : m.parts ≡ mid ++ left = h.order in
       let shown_mid = each_more (λ (p : PartialUnit). p.home ≡ Common) (λ (p : PartialUnit). (shown_part (length docs) p).file ≡ length docs) mid
       (λ p e. ap (λ (hm : Home). file_of_home (length docs) hm) e) at_mid in
       let not_left = each_more (IsLater 0 (length docs)) (λ (p : PartialUnit). (shown_part (length docs) p).file ≡ length docs → ⊥) left
@@ -322,7 +308,7 @@ module _ (docs : List (Doc ℕ)) (rule : Rule) (shown : List Partial) (counts : 
   -- all are numbered
   pub going_end : (file next commons : ℕ) (flags : List Bool) (parts olds : List ℕ) → Going file next [] flags parts olds → commons ≡ length (common_units m)
       → AreUnitNumbers m units written commons parts olds
-  unfolding local_partials named_files
+  unfolding parts_of_files named_files
   going_end file next commons flags parts olds g is =
       let done : m.parts ≡ g.done = g.parts_are ∙ append-nil g.done in
       let old : units ≡ g.old = g.units_are ∙ append-nil g.old in

@@ -1,24 +1,24 @@
 -- Units that are written are numbered home by home.
-use Rattle.std.proofs.Common.{◌≡◌, ℕ, zero, suc, ◌+◌, ◌-◌, ◌<◌, ◌≤◌, ◌==◌, Bool, true, false, List, [], ◌∷◌, ◌++◌, drop, get_or, length, map, Some, slice_get, refl, sym, ap, ◌∙◌, inl, inr, arith}
+use Rattle.std.proofs.Common.{◌≡◌, ℕ, zero, suc, ◌+◌, ◌-◌, ◌<◌, ◌≤◌, ◌==◌, Bool, true, false, List, [], ◌∷◌, ◌++◌, drop, get_or, length, map, Some, slice_get, cond, refl, sym, ap, ◌∙◌, inl, inr, arith}
 use Rattle.std.proofs.Common.{eq-eqb, if◌then◌else◌}
 use Rattle.std.specs.Prelude.{replicate}
-use Rattle.std.specs.List.{range_with_len}
+use Rattle.std.specs.List.{filter, range_with_len}
 use Rattle.std.proofs.lemmas.Bool.{ne_eqb}
 use Rattle.std.proofs.lemmas.List.{append-nil, append_assoc, drop_all}
 use Rattle.dwz_def_reading.proofs.ListFacts.{drop_next, numbers_more}
 use Rattle.dwz_def_reading.specs.Documents.{DwUnit}
 use Rattle.dwz_def_tops.specs.Lists.{Nth}
 use Rattle.dwz_def_reading.specs.Lists.{Each}
-use Rattle.dwz_def_tops.proofs.Members.{each_append, each_more, each_of, in_map_from}
+use Rattle.dwz_def_tops.proofs.Members.{each_append, each_more}
 use Rattle.dwz_def_tops.specs.Spots.{EntryName, FileUnit}
-use Rattle.dwz_def_plan.specs.Homes.{Common, Home, Local, Rule, Stay, same_home}
+use Rattle.dwz_def_plan.specs.Homes.{Common, Home, Local, Stay, same_home}
 use Rattle.dwz_def_plan.specs.Moves.{Move}
-use Rattle.dwz_def_plan.specs.Plan.{PartialUnit, distinct, local_partials, partial_with, partials_at, representatives, users_of}
+use Rattle.dwz_def_plan.specs.Plan.{PartialUnit}
 use Rattle.dwz_def_plan.proofs.PlanLemmas.{home_true}
 use Rattle.dwz_plan.specs.declared.plan.Partial.{Partial}
 use Rattle.dwz_plan.specs.Shows.{shown_part}
 use Rattle.dwz_def_images.specs.Units.{kept_unit, kept_units, partial_unit, partial_units}
-use Rattle.dwz_layout_numbers.specs.Numbering.{leading}
+use Rattle.dwz_layout_numbers.specs.Numbering.{leading, parts_at, parts_of_files}
 
 -- ---- partial units of a home
 
@@ -27,7 +27,7 @@ own_home Common = refl
 own_home (Local file) = eq-eqb file file refl
 own_home Stay = refl
 
-other_home : (g h : Home) → (g ≡ h → ⊥) → same_home g h ≡ false
+pub other_home : (g h : Home) → (g ≡ h → ⊥) → same_home g h ≡ false
 other_home g h ne = by (same_home g h) refl where
   by : (b : Bool) → same_home g h ≡ b → b ≡ false
   by true e = absurd (ne (home_true g h e))
@@ -132,25 +132,28 @@ kept_at m all s [] j u e = absurd cc
 kept_at m all s (v ∷ xs) zero u e = let same : v ≡ u = cc in let n : s ≡ s + 0 = omega arith in (λ i. Some (kept_unit m all (n i) (same i)))
 kept_at m all s (v ∷ xs) (suc j) u e = let n : suc s + j ≡ s + suc j = omega arith in kept_at m all (suc s) xs j u e ∙ ap (λ (w : ℕ). Some (kept_unit m all w u)) n
 
--- ---- the partial units of a plan by their homes
+-- ---- partial units by their homes
 
-pub at_home : (rule : Rule) (units : List (FileUnit EntryName)) (h : Home) → Each (λ p. p.home ≡ h) (partials_at rule units h)
-unfolding partials_at
-at_home rule units h = each_of (λ (p : PartialUnit). p.home ≡ h) (map (partial_with rule units h) (distinct (map (users_of rule.alike units) (representatives rule units h))))
-    (λ p is. (let o = in_map_from (partial_with rule units h) p (distinct (map (users_of rule.alike units) (representatives rule units h))) is in ap (λ (w : PartialUnit). w.home) (sym o.is)))
+pub at_home : (h : Home) (xs : List PartialUnit) → Each (λ p. p.home ≡ h) (filter (λ p. same_home p.home h) xs)
+at_home h [] = tt
+at_home h (p ∷ xs) = go (at_home h xs) (same_home p.home h) refl where
+  go : Each (λ (q : PartialUnit). q.home ≡ h) (filter (λ (q : PartialUnit). same_home q.home h) xs) → (b : Bool) → same_home p.home h ≡ b
+      → Each (λ (q : PartialUnit). q.home ≡ h) (cond b (p ∷ filter (λ (q : PartialUnit). same_home q.home h) xs) (filter (λ (q : PartialUnit). same_home q.home h) xs))
+  go rest true e = (home_true p.home h e, rest)
+  go rest false e = rest
 
 -- of a file from that number on, and before another
 abbrev pub IsLater : ℕ → ℕ → PartialUnit → Type 0
 IsLater low high p = (file : ℕ) × (p.home ≡ Local file) × (low ≤ file) × (file < high)
 
-pub local_later : (rule : Rule) (units : List (FileUnit EntryName)) (low n high : ℕ) → low + n ≤ high → Each (IsLater low high) (local_partials rule units (range_with_len low n))
-unfolding local_partials
-local_later rule units low zero high le = tt
-local_later rule units low (suc n) high le =
-    each_append (IsLater low high) (partials_at rule units (Local low)) (local_partials rule units (range_with_len (low + 1) n))
-    (each_more (λ (p : PartialUnit). p.home ≡ Local low) (IsLater low high) (partials_at rule units (Local low)) (λ p e. (low, e, omega arith, omega arith)) (at_home rule units (Local low)))
-    (each_more (IsLater (low + 1) high) (IsLater low high) (local_partials rule units (range_with_len (low + 1) n)) (λ p h. (let l = h.2 in (h.0, h.1, omega arith, h.3)))
-    (local_later rule units (low + 1) n high (omega arith)))
+pub files_later : (m : Move) (low n high : ℕ) → low + n ≤ high → Each (IsLater low high) (parts_of_files m (range_with_len low n))
+unfolding parts_of_files
+files_later m low zero high le = tt
+files_later m low (suc n) high le =
+    each_append (IsLater low high) (parts_at m (Local low)) (parts_of_files m (range_with_len (low + 1) n))
+    (each_more (λ (p : PartialUnit). p.home ≡ Local low) (IsLater low high) (parts_at m (Local low)) (λ p e. (low, e, omega arith, omega arith)) (at_home (Local low) m.parts))
+    (each_more (IsLater (low + 1) high) (IsLater low high) (parts_of_files m (range_with_len (low + 1) n)) (λ p h. (let l = h.2 in (h.0, h.1, omega arith, h.3)))
+    (files_later m (low + 1) n high (omega arith)))
 
 pub later_not : (low high file : ℕ) (xs : List PartialUnit) → file < low → Each (IsLater low high) xs → Each (λ p. p.home ≡ Local file → ⊥) xs
 later_not low high file xs lt h = each_more (IsLater low high) (λ (p : PartialUnit). p.home ≡ Local file

@@ -197,11 +197,9 @@ module _ (units : List (FileUnit EntryName)) (m : Move) (old : AreOld units) (fi
       let there = subst (In t.0) all t.1 in
       (t.0, among t.0 there, t.2, (below_unit u i first w.kind t.0 there).1)
 
-  pub unit_kept : Nth 0 units i (in_file file (unit_map name v)) → Among → (s : EntryName) → image_in m s ≡ s → Stays s → (s ≡ RootOf i) ⊎ In s (below_names i first v.kind v.below)
-      → In s (unit_keys (kept_unit m units i (in_file file (unit_map name v))))
-  unfolding unit_keys
-  unit_kept nth among s fixed stays (inl e) = inr (inl (ap (image_in m) ((old.units_named i u nth).root ∙ sym e) ∙ fixed))
-  unit_kept nth among s fixed stays (inr h) = inr (inr (by v.kind refl h)) where
+  pub below_kept : Nth 0 units i (in_file file (unit_map name v)) → Among → (s : EntryName) → image_in m s ≡ s → Stays s → In s (below_names i first v.kind v.below)
+      → In s (keys (kept_unit m units i (in_file file (unit_map name v))).below)
+  below_kept nth among s fixed stays h = by v.kind refl h where
     in_compile : v.kind ≡ Compile → TopOrSpace (rows_of_root units i) s → Each (Between first (first + tops_under v.below)) (map spot_of (top_spots i [] 0 first v.below))
         → In s (map spot_of (top_spots i [] 0 first v.below)) → In s (keys (kept_unit m units i u).below)
     in_compile kind (inr x) all is = space_kept units m old i u nth (ap (kind_map name) kind) s fixed x
@@ -226,3 +224,9 @@ module _ (units : List (FileUnit EntryName)) (m : Move) (old : AreOld units) (fi
         type_kept units m old i u nth signature (name main) (ap (kind_map name) kind) s fixed
         (subst (λ (x : List (List ℕ)). In s (map (InType i) x)) (sym (paths_map name [] 0 v.below)) (subst (In s) (names_paths (InType i) [] 0 v.below) is))
     by Partial kind is = absurd is
+
+  pub unit_kept : Nth 0 units i (in_file file (unit_map name v)) → Among → (s : EntryName) → image_in m s ≡ s → Stays s → (s ≡ RootOf i) ⊎ In s (below_names i first v.kind v.below)
+      → In s (unit_keys (kept_unit m units i (in_file file (unit_map name v))))
+  unfolding unit_keys
+  unit_kept nth among s fixed stays (inl e) = inr (inl (ap (image_in m) ((old.units_named i u nth).root ∙ sym e) ∙ fixed))
+  unit_kept nth among s fixed stays (inr h) = inr (inr (below_kept nth among s fixed stays h))

@@ -1,5 +1,5 @@
 -- The owner of an entry is the unit in which its name stands.
-use Rattle.std.proofs.Common.{◌≡◌, ℕ, ◌+◌, Bool, true, false, List, ◌++◌, map, Option, Some, None, Ok, slice_get, refl, sym, ap, subst, ◌∙◌, inr, arith}
+use Rattle.std.proofs.Common.{◌≡◌, ℕ, ◌+◌, Bool, false, List, ◌++◌, map, Option, Some, None, Ok, slice_get, refl, sym, ap, subst, ◌∙◌, inr, arith}
 use Rattle.std.specs.Prelude.{slice_index_or}
 use Rattle.dwz_def_reading.specs.Lists.{Each, In}
 use Rattle.dwz_def_reading.specs.Trees.{End}
@@ -12,33 +12,26 @@ use Rattle.dwz_def_reading.proofs.MeaningUnits.{units_agree}
 use Rattle.dwz_def_tops.specs.Lists.{Nth}
 use Rattle.dwz_def_tops.specs.Seen.{IsPartial}
 use Rattle.dwz_def_tops.specs.Shown.{keys, unit_keys}
-use Rattle.dwz_def_tops.proofs.Members.{each_in, each_of, in_map_from, nth_in, nth_of}
+use Rattle.dwz_def_tops.proofs.Members.{each_in, each_of, nth_of}
 use Rattle.dwz_unit.specs.Rows.{EntryRow, rows_of}
-use Rattle.dwz_def_tops.specs.Spots.{EntryName, FileUnit, Top, Within, file_numbers, in_file, name_list, spot_in, spots_from, tops_of, units_of}
+use Rattle.dwz_def_tops.specs.Spots.{EntryName, FileUnit, Top, Within, in_file, name_list, spot_in, spots_from, tops_of, units_of}
 use Rattle.dwz_def_tops.proofs.TopNumbers.{top_at, tops_numbers}
 use Rattle.dwz_def_tops.proofs.Tops.{one_top}
 use Rattle.dwz_graph.specs.Index.{Index}
 use Rattle.dwz_graph.specs.Names.{names_from, top_in}
 use Rattle.dwz_graph.proofs.TopLemmas.{get_later}
-use Rattle.dwz_def_plan.specs.Homes.{Common, Home, Local, Rule, is_home, moves, rep}
-use Rattle.dwz_def_plan.specs.IsPlan.{BelongsTo, IsPart}
+use Rattle.dwz_def_plan.specs.Homes.{Common, Home, Local}
 use Rattle.dwz_def_plan.specs.Moves.{Move, image_in}
-use Rattle.dwz_def_plan.specs.Plan.{image, part_row, partials, stand_in}
-use Rattle.dwz_def_plan.proofs.PlanLemmas.{are_parts}
-use Rattle.dwz_def_plan.proofs.PartRows.{part_is}
-use Rattle.dwz_def_plan.proofs.UserLemmas.{move_stand}
 use Rattle.dwz_plan.specs.declared.plan.Home.{Home as Place}
 use Rattle.dwz_plan.specs.declared.plan.Home.TheVariants.{Common as InCommon, Local as InFile, Stay as InUnit}
 use Rattle.dwz_plan.specs.Planned.{Planned}
-use Rattle.dwz_plan.specs.Shows.{IsPlace, PartAt}
-use Rattle.dwz_plan.proofs.BridgeLemmas.{file_numbers_are}
+use Rattle.dwz_plan.specs.ShowsMove.{HoldsAt, IsPlaceIn}
 use Rattle.dwz_def_images.specs.After.{AreOld, ArePlaced}
-use Rattle.dwz_def_images.specs.Units.{kept_unit, partial_unit, tree}
-use Rattle.dwz_def_images.proofs.HeldLemmas.{row_found}
+use Rattle.dwz_def_images.specs.Units.{kept_unit, partial_unit}
 use Rattle.dwz_def_images.proofs.OldFiles.{files_old}
 use Rattle.dwz_layout_numbers.specs.Names.{all_names}
 use Rattle.dwz_layout_numbers.specs.OwnerLaws.{AreMoved}
-use Rattle.dwz_layout_numbers.specs.Owners.{IsFileWritten, IsOwner, all_written, move_of, owner_at, owner_by}
+use Rattle.dwz_layout_numbers.specs.Owners.{IsFileWritten, IsOwner, all_written, owner_at, owner_by}
 use Rattle.dwz_layout_numbers.specs.Whole.{IsFileAt}
 use Rattle.dwz_layout_numbers.proofs.FileRuns.{files_run, tops_in_all}
 use Rattle.dwz_layout_numbers.proofs.ImageLemmas.{located, top_inside}
@@ -66,45 +59,31 @@ own_name docs n top path e =
     let l = located 0 (tops_in_all docs) t.0.number (all_names docs) (paths_of t.0.below) run n path at in
     (t.0, t.1, t.2, got_in (paths_of t.0.below) l.0 path l.2)
 
-module _ (docs : List (Doc ℕ)) (rule : Rule) (planned : Planned) (written : List Bool) (commons : ℕ) (parts olds : List ℕ) (h : AreMoved docs rule planned written commons parts olds) where
+module _ (docs : List (Doc ℕ)) (m : Move) (planned : Planned) (written : List Bool) (commons : ℕ) (parts olds : List ℕ) (h : AreMoved docs m planned written commons parts olds) where
   abbrev units : List (FileUnit EntryName)
   units = units_of docs
 
-  abbrev files : List ℕ
-  files = file_numbers 0 docs
-
-  abbrev m : Move
-  m = move_of rule docs
-
   abbrev Owned : EntryName → ℕ → Type 0
-  Owned s owner = IsOwner (move_of rule docs) (units_of docs) written s owner
+  Owned s owner = IsOwner m (units_of docs) written s owner
 
   old : AreOld (units_of docs)
   old = files_old docs h.placed
 
   -- ---- in a partial unit
 
-  part_owned : (top p : ℕ) (hm : Home) (us : List ℕ) (path : List ℕ) → PartAt (partials rule (units_of docs) (file_numbers 0 docs)) p hm us (rep rule.alike (units_of docs) top)
-      → moves rule (units_of docs) top ≡ true → image rule (units_of docs) (Within top path) ≡ Within top path
+  part_owned : (top p : ℕ) (hm : Home) (path : List ℕ) → HoldsAt m.parts p hm (m.stand top) → image_in m (Within top path) ≡ Within top path
       → (t : Top) → In t (tops_of (units_of docs)) → t.number ≡ top → In path (paths_of t.below) → (kept : ℕ) → Owned (Within top path) (slice_index_or parts p kept)
   unfolding unit_keys
-  part_owned top p hm us path at gone fixed t is number there kept =
-      let stand : stand_in rule units top ≡ top = same_number (stand_in rule units top) top path path fixed in
-      let is_rep : rep rule.alike units top ≡ top = sym (move_stand units rule top gone) ∙ stand in
-      let o = in_map_from (λ (w : Top). w.number) (rep rule.alike units top) at.part.tops at.holds in
+  part_owned top p hm path at fixed t is number there kept =
+      let stand : m.stand top ≡ t.number = same_number (m.stand top) top path path fixed ∙ sym number in
       let none : 0 + p ≡ p = omega arith in
-      let nth : Nth 0 (partials rule units files) p at.part = subst (λ (w : ℕ). Nth 0 (partials rule units files) w at.part) none (nth_of 0 (partials rule units files) p at.part at.there) in
-      let fits : IsPart rule units at.part = each_in (IsPart rule units) at.part (partials rule units files) (are_parts rule units files) (nth_in 0 (partials rule units files) p at.part nth) in
-      let b : BelongsTo rule units at.part o.source = (fits.tops o.source).0 o.there in
-      let same : o.source ≡ t = one_top units o.source t b.there is (o.is ∙ is_rep ∙ sym number) in
-      let inside : In t at.part.tops = subst (λ (w : Top). In w at.part.tops) same o.there in
-      let has = ((part_is p at.part).tops_are (name_list t) t).1 (inside, refl) in
+      let nth : Nth 0 m.parts p at.part = subst (λ (w : ℕ). Nth 0 m.parts w at.part) none (nth_of 0 m.parts p at.part at.there) in
+      let has = h.holds p at.part nth t is (subst (λ (w : ℕ). In w (map (λ (x : Top). x.number) at.part.tops)) stand at.holds) in
       let s = Within top path in
       let own : In s (own_keys t) = subst (In s) (sym (top_labelled t (old.tops_named t is)))
       (subst (λ (w : ℕ). In (Within w path) (map (Within t.number) (paths_of t.below))) number (in_map (Within t.number) path (paths_of t.below) there)) in
       let mapped : In s (map (image_in m) (own_keys t)) = subst (λ (w : EntryName). In w (map (image_in m) (own_keys t))) fixed (in_map (image_in m) s (own_keys t) own) in
-      let stands : In s (keys (tree (image_in m) (part_row p at.part) End)) = tree_top (image_in m) (part_row p at.part) End (name_list t) t has s mapped in
-      let below : In s (keys (partial_unit m p).below) = subst (λ (w : _). In s (keys (tree (image_in m) w End))) (sym (row_found rule units files p at.part nth)) stands in
+      let below : In s (keys (partial_unit m p).below) = tree_top (image_in m) (m.rows p) End (name_list t) t has s mapped in
       let n = h.numbers.parts_are p at.part nth in
       record {
         unit = partial_unit m p;
@@ -123,8 +102,8 @@ module _ (docs : List (Doc ℕ)) (rule : Rule) (planned : Planned) (written : Li
     whole = each_of (λ (v : DwUnit ℕ). IsPartial v.kind → ⊥) f.doc.units (each_in (λ (doc : Doc ℕ). ArePlaced doc.units) f.doc docs h.placed (got_in docs file f.doc f.is_doc)).kinds
 
     kept_owned : (entry : ℕ) (row : EntryRow) (s : EntryName) → slice_get (rows_of raw) entry ≡ Some row → slice_get (names_from f.starts.unit f.starts.top f.doc.units) entry ≡ Some s
-        → image rule (units_of docs) s ≡ s
-        → ((t : Top) (path : List ℕ) → In t (tops_of (units_of docs)) → s ≡ Within t.number path → In path (paths_of t.below) × (moves rule (units_of docs) t.number ≡ false))
+        → image_in m s ≡ s
+        → ((t : Top) (path : List ℕ) → In t (tops_of (units_of docs)) → s ≡ Within t.number path → In path (paths_of t.below) × (m.gone t.number ≡ false))
         → (kept : ℕ) → slice_get olds (f.starts.unit + row.unit) ≡ Some kept → Owned s kept
     kept_owned entry row s got_row got_name fixed stays kept got_kept =
         let mean = ((units_agree around raw).ok f.doc.units).0 means in
@@ -143,7 +122,7 @@ module _ (docs : List (Doc ℕ)) (rule : Rule) (planned : Planned) (written : Li
         record { unit = kept_unit m units i u; is = ap (slice_get (all_written m units written)) (sym here) ∙ n.2; has = there }
 
     pub owned : (entry : ℕ) (row : EntryRow) (s : EntryName) → slice_get (rows_of raw) entry ≡ Some row → slice_get (names_from f.starts.unit f.starts.top f.doc.units) entry ≡ Some s
-        → image rule (units_of docs) s ≡ s
+        → image_in m s ≡ s
         → (kept : ℕ) → slice_get olds (f.starts.unit + row.unit) ≡ Some kept → Owned s (owner_by planned parts kept (top_in s))
     owned entry row s got_row got_name fixed kept got_kept = by (top_in s) refl where
       names : List EntryName
@@ -155,20 +134,23 @@ module _ (docs : List (Doc ℕ)) (rule : Rule) (planned : Planned) (written : Li
           ∙ get_later f.stand.before (names_from f.starts.unit f.starts.top f.doc.units ++ f.stand.after) entry s
           (get_first (names_from f.starts.unit f.starts.top f.doc.units) f.stand.after entry s got_name)
 
+      image_fixed : (top : ℕ) (path : List ℕ) → s ≡ Within top path → image_in m (Within top path) ≡ Within top path
+      image_fixed top path e = subst (λ (w : EntryName). image_in m w ≡ w) e fixed
+
       placed : (top : ℕ) (path : List ℕ) → s ≡ Within top path → (t : Top) → In t (tops_of (units_of docs)) → t.number ≡ top → In path (paths_of t.below) → (p : Place)
-          → IsPlace rule (units_of docs) (partials rule (units_of docs) (file_numbers 0 docs)) top p → Owned s (owner_at parts kept p)
+          → IsPlaceIn m top p → Owned s (owner_at parts kept p)
       placed top path e t is number there (InCommon p) q = subst (λ (w : EntryName). Owned w (slice_index_or parts p kept)) (sym e)
-          (part_owned top p Common _ path q.1 (ap is_home q.0) (subst (λ (w : EntryName). image rule (units_of docs) w ≡ w) e fixed) t is number there kept)
+          (part_owned top p Common path q.1 (image_fixed top path e) t is number there kept)
       placed top path e t is number there (InFile p) q = subst (λ (w : EntryName). Owned w (slice_index_or parts p kept)) (sym e)
-          (part_owned top p (Local q.0) _ path q.2 (ap is_home q.1) (subst (λ (w : EntryName). image rule (units_of docs) w ≡ w) e fixed) t is number there kept)
+          (part_owned top p (Local q.0) path q.2 (image_fixed top path e) t is number there kept)
       placed top path e t is number there InUnit q = kept_owned entry row s got_row got_name fixed stays kept got_kept where
-        stays : (v : Top) (r : List ℕ) → In v (tops_of (units_of docs)) → s ≡ Within v.number r → In r (paths_of v.below) × (moves rule (units_of docs) v.number ≡ false)
+        stays : (v : Top) (r : List ℕ) → In v (tops_of (units_of docs)) → s ≡ Within v.number r → In r (paths_of v.below) × (m.gone v.number ≡ false)
         stays v r is_v e' =
             let one : v.number ≡ top = same_number v.number top r path (sym e' ∙ e) in
             let same : t ≡ v = one_top (units_of docs) t v is is_v (number ∙ sym one) in
             let o = own_name docs (start + entry) v.number r (among ∙ ap (λ (w : EntryName). Some w) e') in
             let same_o : o.0 ≡ v = one_top (units_of docs) o.0 v o.1 is_v o.2 in
-            (subst (λ (w : Top). In r (paths_of w.below)) same_o o.3, (ap (λ (n : ℕ). moves rule (units_of docs) n) one ∙ ap is_home q))
+            (subst (λ (w : Top). In r (paths_of w.below)) same_o o.3, (ap m.gone one ∙ q))
 
       by : (o : Option ℕ) → top_in s ≡ o → Owned s (owner_by planned parts kept o)
       by None e = kept_owned entry row s got_row got_name fixed (λ t path is e'. absurd (let z : None ≡ Some t.number = sym e ∙ ap top_in e' in cc)) kept got_kept
@@ -176,7 +158,5 @@ module _ (docs : List (Doc ℕ)) (rule : Rule) (planned : Planned) (written : Li
           let w = in_a_top top s e in
           let o = own_name docs (start + entry) top w.0 (among ∙ ap (λ (v : EntryName). Some v) w.1) in
           let place = slice_index_or planned.homes top InUnit in
-          let shown : IsPlace rule units (partials rule units files) top place =
-          subst (λ (n : ℕ). IsPlace rule units (partials rule units files) n (slice_index_or planned.homes n InUnit)) o.2
-          (subst (λ (fs : List ℕ). IsPlace rule units (partials rule units fs) o.0.number (slice_index_or planned.homes o.0.number InUnit)) (sym (file_numbers_are 0 docs)) (h.shows.homes o.0 o.1)) in
+          let shown : IsPlaceIn m top place = subst (λ (n : ℕ). IsPlaceIn m n (slice_index_or planned.homes n InUnit)) o.2 (h.shows.homes o.0 o.1) in
           placed top w.0 w.1 o.0 o.1 o.2 o.3 place shown

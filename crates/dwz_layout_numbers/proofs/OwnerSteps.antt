@@ -1,7 +1,7 @@
 -- The owner of one entry, and those of entries one after the other.
-use Rattle.std.proofs.Common.{◌≡◌, ℕ, zero, suc, ◌+◌, ◌<◌, ◌≤◌, List, [], ◌∷◌, ◌++◌, length, get_or, take, Some, None, slice_get, sym, ap, subst, ◌∙◌, arith}
+use Rattle.std.proofs.Common.{◌≡◌, ℕ, zero, suc, ◌+◌, ◌<◌, ◌≤◌, List, [], ◌∷◌, ◌++◌, length, map, get_or, take, Some, None, slice_get, sym, ap, subst, ◌∙◌, arith}
 use Rattle.std.specs.Prelude.{slice_index_or}
-use Rattle.std.proofs.lemmas.List.{append-nil, append_assoc, take_all, take_more}
+use Rattle.std.proofs.lemmas.List.{append-nil, append_assoc, map-append, take_all, take_more}
 use Rattle.dwz_def_reading.specs.Units.{RawUnit, entries_in}
 use Rattle.dwz_def_reading.proofs.ListFacts.{got_there}
 use Rattle.dwz_unit.specs.declared.rows.RawEntry.{RawEntry as EntryOfCode}
@@ -92,3 +92,24 @@ module _ (plan : Planned) (parts olds : List ℕ) (unit : ℕ) where
       let len = index.len in
       subst (λ (w : List EntryRow). AddsOwners plan parts olds unit w names old new) (take_all i rows (omega (arith, long, le)))
       (subst (λ (w : List EntryName). AddsOwners plan parts olds unit (take i rows) w old new) (take_all i names (omega (arith, len, many, le))) h)
+
+-- ---- the units of entries
+
+abbrev own_units : List EntryRow → List ℕ
+own_units rows = map (λ (row : EntryRow). row.unit) rows
+
+pub units_more : (raw : List RawUnit) (old mid new : List ℕ) (i : ℕ) (x : EntryOfCode) → i < entries_in raw → slice_get (shown_entries raw) i ≡ Some x
+    → mid ≡ old ++ map (λ (row : EntryRow). row.unit) (take i (rows_of raw)) → new ≡ mid ++ x.unit ∷ [] → new ≡ old ++ map (λ (row : EntryRow). row.unit) (take (i + 1) (rows_of raw))
+units_more raw old mid new i x lt shown was is =
+    let rows = rows_of raw in
+    let long = rows-length raw in
+    let low : i < length rows = omega (arith, long, lt) in
+    let r = got_there rows i low in
+    let same : r.0.unit ≡ x.unit = ap (λ (w : EntryOfCode). w.unit) (row_is raw i x r.0 shown r.1) in
+    is ∙ ap (λ (w : List ℕ). w ++ x.unit ∷ []) was ∙ append_assoc old (own_units (take i rows)) (x.unit ∷ [])
+    ∙ ap (λ (w : List ℕ). old ++ w) (ap (λ (n : ℕ). own_units (take i rows) ++ n ∷ []) (sym same) ∙ sym (map-append (λ (row : EntryRow). row.unit) (take i rows) (r.0 ∷ []))
+    ∙ ap own_units (sym (taken rows i r.0 low r.1)))
+
+pub units_all : (raw : List RawUnit) (old new : List ℕ) (i : ℕ) → entries_in raw ≤ i → new ≡ old ++ map (λ (row : EntryRow). row.unit) (take i (rows_of raw))
+    → new ≡ old ++ map (λ (row : EntryRow). row.unit) (rows_of raw)
+units_all raw old new i le is = (let long = rows-length raw in is ∙ ap (λ (w : List EntryRow). old ++ own_units w) (take_all i (rows_of raw) (omega (arith, long, le))))

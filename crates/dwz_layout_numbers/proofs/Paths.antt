@@ -1,10 +1,11 @@
--- The paths of a tree's entries in preorder: they name them, and alike trees have the same.
+-- The paths of a tree's entries in preorder: they name them, and trees of one shape have the same.
 use Rattle.std.proofs.Common.{◌≡◌, ℕ, suc, List, [], ◌∷◌, ◌++◌, map, refl, sym, ap, ◌∙◌}
 use Rattle.std.proofs.lemmas.List.{map-append}
 use Rattle.dwz_def_reading.specs.Trees.{End, Entry}
 use Rattle.dwz_def_reading.specs.Documents.{Entries, entries_map}
 use Rattle.dwz_def_tops.specs.Alike.{SameEntries}
 use Rattle.dwz_def_tops.specs.Spots.{EntryName, entry_spots}
+use Rattle.dwz_layout_numbers.specs.Images.{SameShape}
 
 abbrev pub spot_of : ℕ × EntryName → EntryName
 spot_of x = x.1
@@ -32,9 +33,20 @@ unfolding paths_in entries_map
 paths_map g path i End = refl
 paths_map g path i (Entry e c n) = (λ j. (i ∷ path) ∷ (paths_map g (i ∷ path) 0 c j ++ paths_map g path (suc i) n j))
 
-pub paths_same : (R : ℕ → ℕ → Type 0) (path : List ℕ) (i : ℕ) (f g : Entries EntryName) → SameEntries R f g → paths_in path i f ≡ paths_in path i g
+pub shape_paths : (path : List ℕ) (i : ℕ) (f g : Entries EntryName) → SameShape f g → paths_in path i f ≡ paths_in path i g
 unfolding paths_in
-paths_same R path i End End h = refl
-paths_same R path i End (Entry e c n) h = absurd h
-paths_same R path i (Entry e c n) End h = absurd h
-paths_same R path i (Entry d c n) (Entry e c' n') h = (λ j. (i ∷ path) ∷ (paths_same R (i ∷ path) 0 c c' h.1 j ++ paths_same R path (suc i) n n' h.2 j))
+shape_paths path i End End h = refl
+shape_paths path i End (Entry e c n) h = absurd h
+shape_paths path i (Entry e c n) End h = absurd h
+shape_paths path i (Entry d c n) (Entry e c' n') h = (λ j. (i ∷ path) ∷ (shape_paths (i ∷ path) 0 c c' h.0 j ++ shape_paths path (suc i) n n' h.1 j))
+
+-- alike trees have one shape
+pub shape_same : (R : ℕ → ℕ → Type 0) (f g : Entries EntryName) → SameEntries R f g → SameShape f g
+shape_same R End End h = tt
+shape_same R End (Entry e c n) h = absurd h
+shape_same R (Entry e c n) End h = absurd h
+shape_same R (Entry d c n) (Entry e c' n') h = (shape_same R c c' h.1, shape_same R n n' h.2)
+
+pub shape_self : (f : Entries EntryName) → SameShape f f
+shape_self End = tt
+shape_self (Entry e c n) = (shape_self c, shape_self n)

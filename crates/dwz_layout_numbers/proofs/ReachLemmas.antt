@@ -3,27 +3,22 @@ use Rattle.std.proofs.Common.{◌≡◌, ◌⊎◌, ℕ, zero, suc, ◌≤◌, �
 use Rattle.std.specs.Prelude.{nat_lt}
 use Rattle.std.proofs.lemmas.Bool.{ltb-false, ltb-true}
 use Rattle.std.proofs.lemmas.List.{append-nil, append_assoc}
-use Rattle.dwz_def_reading.specs.Lists.{Each, In}
+use Rattle.dwz_def_reading.specs.Lists.{In}
 use Rattle.dwz_def_reading.proofs.ListFacts.{got_below, in_left, in_right}
 use Rattle.dwz_def_reading.specs.Documents.{Doc, DwUnit}
 use Rattle.dwz_def_tops.specs.Lists.{NoneTwice}
 use Rattle.dwz_def_tops.specs.Shown.{unit_keys, units_keys}
 use Rattle.dwz_def_tops.proofs.OnceLemmas.{none_append, none_both, none_left, none_right}
-use Rattle.dwz_def_tops.specs.Spots.{EntryName, FileUnit, file_numbers, same_spot, units_of}
+use Rattle.dwz_def_tops.specs.Spots.{EntryName, FileUnit, file_numbers, same_spot}
 use Rattle.dwz_graph.proofs.TopLemmas.{get_cases}
-use Rattle.dwz_def_plan.specs.Homes.{Rule}
 use Rattle.dwz_def_plan.specs.Moves.{Move}
-use Rattle.dwz_def_images.specs.After.{ArePlaced}
-use Rattle.dwz_def_images.specs.Units.{common_units, file_units, out_units}
+use Rattle.dwz_def_images.specs.Units.{all_units, common_units, file_units, out_units}
 use Rattle.dwz_def_images.proofs.ApartOwn.{keys_joined}
-use Rattle.dwz_def_images.proofs.ApartUnits.{all_apart}
-use Rattle.dwz_def_images.proofs.OldFiles.{files_old}
-use Rattle.dwz_def_images.proofs.FileLemmas.{numbers_rise}
 use Rattle.dwz_def_encoding.specs.Placing.{has_key}
 use Rattle.dwz_def_encoding.proofs.Chosen.{none_has}
 use Rattle.dwz_def_encoding.proofs.ChosenNames.{has_in}
 use Rattle.dwz_def_encoding.proofs.SameLemmas.{spots_same}
-use Rattle.dwz_layout_numbers.specs.Owners.{StandsIn, all_written, files_written, move_of}
+use Rattle.dwz_layout_numbers.specs.Owners.{StandsIn, all_written, files_written}
 
 -- ---- where a name stands
 
@@ -125,8 +120,6 @@ module _ (m : Move) (units : List (FileUnit EntryName)) where
       ∙ ap (λ (w : List EntryName). units_keys before ++ w) (keys_joined own rest)) h in
       some_once before (suc file) docs written (omega (arith, le)) (subst NoneTwice (sym (keys_joined before rest)) (skipped (units_keys before) (units_keys own) (units_keys rest) keys))
 
-pub written_once : (docs : List (Doc ℕ)) (rule : Rule) (written : List Bool) → Each (λ doc. ArePlaced doc.units) docs → length written ≤ length docs
-    → NoneTwice (units_keys (all_written (move_of rule docs) (units_of docs) written))
-written_once docs rule written placed le =
-    some_once (move_of rule docs) (units_of docs) (common_units (move_of rule docs)) 0 docs written le
-    (all_apart (units_of docs) rule (files_old docs placed) (file_numbers 0 docs) (numbers_rise 0 docs))
+pub written_once : (m : Move) (units : List (FileUnit EntryName)) (docs : List (Doc ℕ)) (written : List Bool) → NoneTwice (units_keys (all_units m units (file_numbers 0 docs)))
+    → length written ≤ length docs → NoneTwice (units_keys (all_written m units written))
+written_once m units docs written once le = some_once m units (common_units m) 0 docs written le once

@@ -5,9 +5,8 @@ use Rattle.dwz_def_reading.specs.Units.{RawUnit, entries_in}
 use Rattle.dwz_def_reading.specs.Documents.{Doc}
 use Rattle.dwz_graph.specs.Resolved.{place_at}
 use Rattle.dwz_graph.specs.Rows.{AreTargets}
-use Rattle.dwz_def_tops.specs.Spots.{EntryName, units_of}
-use Rattle.dwz_def_plan.specs.Homes.{Rule}
-use Rattle.dwz_def_plan.specs.Plan.{image}
+use Rattle.dwz_def_tops.specs.Spots.{EntryName}
+use Rattle.dwz_def_plan.specs.Moves.{Move, image_in}
 use Rattle.dwz_layout_numbers.specs.Images.{AreImages, IsImage}
 use Rattle.dwz_layout_numbers.specs.Names.{all_names}
 use Rattle.dwz_layout_numbers.proofs.OwnerSteps.{got_or}
@@ -24,22 +23,22 @@ got_drop xs zero j x e = let z : 0 + j ≡ j = omega arith in ap (slice_get xs) 
 got_drop [] (suc n) j x e = absurd cc
 got_drop (y ∷ xs) (suc n) j x e = let z : suc n + j ≡ suc (n + j) = omega arith in ap (slice_get (y ∷ xs)) z ∙ got_drop xs n j x e
 
-image_at : (docs : List (Doc ℕ)) (rule : Rule) (names : List EntryName) (refs numbers : List ℕ) → AreImages docs rule names refs numbers → (k e : ℕ) → slice_get refs k ≡ Some e
-    → (n : ℕ) × (slice_get numbers k ≡ Some n) × IsImage docs rule names e n
-image_at docs rule names [] [] h k e g = absurd cc
-image_at docs rule names [] (n ∷ numbers) h k e g = absurd h
-image_at docs rule names (r ∷ refs) [] h k e g = absurd h
-image_at docs rule names (r ∷ refs) (n ∷ numbers) h zero e g = (n, refl, (let same : r ≡ e = cc in subst (λ (w : ℕ). IsImage docs rule names w n) same h.0))
-image_at docs rule names (r ∷ refs) (n ∷ numbers) h (suc k) e g = image_at docs rule names refs numbers h.1 k e g
+image_at : (docs : List (Doc ℕ)) (m : Move) (names : List EntryName) (refs numbers : List ℕ) → AreImages docs m names refs numbers → (k e : ℕ) → slice_get refs k ≡ Some e
+    → (n : ℕ) × (slice_get numbers k ≡ Some n) × IsImage docs m names e n
+image_at docs m names [] [] h k e g = absurd cc
+image_at docs m names [] (n ∷ numbers) h k e g = absurd h
+image_at docs m names (r ∷ refs) [] h k e g = absurd h
+image_at docs m names (r ∷ refs) (n ∷ numbers) h zero e g = (n, refl, (let same : r ≡ e = cc in subst (λ (w : ℕ). IsImage docs m names w n) same h.0))
+image_at docs m names (r ∷ refs) (n ∷ numbers) h (suc k) e g = image_at docs m names refs numbers h.1 k e g
 
-pub reference_named : (docs : List (Doc ℕ)) (rule : Rule) (names : List EntryName) (name : ℕ → EntryName) (raw : List RawUnit) (refs numbers places : List ℕ) (n : ℕ)
-    → AreImages docs rule names refs numbers
+pub reference_named : (docs : List (Doc ℕ)) (m : Move) (names : List EntryName) (name : ℕ → EntryName) (raw : List RawUnit) (refs numbers places : List ℕ) (n : ℕ)
+    → AreImages docs m names refs numbers
     → ((i : ℕ) → i < entries_in raw → slice_get names i ≡ Some (name (place_at raw i))) → AreTargets raw (drop n refs) places → (j p : ℕ) → slice_get places j ≡ Some p
-    → slice_get (all_names docs) (slice_index numbers (n + j)) ≡ Some (image rule (units_of docs) (name p))
-reference_named docs rule names name raw refs numbers places n h named targets j p e =
+    → slice_get (all_names docs) (slice_index numbers (n + j)) ≡ Some (image_in m (name p))
+reference_named docs m names name raw refs numbers places n h named targets j p e =
     let t = target_at raw (drop n refs) places targets j p e in
-    let i = image_at docs rule names refs numbers h (n + j) t.0 (got_drop refs n j t.0 t.1) in
+    let i = image_at docs m names refs numbers h (n + j) t.0 (got_drop refs n j t.0 t.1) in
     let at : slice_index numbers (n + j) ≡ i.0 = got_or numbers (n + j) i.0 0 i.1 in
     let both : Some i.2.name ≡ Some (name (place_at raw t.0)) = sym i.2.is ∙ named t.0 t.2 in
     let same : i.2.name ≡ name (place_at raw t.0) = cc in
-    ap (slice_get (all_names docs)) at ∙ i.2.there ∙ (λ k. Some (image rule (units_of docs) ((same ∙ ap name t.3) k)))
+    ap (slice_get (all_names docs)) at ∙ i.2.there ∙ (λ k. Some (image_in m ((same ∙ ap name t.3) k)))

@@ -5,7 +5,7 @@ use Rattle.dwz_def_reading.specs.Lists.{Each, In}
 use Rattle.dwz_def_reading.specs.Trees.{End, Entry, Forest, Position, behind, first_below, size}
 use Rattle.dwz_def_reading.specs.Units.{RawUnit, entry_count}
 use Rattle.dwz_def_reading.proofs.ListFacts.{got_below, got_in, in_left, in_right}
-use Rattle.dwz_def_reading.specs.Documents.{DwUnit, kind_map, unit_map}
+use Rattle.dwz_def_reading.specs.Documents.{DwUnit, Entries, kind_map, unit_map}
 use Rattle.dwz_def_reading.specs.Meanings.{Around, MeanUnits, scope_of}
 use Rattle.dwz_def_tops.specs.Seen.{IsPartial}
 use Rattle.dwz_def_tops.proofs.Members.{each_append, each_in}
@@ -36,6 +36,12 @@ pub record IsOfUnit (file : ℕ) (name : ℕ → EntryName) (unit top : ℕ) (sa
   pub is : slice_get said k ≡ Some v
   pub own : (s ≡ RootOf m) ⊎ In s (below_names m first v.kind v.below)
   pub tops : (t : Top) → In t (row_tops (row_below file m first (unit_map name v) (kind_map name v.kind))) → In t (tops_from unit top (filed file name said))
+
+-- units with the same entries below their roots
+abbrev pub SameBelow : List (DwUnit ℕ) → List (DwUnit ℕ) → Type 0
+SameBelow [] [] = Unit {0}
+SameBelow (w ∷ read) (v ∷ said) = (w.below ≡ v.below) × SameBelow read said
+SameBelow _ _ = ⊥
 
 module _ (around : Around ℕ) (file : ℕ) (name : ℕ → EntryName) where
   here : (unit top : ℕ) (v : DwUnit ℕ) (said : List (DwUnit ℕ)) (s : EntryName) → (s ≡ RootOf unit) ⊎ In s (below_names unit top v.kind v.below) → IsOfUnit file name unit top (v ∷ said) unit s
@@ -69,19 +75,21 @@ module _ (around : Around ℕ) (file : ℕ) (name : ℕ → EntryName) where
             (subst (λ (n : ℕ). In t (tops_from (suc unit) (top + n) (filed file name said))) (sym (count_map name v.kind v.below)) (h.tops t is));
       }
 
-  pub of_unit : (raw : List RawUnit) (said : List (DwUnit ℕ)) → MeanUnits around raw said → Each (λ v. IsPartial v.kind → ⊥) said → (unit top n before e : ℕ) (row : EntryRow) (s : EntryName)
-      → slice_get (rows_from raw n before) e ≡ Some row → slice_get (names_from unit top said) e ≡ Some s
+  pub of_unit_by : (raw : List RawUnit) (read said : List (DwUnit ℕ)) → MeanUnits around raw read → SameBelow read said → Each (λ v. IsPartial v.kind → ⊥) said → (unit top n before e : ℕ)
+      (row : EntryRow) (s : EntryName) → slice_get (rows_from raw n before) e ≡ Some row → slice_get (names_from unit top said) e ≡ Some s
       → (m : ℕ) × (row.unit + unit ≡ m + n) × IsOfUnit file name unit top said m s
   unfolding rows_from names_from
-  of_unit [] [] h whole unit top n before e row s a b = absurd cc
-  of_unit [] (v ∷ said) h whole unit top n before e row s a b = absurd h
-  of_unit (u ∷ raw) [] h whole unit top n before e row s a b = absurd h
-  of_unit (u ∷ raw) (v ∷ said) h whole unit top n before e row s a b =
+  of_unit_by [] read [] h like whole unit top n before e row s a b = absurd cc
+  of_unit_by [] [] (v ∷ said) h like whole unit top n before e row s a b = absurd like
+  of_unit_by [] (w ∷ read) (v ∷ said) h like whole unit top n before e row s a b = absurd h
+  of_unit_by (u ∷ raw) [] said h like whole unit top n before e row s a b = absurd h
+  of_unit_by (u ∷ raw) (w ∷ read) [] h like whole unit top n before e row s a b = absurd like
+  of_unit_by (u ∷ raw) (w ∷ read) (v ∷ said) h like whole unit top n before e row s a b =
       let own = below_names unit top v.kind v.below in
       let rest = names_from (suc unit) (top + top_count v.kind v.below) said in
       let mine = rows_in u n before in
       let others = rows_from raw (n + 1) (before + entry_count u) in
-      let same : size u.below ≡ size v.below = means_size (scope_of around u) u.below v.below h.0.below in
+      let same : size u.below ≡ size v.below = means_size (scope_of around u) u.below w.below h.0.below ∙ ap (λ (x : Entries ℕ). size x) like.0 in
       let many = names_many unit top v.kind v.below whole.0 in
       let long = rows_in-length u n before in
       elim (get_cases mine others e row a) [
@@ -96,7 +104,7 @@ module _ (around : Around ℕ) (file : ℕ) (name : ℕ → EntryName) where
               let far = y.1 in
               let at = z.1 in
               let one : z.0 ≡ y.0 = omega (arith, far, at, long, same, many) in
-              let r = of_unit raw said h.1 whole.1 (suc unit) (top + top_count v.kind v.below) (n + 1) (before + entry_count u) y.0 row s y.2 (ap (slice_get rest) (sym one) ∙ z.2) in
+              let r = of_unit_by raw read said h.1 like.1 whole.1 (suc unit) (top + top_count v.kind v.below) (n + 1) (before + entry_count u) y.0 row s y.2 (ap (slice_get rest) (sym one) ∙ z.2) in
               let number = r.1 in
               (r.0, omega arith, later unit top v said r.0 s r.2)
         ])
@@ -107,3 +115,12 @@ module _ (around : Around ℕ) (file : ℕ) (name : ℕ → EntryName) where
         | inl x ↦ (elim (got_in (RootOf unit ∷ own) e s x) [ inl p ↦ inl (sym p) | inr q ↦ inr q ])
         | inr y ↦ absurd (let far = y.1 in omega (arith, far, low))
       ]
+
+  like_self : (said : List (DwUnit ℕ)) → SameBelow said said
+  like_self [] = tt
+  like_self (v ∷ said) = (refl, like_self said)
+
+  pub of_unit : (raw : List RawUnit) (said : List (DwUnit ℕ)) → MeanUnits around raw said → Each (λ v. IsPartial v.kind → ⊥) said → (unit top n before e : ℕ) (row : EntryRow) (s : EntryName)
+      → slice_get (rows_from raw n before) e ≡ Some row → slice_get (names_from unit top said) e ≡ Some s
+      → (m : ℕ) × (row.unit + unit ≡ m + n) × IsOfUnit file name unit top said m s
+  of_unit raw said h = of_unit_by raw said said h (like_self said)

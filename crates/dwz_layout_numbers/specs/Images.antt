@@ -1,14 +1,13 @@
 -- Numbers of images: of the entries of a file that of the entry that stands for each after.
-use Rattle.std.specs.Prelude.{◌≡◌, ℕ, ◌+◌, ◌<◌, ◌^◌, List, [], ◌∷◌, ◌++◌, length, map, Some, slice_get}
-use Rattle.dwz_def_reading.specs.Documents.{Doc}
-use Rattle.dwz_def_tops.specs.Alike.{IsAlike, TopScope}
-use Rattle.dwz_def_tops.specs.Spots.{EntryName, units_of}
+use Rattle.std.specs.Prelude.{◌≡◌, ℕ, ◌+◌, ◌<◌, ◌^◌, List, [], ◌∷◌, ◌++◌, length, map, Some, slice_get, slice_index}
+use Rattle.dwz_def_reading.specs.Documents.{Doc, Entries}
+use Rattle.dwz_def_reading.specs.Lists.{In}
+use Rattle.dwz_def_reading.specs.Trees.{End, Entry}
+use Rattle.dwz_def_tops.specs.Spots.{EntryName, Top, tops_of, units_of}
 use Rattle.dwz_graph.specs.declared.index.TopEntry.{TopEntry}
 use Rattle.dwz_graph.specs.Index.{Index, IsIndex}
-use Rattle.dwz_def_plan.specs.Homes.{Rule}
-use Rattle.dwz_def_plan.specs.Plan.{image}
+use Rattle.dwz_def_plan.specs.Moves.{Move, image_in}
 use Rattle.dwz_plan.specs.Planned.{Planned}
-use Rattle.dwz_plan.specs.Shows.{ShowsPlan}
 use Rattle.dwz_layout_numbers.specs.Names.{AreTopEntries, StandFrom, all_names}
 
 -- ---- entries counted over all files
@@ -32,13 +31,33 @@ tops_from n (x ∷ indexes) = tops_in n x.tops ++ tops_from (n + length x.steps)
 
 -- ---- images
 
--- the entries of all files are fewer than 2 ^ 32; it is known which of their tops are alike; the plan is theirs, and these are the
--- entries of their tops
-pub record IsPlanned (docs : List (Doc ℕ)) (rule : Rule) (plan : Planned) (tops : List ℕ) : Type 0 where
+-- entries of two trees stand at the same paths
+abbrev pub SameShape : {P : Type 0} → Entries P → Entries P → Type 0
+SameShape End End = Unit {0}
+SameShape (Entry d f g) (Entry e f' g') = SameShape f f' × SameShape g g'
+SameShape _ _ = ⊥
+
+-- what stands for the top is a top of these, the entries of which stand at the same paths
+pub record HasStandIn (tops : List Top) (m : Move) (t : Top) : Type 0 where
+  pub top : Top
+  pub there : In top tops
+  pub number : top.number ≡ m.stand t.number
+  pub shape : SameShape t.below top.below
+
+-- so it is of each top of these documents: those of files, and that of a finished common file beside them, read as compile units
+abbrev pub HaveStandIns : List (Doc ℕ) → Move → Type 0
+HaveStandIns docs m = (t : Top) → In t (tops_of (units_of docs)) → HasStandIn (tops_of (units_of docs)) m t
+
+-- the plan has what stands for each of the tops
+abbrev pub ShowsStandIns : List (Doc ℕ) → Move → Planned → Type 0
+ShowsStandIns docs m plan = (t : Top) → In t (tops_of (units_of docs)) → slice_index plan.stand_ins t.number ≡ m.stand t.number
+
+-- The entries of all documents are fewer than 2 ^ 32; for each of their tops one stands after; the plan has these; and these are the
+-- entries of their tops.
+pub record IsPlanned (docs : List (Doc ℕ)) (m : Move) (plan : Planned) (tops : List ℕ) : Type 0 where
   pub few : length (all_names docs) < 2 ^ 32
-  pub scope : TopScope
-  pub alike : IsAlike scope (units_of docs) rule.alike
-  pub shows : ShowsPlan rule (units_of docs) (length docs) plan
+  pub stand : HaveStandIns docs m
+  pub shows : ShowsStandIns docs m plan
   pub tops_are : AreTopEntries docs tops
 
 -- the index is of a file whose entries have these names, from that number on
@@ -47,14 +66,13 @@ pub record IsFile (docs : List (Doc ℕ)) (names : List EntryName) (x : Index) (
   pub stand : StandFrom (all_names docs) names start
 
 -- the number among all of the image of the entry with that number in its file
-pub record IsImage (docs : List (Doc ℕ)) (rule : Rule) (names : List EntryName) (entry number : ℕ) : Type 0 where
+pub record IsImage (docs : List (Doc ℕ)) (m : Move) (names : List EntryName) (entry number : ℕ) : Type 0 where
   pub name : EntryName
   pub is : slice_get names entry ≡ Some name
-  pub there : slice_get (all_names docs) number ≡ Some (image rule (units_of docs) name)
+  pub there : slice_get (all_names docs) number ≡ Some (image_in m name)
 
 -- of each of them
-abbrev pub AreImages : List (Doc ℕ) → Rule → List EntryName → List ℕ → List ℕ → Type 0
-AreImages docs rule names [] [] = Unit {0}
-AreImages docs rule names (entry ∷ entries) (number ∷ numbers) = IsImage docs rule names entry number
-    × AreImages docs rule names entries numbers
-AreImages docs rule names _ _ = ⊥
+abbrev pub AreImages : List (Doc ℕ) → Move → List EntryName → List ℕ → List ℕ → Type 0
+AreImages docs m names [] [] = Unit {0}
+AreImages docs m names (entry ∷ entries) (number ∷ numbers) = IsImage docs m names entry number × AreImages docs m names entries numbers
+AreImages docs m names _ _ = ⊥

@@ -4,37 +4,35 @@ use Rattle.dwz_def_reading.specs.Units.{RawUnit, entries_in}
 use Rattle.dwz_def_reading.specs.Documents.{Doc}
 use Rattle.dwz_graph.specs.Resolved.{place_at}
 use Rattle.dwz_graph.specs.Rows.{AreTargets}
-use Rattle.dwz_def_tops.specs.Alike.{IsAlike, TopScope}
 use Rattle.dwz_def_tops.specs.Spots.{EntryName, Within, tops_of, units_of}
-use Rattle.dwz_def_plan.specs.Homes.{Rule}
-use Rattle.dwz_def_plan.specs.Plan.{image, stand_in}
-use Rattle.dwz_layout_numbers.specs.Images.{AreImages}
+use Rattle.dwz_def_plan.specs.Moves.{Move, image_in}
+use Rattle.dwz_layout_numbers.specs.Images.{AreImages, HaveStandIns}
 use Rattle.dwz_layout_numbers.specs.Names.{all_names}
 
 -- the image of an entry stands as far behind the top that stands for its own as the entry behind its own top
 abbrev pub ImageLaw : Type 0
 ImageLaw =
-    (scope : TopScope) (docs : List (Doc ℕ)) (rule : Rule) → IsAlike scope (units_of docs) rule.alike
-    → (top : ℕ) (path : List ℕ) (n from to : ℕ)
+    (docs : List (Doc ℕ)) (m : Move) → HaveStandIns docs m → (top : ℕ) (path : List ℕ) (n from to : ℕ)
     → slice_get (all_names docs) n ≡ Some (Within top path) → slice_get (all_names docs) from ≡ Some (Within top [])
-    → slice_get (all_names docs) to ≡ Some (Within (stand_in rule (units_of docs) top) [])
-    → (from ≤ n) × (slice_get (all_names docs) (to + (n - from)) ≡ Some (image rule (units_of docs) (Within top path)))
+    → slice_get (all_names docs) to ≡ Some (Within (m.stand top) [])
+    → (from ≤ n) × (slice_get (all_names docs) (to + (n - from)) ≡ Some (image_in m (Within top path)))
 
 -- each name of an entry of a top is of one that is there, and so is that of the top that stands for it
 abbrev pub InsideLaw : Type 0
 InsideLaw =
-    (docs : List (Doc ℕ)) (rule : Rule) (top : ℕ) (path : List ℕ) (n : ℕ) → slice_get (all_names docs) n ≡ Some (Within top path)
-    → (top < length (tops_of (units_of docs))) × (stand_in rule (units_of docs) top < length (tops_of (units_of docs)))
+    (docs : List (Doc ℕ)) (m : Move) → HaveStandIns docs m → (top : ℕ) (path : List ℕ) (n : ℕ)
+    → slice_get (all_names docs) n ≡ Some (Within top path)
+    → (top < length (tops_of (units_of docs))) × (m.stand top < length (tops_of (units_of docs)))
 
 -- Where the numbers of a file's references are those of images, those from number n on, which lead to these places, are those of the
 -- images of what has the names of these places.
 abbrev pub ReferencesLaw : Type 0
 ReferencesLaw =
-    (docs : List (Doc ℕ)) (rule : Rule) (names : List EntryName) (name : ℕ → EntryName) (raw : List RawUnit)
-    (refs numbers places : List ℕ) (n : ℕ) → AreImages docs rule names refs numbers
+    (docs : List (Doc ℕ)) (m : Move) (names : List EntryName) (name : ℕ → EntryName) (raw : List RawUnit)
+    (refs numbers places : List ℕ) (n : ℕ) → AreImages docs m names refs numbers
     → ((i : ℕ) → i < entries_in raw → slice_get names i ≡ Some (name (place_at raw i))) → AreTargets raw (drop n refs) places
     → (j p : ℕ) → slice_get places j ≡ Some p
-    → slice_get (all_names docs) (slice_index numbers (n + j)) ≡ Some (image rule (units_of docs) (name p))
+    → slice_get (all_names docs) (slice_index numbers (n + j)) ≡ Some (image_in m (name p))
 
 -- no two entries have one name
 abbrev pub OneLaw : Type 0

@@ -7,3 +7,5 @@ pub mod Laws
 pub mod OwnerLaws
 pub mod Reach
 pub mod Befores
+pub mod PlanLaws
+pub mod OverLaws

@@ -1,20 +1,21 @@
 -- In which unit, and in which file, a name stands, by the numbers of units.
 use Rattle.std.specs.Prelude.{◌≡◌, ◌⊎◌, ℕ, ◌==◌, ◌≤◌, Bool, List, ◌++◌, length, nat_lt, not, Some, slice_get}
-use Rattle.dwz_def_reading.specs.Lists.{Each, In}
+use Rattle.dwz_def_reading.specs.Lists.{In}
 use Rattle.dwz_def_reading.specs.Documents.{Doc, DwUnit}
 use Rattle.dwz_def_tops.specs.Lists.{NoneTwice}
 use Rattle.dwz_def_tops.specs.Shown.{unit_keys, units_keys}
-use Rattle.dwz_def_tops.specs.Spots.{EntryName, same_spot, units_of}
-use Rattle.dwz_def_plan.specs.Homes.{Rule}
-use Rattle.dwz_def_images.specs.After.{ArePlaced}
+use Rattle.dwz_def_tops.specs.Spots.{EntryName, FileUnit, file_numbers, same_spot}
+use Rattle.dwz_def_plan.specs.Moves.{Move}
+use Rattle.dwz_def_images.specs.Units.{all_units}
 use Rattle.dwz_def_encoding.specs.Placing.{has_key}
-use Rattle.dwz_layout_numbers.specs.Owners.{StandsIn, all_written, move_of}
+use Rattle.dwz_layout_numbers.specs.Owners.{StandsIn, all_written}
 
--- no name stands twice in all units that are written
+-- where no name stands twice in all units after, none does in those that are written
 abbrev pub OnceLaw : Type 0
 OnceLaw =
-    (docs : List (Doc ℕ)) (rule : Rule) (written : List Bool) → Each (λ doc. ArePlaced doc.units) docs → length written ≤ length docs
-    → NoneTwice (units_keys (all_written (move_of rule docs) (units_of docs) written))
+    (m : Move) (units : List (FileUnit EntryName)) (docs : List (Doc ℕ)) (written : List Bool)
+    → NoneTwice (units_keys (all_units m units (file_numbers 0 docs))) → length written ≤ length docs
+    → NoneTwice (units_keys (all_written m units written))
 
 -- so a name that stands in the unit with the number `owner` stands in another one exactly where that has this number too
 abbrev pub OwnLaw : Type 0

@@ -1,10 +1,9 @@
 //! The entries that stand for others after.
 
 ghost use Rattle.std.specs.Prelude.{◌≡◌, ℕ, ◌+◌, ◌-◌, ◌<◌, ◌≤◌, ◌^◌, All, List, Some, length, slice_get, slice_index, IfOk};
-ghost use Rattle.dwz_def_tops.specs.Spots.{EntryName, units_of};
+ghost use Rattle.dwz_def_tops.specs.Spots.{EntryName};
 ghost use Rattle.dwz_def_reading.specs.Documents.{Doc};
-ghost use Rattle.dwz_def_plan.specs.Homes.{Rule};
-ghost use Rattle.dwz_def_plan.specs.Plan.{image};
+ghost use Rattle.dwz_def_plan.specs.Moves.{Move};
 ghost use Rattle.dwz_layout_numbers.specs.Images.{AreImages, IsFile, IsImage, IsPlanned};
 
 use dwz_graph::Index;
@@ -37,15 +36,16 @@ fn in_top(plan: &Plan, tops: &[u32], top: u32, number: u32) -> u32
     moved_number(number, tops[top as usize], tops[stand])
 }
 
-/// The number among all entries of the one that stands for an entry after: of a top that moves the one at the same path under the top
-/// that stands for it, else its own. The file's entries begin with the number `start`; `tops` has for each top the number of its entry.
+/// The number among all entries of the one that stands for an entry after: of a top the one at the same path under the top that stands
+/// for it, which may be one of a finished common file, else its own. The file's entries begin with the number `start`; `tops` has for each
+/// top the number of its entry.
 #[inline(always)]
 pub fn image(index: &Index, plan: &Plan, tops: &[u32], start: u32, entry: u32) -> u32
     requires there { entry < length index.now.steps }
     requires few { start + length index.now.steps < 2 ^ 32 }
     requires plan { length plan.now.stand_ins ≡ length tops.now }
-    ensures { (docs : List (Doc ℕ)) (rule : Rule) (names : List EntryName) → IsPlanned docs rule plan.now tops.now
-        → IsFile docs names index.now start → IsImage docs rule names entry result }
+    ensures { (docs : List (Doc ℕ)) (m : Move) (names : List EntryName) → IsPlanned docs m plan.now tops.now
+        → IsFile docs names index.now start → IsImage docs m names entry result }
 {
     let number = start + entry;
     match index.top_of(entry) {
@@ -66,8 +66,8 @@ pub fn references(
     requires there { All (λ entry. entry < length index.now.steps) refs.now }
     requires few { start + length index.now.steps < 2 ^ 32 }
     requires plan { length plan.now.stand_ins ≡ length tops.now }
-    ensures { (docs : List (Doc ℕ)) (rule : Rule) (names : List EntryName) → IsPlanned docs rule plan.now tops.now
-        → IsFile docs names index.now start → IfOk result (λ v. AreImages docs rule names refs.now v.items) }
+    ensures { (docs : List (Doc ℕ)) (m : Move) (names : List EntryName) → IsPlanned docs m plan.now tops.now
+        → IsFile docs names index.now start → IfOk result (λ v. AreImages docs m names refs.now v.items) }
 {
     let mut images = Vec::with_capacity(alloc, refs.len())?;
     for entry in refs {

@@ -2,6 +2,9 @@
 
 ghost use Rattle.dwz_layout_numbers.specs.Laws.{ImageLaw, InsideLaw, OneLaw, ReferencesLaw};
 ghost use Rattle.dwz_layout_numbers.specs.OwnerLaws.{OwnersLaw};
+ghost use Rattle.dwz_layout_numbers.specs.OverLaws.{CommonNamesLaw, CommonOwnersLaw, FilesBesideLaw, TopsBesideLaw};
+ghost use Rattle.dwz_layout_numbers.specs.OverLaws.{OverHoldsLaw, OverOrderLaw, OverStandsLaw, OverStillLaw};
+ghost use Rattle.dwz_layout_numbers.specs.PlanLaws.{PlanHoldsLaw, PlanOrderLaw, PlanStandsLaw, PlanStillLaw};
 ghost use Rattle.dwz_layout_numbers.specs.Reach.{CommonLaw, FileLaw, OnceLaw, OwnLaw};
 ghost use Rattle.dwz_layout_numbers.specs.Whole.{EntriesLaw, FilesLaw, TopsLaw};
 
@@ -34,4 +37,25 @@ pub fn reach_laws()
     ensures own { OwnLaw }
     ensures common { CommonLaw }
     ensures file { FileLaw }
+{}
+
+/// The plan is a move as is asked for: alike tops have one shape, its partial units have their tops, and are in order.
+pub fn plan_laws()
+    ensures stand { PlanStandsLaw }
+    ensures holds { PlanHoldsLaw }
+    ensures order { PlanOrderLaw }
+    ensures still { PlanStillLaw }
+{}
+
+/// So is the move over a finished common file. The entries of that file are numbered behind those of the files, and stand in its units,
+/// which are the first of all that are written.
+pub fn over_laws()
+    ensures stand { OverStandsLaw }
+    ensures holds { OverHoldsLaw }
+    ensures order { OverOrderLaw }
+    ensures still { OverStillLaw }
+    ensures names { CommonNamesLaw }
+    ensures owners { CommonOwnersLaw }
+    ensures files { FilesBesideLaw }
+    ensures tops { TopsBesideLaw }
 {}

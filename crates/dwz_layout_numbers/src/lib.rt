@@ -1,11 +1,13 @@
 //! Entries, images and written units by their numbers over all files.
 //!
+//! All is over any move of the tops of files, also where what stands for a top is one of a finished common file, which is numbered behind.
+//!
 //! `starts` and `tops` count the entries of all files; `references` gives for each reference of a file the number of what stands for its
 //! target after (`image`: two look-ups and one difference, since alike tops have trees of one shape); `befores` counts texts and numbers of
 //! files. `UnitNumbers::make` numbers the units that are written, the common file's first; `owner` and `put_owners` say in which of them an
-//! entry is written.
+//! entry is written, and `put_own_units` of those of a finished common file.
 //!
-//! Laws: `count_laws`, `image_laws`, `owner_laws`, `reach_laws`.
+//! Laws: `count_laws`, `image_laws`, `owner_laws`, `reach_laws`, `plan_laws`, `over_laws`.
 //!
 //! Read first: `specs/Names.antt`, `specs/Images.antt`, `specs/Owners.antt`.
 #![tactic(auto)]
@@ -20,6 +22,6 @@ mod owners;
 pub use counted::{starts, tops};
 pub use firsts::{CountsBefore, befores};
 pub use images::{image, references};
-pub use laws::{count_laws, image_laws, owner_laws, reach_laws};
+pub use laws::{count_laws, image_laws, over_laws, owner_laws, plan_laws, reach_laws};
 pub use numbers::UnitNumbers;
-pub use owners::{owner, put_owners};
+pub use owners::{owner, put_own_units, put_owners};

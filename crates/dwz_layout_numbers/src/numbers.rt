@@ -4,8 +4,8 @@ ghost use Rattle.std.specs.Prelude.{◌≡◌, ℕ, ◌+◌, ◌<◌, ◌^◌, �
 ghost use Rattle.std.specs.List.{range_with_len};
 ghost use Rattle.dwz_def_tops.specs.Spots.{units_of};
 ghost use Rattle.dwz_def_reading.specs.Documents.{Doc};
-ghost use Rattle.dwz_def_plan.specs.Homes.{Rule};
-ghost use Rattle.dwz_layout_numbers.specs.Owners.{AreUnitNumbers, move_of};
+ghost use Rattle.dwz_def_plan.specs.Moves.{Move};
+ghost use Rattle.dwz_layout_numbers.specs.Owners.{AreUnitNumbers};
 ghost use Rattle.dwz_layout_numbers.specs.Numbering.{HaveUnits, leading, numbers_of};
 
 use dwz_model::NoMemory;
@@ -102,7 +102,8 @@ fn add_olds(olds: &mut Vec<u32>, count: u32, written: bool, first: u32) -> Resul
 }
 
 impl UnitNumbers {
-    /// The numbers, from the partial units of a plan, how many units each file has, and whether it is written.
+    /// The numbers, from the partial units of a plan (those of the common file first, also where it is finished), how many units each file
+    /// has, and whether it is written.
     pub fn make(
         alloc: Global,
         partials: &[Partial],
@@ -112,8 +113,8 @@ impl UnitNumbers {
         requires few { length partials.now + sum counts.now < 2 ^ 32 }
         requires files { length counts.now < 2 ^ 32 }
         requires flags { length written.now ≡ length counts.now }
-        ensures { (docs : List (Doc ℕ)) (rule : Rule) → HaveUnits docs rule partials.now counts.now written.now
-            → IfOk result (λ n. AreUnitNumbers (move_of rule docs) (units_of docs) written.now n.commons n.parts.items n.olds.items) }
+        ensures { (docs : List (Doc ℕ)) (m : Move) → HaveUnits docs m partials.now counts.now written.now
+            → IfOk result (λ n. AreUnitNumbers m (units_of docs) written.now n.commons n.parts.items n.olds.items) }
     {
         let mut parts = Vec::with_capacity(alloc, partials.len())?;
         let mut olds = Vec::new(alloc);

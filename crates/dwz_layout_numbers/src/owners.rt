@@ -1,6 +1,6 @@
 //! The units in which entries are written.
 
-ghost use Rattle.std.specs.Prelude.{◌≡◌, ℕ, ◌+◌, ◌<◌, List, Some, length, slice_get, slice_index_or, OnOk};
+ghost use Rattle.std.specs.Prelude.{◌≡◌, ℕ, ◌+◌, ◌<◌, ◌++◌, List, Some, length, map, slice_get, slice_index_or, OnOk};
 ghost use Rattle.dwz_def_tops.specs.Spots.{EntryName};
 ghost use Rattle.dwz_def_reading.specs.Units.{entries_in};
 ghost use Rattle.dwz_graph.specs.Index.{IsIndex};
@@ -74,6 +74,16 @@ pub fn put_owners(
 {
     for entry in 0..units.entries() {
         owners.push(owner(units, index, plan, tops, numbers, entry))?;
+    }
+    Ok(())
+}
+
+/// Adds the units in which the entries of a finished common file stand, in order: its own, which are the first of all that are written.
+pub fn put_own_units(owners: &mut Vec<u32>, units: &Units) -> Result<(), NoMemory>
+    ensures { OnOk result (owners.new.items ≡ owners.old.items ++ map (λ row. row.unit) (rows_of (units_of units.now))) }
+{
+    for entry in 0..units.entries() {
+        owners.push(units.entry(entry).unit)?;
     }
     Ok(())
 }

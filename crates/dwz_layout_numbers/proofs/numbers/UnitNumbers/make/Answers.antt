@@ -12,10 +12,10 @@ loop-file-init c = record {
   small = subst (λ (n : ℕ). Small c.args.partials.now c.args.counts.now 0 n c.add_parts.new.parts.items) (sym c.in_ok-commons.ensures.next)
       (small_parts c.args.partials.now c.args.counts.now c.in_ok-parts.parts.items c.add_parts.new.parts.items 0 0 (length c.args.counts.now)
       (small_first c.args.partials.now c.args.counts.now c.in_ok-parts.parts.items c.in_ok-parts.ensures.items) c.in_ok-commons.ensures.numbers);
-  going = λ docs rule h. (begins docs rule c.args.partials.now c.args.counts.now c.args.written.now h c.in_ok-commons.commons c.in_ok-parts.parts.items c.add_parts.new.parts.items
+  going = λ docs m h. (begins docs m c.args.partials.now c.args.counts.now c.args.written.now h c.in_ok-commons.commons c.in_ok-parts.parts.items c.add_parts.new.parts.items
       c.new-olds.result.items c.in_ok-parts.ensures.items c.new-olds.ensures.items
       c.in_ok-commons.ensures.next c.in_ok-commons.ensures.numbers c.requires.flags).0;
-  commons = λ docs rule h. (begins docs rule c.args.partials.now c.args.counts.now c.args.written.now h c.in_ok-commons.commons c.in_ok-parts.parts.items c.add_parts.new.parts.items
+  commons = λ docs m h. (begins docs m c.args.partials.now c.args.counts.now c.args.written.now h c.in_ok-commons.commons c.in_ok-parts.parts.items c.add_parts.new.parts.items
       c.new-olds.result.items c.in_ok-parts.ensures.items c.new-olds.ensures.items
       c.in_ok-commons.ensures.next c.in_ok-commons.ensures.numbers c.requires.flags).1;
 }
@@ -37,14 +37,14 @@ loop-file-preserved c = record {
       (subst (λ (n : ℕ). Small c.args.partials.now c.args.counts.now c.loop-file.file n c.add_parts-in-loop-file.new.parts.items) (sym c.in_ok-first.ensures.next)
       (small_parts c.args.partials.now c.args.counts.now c.loop-file.parts.items c.add_parts-in-loop-file.new.parts.items c.loop-file.file c.loop-file.next c.loop-file.file
       c.loop-file.invariant.small c.in_ok-first.ensures.numbers)) c.loop-file-test.true c.in_ok-next.ensures.next;
-  going = λ docs rule h. goes_on docs rule c.args.partials.now c.args.counts.now c.args.written.now h c.loop-file.file c.loop-file.next c.in_ok-first.first c.in_ok-next.next
+  going = λ docs m h. goes_on docs m c.args.partials.now c.args.counts.now c.args.written.now h c.loop-file.file c.loop-file.next c.in_ok-first.first c.in_ok-next.next
       c.loop-file.parts.items c.add_parts-in-loop-file.new.parts.items c.loop-file.olds.items
       c.add_olds.new.olds.items c.loop-file-test.true c.requires.flags
-      (c.loop-file.invariant.going docs rule h) c.in_ok-first.ensures.next c.in_ok-first.ensures.numbers c.in_ok-next.ensures.numbers c.in_ok-next.ensures.next;
+      (c.loop-file.invariant.going docs m h) c.in_ok-first.ensures.next c.in_ok-first.ensures.numbers c.in_ok-next.ensures.numbers c.in_ok-next.ensures.next;
   commons = c.loop-file.invariant.commons;
 }
 
 pub returns : goal.returns
-returns c = λ docs rule h. ends docs rule c.args.partials.now c.args.counts.now c.args.written.now h c.loop-file.file c.loop-file.next c.in_ok-commons.commons c.loop-file.parts.items
-    c.loop-file.olds.items c.loop-file-test.false (c.loop-file.invariant.going docs rule h)
-    (c.loop-file.invariant.commons docs rule h)
+returns c = λ docs m h. ends docs m c.args.partials.now c.args.counts.now c.args.written.now h c.loop-file.file c.loop-file.next c.in_ok-commons.commons c.loop-file.parts.items
+    c.loop-file.olds.items c.loop-file-test.false (c.loop-file.invariant.going docs m h)
+    (c.loop-file.invariant.commons docs m h)

@@ -1,9 +1,8 @@
 use Rattle.std.proofs.Common.{◌≡◌, ℕ, List, drop, length}
 use Rattle.dwz_def_reading.specs.Documents.{Doc}
-use Rattle.dwz_def_plan.specs.Homes.{Rule}
+use Rattle.dwz_def_plan.specs.Moves.{Move}
 use Rattle.dwz_def_images.specs.Units.{common_units}
 use Rattle.dwz_layout_numbers.specs.Numbering.{HaveUnits}
-use Rattle.dwz_layout_numbers.specs.Owners.{move_of}
 use Rattle.dwz_layout_numbers.proofs.MakeLemmas.{Going}
 use Rattle.dwz_layout_numbers.proofs.MakeCounts.{Small}
 use Rattle.dwz_layout_numbers.proofs.numbers.UnitNumbers.make.Given as goal
@@ -11,7 +10,7 @@ use Rattle.dwz_layout_numbers.proofs.numbers.UnitNumbers.make.Given as goal
 abbrev pub invariant-loop-file : goal.invariant-loop-file
 invariant-loop-file l = record {
   small : Small l.partials l.counts l.file l.next l.parts.items;
-  going : (docs : List (Doc ℕ)) (rule : Rule) → (h : HaveUnits docs rule l.partials l.counts l.written)
-      → Going docs rule l.partials l.counts l.written h l.file l.next (drop l.file docs) (drop l.file l.written) l.parts.items l.olds.items;
-  commons : (docs : List (Doc ℕ)) (rule : Rule) → HaveUnits docs rule l.partials l.counts l.written → l.commons ≡ length (common_units (move_of rule docs));
+  going : (docs : List (Doc ℕ)) (m : Move) → (h : HaveUnits docs m l.partials l.counts l.written)
+      → Going docs m l.partials l.counts l.written h l.file l.next (drop l.file docs) (drop l.file l.written) l.parts.items l.olds.items;
+  commons : (docs : List (Doc ℕ)) (m : Move) → HaveUnits docs m l.partials l.counts l.written → l.commons ≡ length (common_units m);
 }

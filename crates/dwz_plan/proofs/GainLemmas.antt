@@ -1,5 +1,5 @@
 -- Seeds and edges, one more at a time.
-use Rattle.std.proofs.Common.{◌≡◌, ℕ, zero, suc, ◌+◌, ◌*◌, ◌<◌, ◌≤◌, ◌++◌, ◌-◌, true, false, List, [], ◌∷◌, Option, None, length, get_or, take, sym, ap, ◌∙◌, arith}
+use Rattle.std.proofs.Common.{◌≡◌, ℕ, zero, suc, ◌+◌, ◌*◌, ◌<◌, ◌≤◌, ◌++◌, ◌-◌, true, false, List, [], ◌∷◌, Option, None, length, get_or, take, refl, sym, ap, ◌∙◌, arith}
 use Rattle.std.proofs.Math.Nat.{mul-le-mul_left, mul-le-mul_right}
 use Rattle.std.proofs.lemmas.Bool.{le-ltb, lt-ltb}
 use Rattle.std.proofs.lemmas.List.{append-nil, append_assoc}
@@ -30,6 +30,14 @@ edges_next groups (f ∷ froms) (ts ∷ targets) zero l m = sym (append-nil (edg
 edges_next groups (f ∷ froms) (ts ∷ targets) (suc i) l m =
     append_assoc (edges_to groups f ts) (edges_from groups (take i froms) (take i targets)) (edges_to groups (get_or froms i None) (get_or targets i []))
     ∙ ap (λ (ps : List Edge). edges_to groups f ts ++ ps) (edges_next groups froms targets i (omega arith) (omega arith))
+
+-- targets of more tops are no matter
+pub edges_short : (groups froms : List (Option ℕ)) (targets : List (List ℕ)) (n : ℕ) → length froms ≤ n → edges_from groups froms (take n targets) ≡ edges_from groups froms targets
+unfolding edges_from
+edges_short groups [] targets n l = refl
+edges_short groups (f ∷ froms) targets zero l = absurd (omega arith)
+edges_short groups (f ∷ froms) [] (suc n) l = refl
+edges_short groups (f ∷ froms) (ts ∷ targets) (suc n) l = ap (λ (ps : List Edge). edges_to groups f ts ++ ps) (edges_short groups froms targets n (omega arith))
 
 -- ---- the test
 

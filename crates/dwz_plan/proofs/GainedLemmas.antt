@@ -30,7 +30,7 @@ use Rattle.dwz_plan.specs.declared.plan.Home.{Home as Place}
 use Rattle.dwz_plan.specs.declared.plan.Home.TheVariants.{Common as InCommon, Local as InFile, Stay as InUnit}
 use Rattle.dwz_plan.specs.declared.plan.Partial.{Partial}
 use Rattle.dwz_plan.specs.declared.plan.Scope.{Scope}
-use Rattle.dwz_plan.specs.Gained.{IsGaining, among, before, gained, group_of, groups_of, home_after, kept_after, mark_at, part_seed, place_after, stand_after, staying_after}
+use Rattle.dwz_plan.specs.Gained.{IsGaining, among, before, gained, group_of, groups_of, home_after, kept_after, kept_by, mark_at, part_seed, place_after, stand_after, staying_after, staying_by}
 use Rattle.dwz_plan.specs.Planned.{Planned, imports_from, partials, place, rep}
 use Rattle.dwz_plan.specs.Rows.{Given, TopFacts, given, rows_from}
 use Rattle.dwz_plan.specs.Shows.{HaveLeast, IsPlace, PartAt, ShowsPlan, ShowsTops, import_row, may_move, shown_part}
@@ -261,13 +261,13 @@ module _ (units : List (FileUnit EntryName)) (test : Test) (scope : Scope) (tops
   not_not false = refl
 
   staying_same : (unit : ℕ) → SameRows units (staying_after marks g unit) (unit_staying gain units unit)
-  unfolding staying_after unit_staying
+  unfolding staying_by unit_staying
   staying_same unit =
       filter_shown units (λ a. a.unit == unit && is_in_unit (home_after marks g a)) (λ t. t.unit == unit && not (unit_moves gain units t.number)) g.rows (tops_of units) rows_same
       (λ a t is s. (λ i. s.unit i == unit && (not_not (is_in_unit (home_after marks g a)) ∙ ap not (moves_gained a is ∙ ap (unit_moves gain units) s.number)) i))
 
   kept_gained : (unit : ℕ) → map (λ (t : Top). t.number) (unit_kept gain units unit) ≡ kept_after marks g unit
-  unfolding kept_after unit_kept
+  unfolding kept_by unit_kept
   kept_gained unit =
       let stay = staying_after marks g unit in
       let these = unit_staying gain units unit in

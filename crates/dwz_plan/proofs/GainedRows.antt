@@ -15,7 +15,7 @@ use Rattle.dwz_plan.specs.declared.plan.Home.{Home as Place}
 use Rattle.dwz_plan.specs.declared.plan.Home.TheVariants.{Stay as InUnit}
 use Rattle.dwz_plan.specs.declared.plan.Partial.{Partial}
 use Rattle.dwz_plan.specs.declared.plan.Scope.{Scope}
-use Rattle.dwz_plan.specs.Gained.{among, group_of, home_after, kept_after, stand_after, staying_after}
+use Rattle.dwz_plan.specs.Gained.{among, group_of, home_after, kept_after, kept_by, stand_after, staying_after, staying_by}
 use Rattle.dwz_plan.specs.Planned.{alike, home, imports_from, number_in, numbers, partial_with, partials, partials_at, place, place_at, rep, representatives, reps_of, units_of, users}
 use Rattle.dwz_plan.specs.Rows.{Given, TopFacts, given, rows_from}
 use Rattle.dwz_plan.specs.Steps.{is_in_unit, same_bool, stander, staying_pairs, turned}
@@ -61,7 +61,7 @@ module _ (scope : Scope) (tops : Tops) (least : List ℕ) (marks : List Bool) wh
   h = home_after marks g
 
   one_kind : (pinned : Bool) (unit : ℕ) → numbers (filter (is_staying h pinned unit) rows) ≡ numbers (filter (λ a. same_bool a.pinned pinned) (staying_after marks g unit))
-  unfolding staying_after
+  unfolding staying_by
   one_kind pinned unit = ap numbers (filter_twice (λ a. same_bool a.pinned pinned) (λ a. a.unit == unit && is_in_unit (h a)) (is_staying h pinned unit) rows
       (λ a. by (same_bool a.pinned pinned) (is_in_unit (h a)) (a.unit == unit)))
     where
@@ -76,7 +76,7 @@ module _ (scope : Scope) (tops : Tops) (least : List ℕ) (marks : List Bool) wh
       by false false false = refl
 
   kept_at : (unit : ℕ) → values_at (staying_pairs true 0 tops.rows (map h rows) ++ staying_pairs false 0 tops.rows (map h rows)) unit ≡ kept_after marks g unit
-  unfolding kept_after
+  unfolding kept_by
   kept_at unit =
       let stay = staying_after marks g unit in
       let pinned = staying_values h true tops.files_of_units 0 tops.rows least unit

@@ -67,12 +67,19 @@ home_after marks g a = place_after marks (place g a)
 abbrev pub stand_after : List Bool → Given → TopFacts → ℕ
 stand_after marks g a = if is_in_unit (home_after marks g a) then a.number else rep g a
 
-unfoldable pub staying_after : List Bool → Given → ℕ → List TopFacts
-staying_after marks g unit = filter (λ a. a.unit == unit && is_in_unit (home_after marks g a)) g.rows
+-- the rows of a unit that stay, by where each goes
+unfoldable pub staying_by : (TopFacts → Place) → List TopFacts → ℕ → List TopFacts
+staying_by h rows unit = filter (λ a. a.unit == unit && is_in_unit (h a)) rows
 
-unfoldable pub kept_after : List Bool → Given → ℕ → List ℕ
-kept_after marks g unit = numbers (filter (λ a. a.pinned) (staying_after marks g unit)
-    ++ filter (λ a. not a.pinned) (staying_after marks g unit))
+-- pinned ones first
+unfoldable pub kept_by : (TopFacts → Place) → List TopFacts → ℕ → List ℕ
+kept_by h rows unit = numbers (filter (λ a. a.pinned) (staying_by h rows unit) ++ filter (λ a. not a.pinned) (staying_by h rows unit))
+
+abbrev pub staying_after : List Bool → Given → ℕ → List TopFacts
+staying_after marks g unit = staying_by (home_after marks g) g.rows unit
+
+abbrev pub kept_after : List Bool → Given → ℕ → List ℕ
+kept_after marks g unit = kept_by (home_after marks g) g.rows unit
 
 unfoldable pub gained : List Bool → Given → Planned
 gained marks g = record {
@@ -82,6 +89,13 @@ gained marks g = record {
   kept = map (kept_after marks g) (units_of g);
   imports = map (λ unit. imports_from unit 0 (among marks (partials g))) (units_of g);
 }
+
+-- of the moves of all with a home these are left
+pub record AreMoves (g : Given) (marks : List Bool) (parts : List Partial) (places : List Place) (stands : List ℕ) : Type 0 where
+  pub gaining : IsGaining g marks
+  pub partials : parts ≡ among marks (partials g)
+  pub homes : places ≡ map (home_after marks g) g.rows
+  pub stand_ins : stands ≡ map (stand_after marks g) g.rows
 
 -- the marks are of what gains, and the plan is what they leave
 abbrev pub IsPlanOf : Given → Planned → Type 0

@@ -7,7 +7,7 @@
 ghost use Rattle.std.specs.Prelude.{◌≡◌, ℕ, ◌+◌, ◌-◌, ◌*◌, ◌<◌, ◌≤◌, ◌^◌, ◌++◌, All, None, length, map, nat_lt, slice_index_or, IfOk, OnOk};
 ghost use Rattle.std.specs.List.{range_with_len};
 ghost use Rattle.dwz_groups.specs.Groups.{grouped};
-ghost use Rattle.dwz_plan.specs.Gaining.{AreNumbers, edge_to, edges_from, edges_to, gains_alone, weight_at, weight_of, weights_of};
+ghost use Rattle.dwz_plan.specs.Gaining.{AreNumbers, edge_to, edges_from, edges_to, gains_alone, group_at, weight_at, weight_of, weights_of};
 ghost use Rattle.dwz_groups.specs.Spreading.{IsSpread};
 
 use dwz_groups::{Edge, Groups, TopRow, group, spread};
@@ -70,6 +70,18 @@ fn push_edge(edges: &mut Vec<Edge>, from: u32, into: Option<u32>) -> Result<(), 
     Ok(())
 }
 
+// The group of a top, if it has one.
+fn group_at(groups: &[Option<u32>], top: u32) -> Option<u32>
+    ensures { result ≡ group_at groups.now top }
+{
+    let top = top as usize;
+    if top < groups.len() {
+        groups[top]
+    } else {
+        None
+    }
+}
+
 // Adds the edges of a top, if it is of a group, to those of its targets.
 fn push_edges(
     edges: &mut Vec<Edge>,
@@ -77,12 +89,11 @@ fn push_edges(
     from: Option<u32>,
     targets: &[u32],
 ) -> Result<(), NoMemory>
-    requires { All (λ t. t < length groups.now) targets.now }
     ensures { OnOk result (edges.new.items ≡ edges.old.items ++ edges_to groups.now from targets.now) }
 {
     if let Some(from) = from {
         for target in targets {
-            push_edge(edges, from, groups[*target as usize])?;
+            push_edge(edges, from, group_at(groups, *target))?;
         }
     }
     Ok(())
@@ -90,8 +101,7 @@ fn push_edges(
 
 // Under the group of each top the groups of its targets.
 fn edges_of(alloc: Global, groups: &[Option<u32>], targets: &Groups) -> Result<Vec<Edge>, NoMemory>
-    requires len { length groups.now ≡ length targets.now }
-    requires inside { All (λ ts. All (λ t. t < length groups.now) ts) targets.now }
+    requires { length groups.now ≤ length targets.now }
     ensures { IfOk result (λ edges. edges.items ≡ edges_from groups.now groups.now targets.now) }
 {
     let mut edges = Vec::new(alloc);
@@ -102,7 +112,7 @@ fn edges_of(alloc: Global, groups: &[Option<u32>], targets: &Groups) -> Result<V
 }
 
 /// For each group whether it gains. Of a group is given whether it does by itself; of a top its group, if it has one, and the tops that
-/// it refers into.
+/// it refers into: of more tops than these nothing is asked, and they are of no group.
 pub fn gaining_groups(
     alloc: Global,
     seeds: &[bool],
@@ -111,8 +121,7 @@ pub fn gaining_groups(
 ) -> Result<Vec<bool>, NoMemory>
     requires few { length seeds.now < 2 ^ 32 }
     requires groups { All (AreNumbers (length seeds.now)) groups.now }
-    requires len { length groups.now ≡ length targets.now }
-    requires targets { All (λ ts. All (λ t. t < length groups.now) ts) targets.now }
+    requires len { length groups.now ≤ length targets.now }
     ensures { IfOk result (λ marks. IsSpread (grouped (length seeds.now) (edges_from groups.now groups.now targets.now)) seeds.now
         marks.items) }
 {

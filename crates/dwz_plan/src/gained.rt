@@ -5,7 +5,7 @@ ghost use Rattle.dwz_plan.specs.Gained.{AreMarks, among, before, group_of, part_
 
 use crate::plan::{Home, Partial};
 use crate::{gaining_groups, gains_by_itself};
-use dwz_groups::{TopRow, Tops};
+use dwz_groups::{Groups, TopRow};
 use dwz_model::NoMemory;
 use std::alloc::Global;
 
@@ -145,19 +145,19 @@ pub(crate) fn marks_of(
     alloc: Global,
     partials: &[Partial],
     homes: &[Home],
-    tops: &Tops,
+    rows: &[TopRow],
+    targets: &Groups,
 ) -> Result<Vec<bool>, NoMemory>
     requires few { length partials.now < 2 ^ 32 }
     requires users { All (λ part. length part.users < 2 ^ 32) partials.now }
     requires tops { All (λ part. length part.tops < 2 ^ 32) partials.now }
-    requires inside { All (λ part. All (λ t. t < length tops.now.rows) part.tops) partials.now }
+    requires inside { All (λ part. All (λ t. t < length rows.now) part.tops) partials.now }
     requires homes { All (λ h. AreNumbers (length partials.now) (group_of h)) homes.now }
-    requires len { length homes.now ≡ length tops.now.targets }
-    requires targets { All (λ ts. All (λ t. t < length homes.now) ts) tops.now.targets }
-    ensures { IfOk result (λ marks. AreMarks (weights_of tops.now.rows) tops.now.targets partials.now homes.now marks.items) }
+    requires len { length homes.now ≤ length targets.now }
+    ensures { IfOk result (λ marks. AreMarks (weights_of rows.now) targets.now partials.now homes.now marks.items) }
 {
     let groups = groups_of(alloc, homes)?;
-    let seeds = seeds(alloc, partials, tops.rows.as_slice())?;
-    let marks = gaining_groups(alloc, seeds.as_slice(), groups.as_slice(), &tops.targets)?;
+    let seeds = seeds(alloc, partials, rows)?;
+    let marks = gaining_groups(alloc, seeds.as_slice(), groups.as_slice(), targets)?;
     Ok(marks)
 }

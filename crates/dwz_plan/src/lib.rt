@@ -15,6 +15,7 @@ mod gained;
 mod gaining;
 mod homes;
 mod laws;
+mod moves;
 mod parted;
 mod parts;
 mod plan;

@@ -1,15 +1,10 @@
 //! The plan and how it is made.
-ghost use Rattle.std.specs.Prelude.{◌≡◌, ℕ, ◌+◌, ◌-◌, ◌<◌, ◌≤◌, ◌^◌, [], All, length, map, IfOk, slice_index, slice_index_or};
-ghost use Rattle.dwz_plan.specs.Planned.{partials, place, reps_of};
+ghost use Rattle.std.specs.Prelude.{◌≡◌, ℕ, ◌+◌, ◌-◌, ◌<◌, ◌≤◌, ◌^◌, [], All, length, IfOk, slice_index, slice_index_or};
 ghost use Rattle.dwz_plan.specs.Gained.{IsPlanOf};
 ghost use Rattle.dwz_plan.specs.Rows.{given};
 
-use crate::gained::{homes_after, marks_of, partials_after};
-use crate::homes::{homes, stand_ins};
-use crate::parted::part_movers;
-use crate::reps::reps;
+use crate::moves::gaining_moves;
 use crate::units::{imports, kept_of_units};
-use crate::users::users;
 use dwz_groups::{Groups, Tops};
 use dwz_model::{NoMemory, Numbers};
 use std::alloc::Global;
@@ -44,44 +39,6 @@ pub struct Partial {
     pub users: Numbers,
     /// The numbers of its tops, in order.
     pub tops: Numbers,
-}
-
-// If each top with a home moves: the partial units, which are the groups, and for each top where it goes and the first top
-// alike to it.
-#[derive(Drop)]
-struct Moves {
-    partials: Vec<Partial>,
-    homes: Vec<Home>,
-    reps: Vec<u32>,
-}
-
-fn find_moves(alloc: Global, tops: &Tops, least: &[u32], scope: Scope) -> Result<Moves, NoMemory>
-    requires rows { length tops.now.rows < 2 ^ 32 }
-    requires units { length tops.now.files_of_units < 2 ^ 32 }
-    requires least { length least.now ≡ length tops.now.rows }
-    requires inside { All (λ n. n < length tops.now.rows) least.now }
-    requires of_units { All (λ row. row.unit < length tops.now.files_of_units) tops.now.rows }
-    requires files { All (λ file. file < tops.now.files) tops.now.files_of_units }
-    ensures partials { IfOk result (λ m. m.partials.items ≡ partials (given scope tops.now least.now)) }
-    ensures few { IfOk result (λ m. length m.partials.items < 2 ^ 32) }
-    ensures homes { IfOk result (λ m. let g = given scope tops.now least.now in m.homes.items ≡ map (place g) g.rows) }
-    ensures reps { IfOk result (λ m. m.reps.items ≡ reps_of (given scope tops.now least.now)) }
-{
-    let files_of_units = tops.files_of_units.as_slice();
-    let reps = reps(alloc, tops, least, scope)?;
-    let users = users(
-        alloc,
-        tops.rows.as_slice(),
-        reps.as_slice(),
-        files_of_units.len(),
-    )?;
-    let parted = part_movers(alloc, &users, files_of_units, tops.files)?;
-    let homes = homes(alloc, reps.as_slice(), parted.of_movers.as_slice())?;
-    Ok(Moves {
-        partials: parted.partials,
-        homes,
-        reps,
-    })
 }
 
 /// Which tops move into which partial units, what the units keep, and which partial units they import (DWARF 5, 3.2.5).
@@ -127,23 +84,15 @@ impl Plan {
         requires inside_targets { All (λ ts. All (λ t. t < length tops.now.rows) ts) tops.now.targets }
         ensures { IfOk result (λ plan. IsPlanOf (given scope tops.now least.now) plan) }
     {
-        let moves = find_moves(alloc, tops, least, scope)?;
+        let moves = gaining_moves(alloc, tops, &tops.targets, least, least.len(), scope)?;
+        let rows = tops.rows.as_slice();
         let units = tops.files_of_units.len();
-        let marks = marks_of(
-            alloc,
-            moves.partials.as_slice(),
-            moves.homes.as_slice(),
-            tops,
-        )?;
-        let homes = homes_after(alloc, moves.homes.as_slice(), marks.as_slice())?;
-        let partials = partials_after(alloc, moves.partials, marks.as_slice())?;
-        let stand_ins = stand_ins(alloc, homes.as_slice(), moves.reps.as_slice())?;
-        let kept = kept_of_units(alloc, tops.rows.as_slice(), homes.as_slice(), units)?;
-        let imports = imports(alloc, partials.as_slice(), units)?;
+        let kept = kept_of_units(alloc, rows, moves.homes.as_slice(), units)?;
+        let imports = imports(alloc, moves.partials.as_slice(), units)?;
         Ok(Plan {
-            partials,
-            homes,
-            stand_ins,
+            partials: moves.partials,
+            homes: moves.homes,
+            stand_ins: moves.stand_ins,
             kept,
             imports,
         })

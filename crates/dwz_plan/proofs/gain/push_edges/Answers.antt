@@ -17,5 +17,5 @@ loop-target-preserved c =
     let one : suc i ≡ i + 1 = omega arith in
     let old : List Edge = c.args.edges.now.items in
     let last = edge_to from (group_at c.args.groups.now (get_or ts i 0)) in
-    c.in_ok-push_edge.ensures ∙ ap (λ (ps : List Edge). ps ++ last) c.loop-target.invariant ∙ append_assoc old (edges_at c.args.groups.now from (take i ts)) last
+    c.in_ok-push_edge.ensures ∙ (λ j. c.loop-target.invariant j ++ edge_to from (c.group_at.ensures j)) ∙ append_assoc old (edges_at c.args.groups.now from (take i ts)) last
     ∙ ap (λ (ps : List Edge). old ++ ps) (edges_at_next c.args.groups.now from ts i (omega arith) ∙ ap (λ k. edges_at c.args.groups.now from (take k ts)) one)

@@ -55,7 +55,6 @@ returns-clause-few c =
       c.in_ok-numbering.ensures.few,
       ap (λ (ns : List ℕ). length ns) items,
       movers_few c.args.files_of_units.now c.args.files users,
-      c.requires.few,
     )
 
 pub returns-clause-each : goal.returns-clause-each

@@ -1,188 +1,58 @@
-use Rattle.std.proofs.Common.{◌≡◌, ◌<◌, ◌++◌, [], ◌∙◌, ℕ, All, Bool, List, Option, length, map, true, false, ap, sym, subst, refl, arith}
-use Rattle.std.specs.List.{range_with_len}
+use Rattle.std.proofs.Common.{◌≡◌, ◌<◌, ◌++◌, ◌∙◌, ℕ, All, Bool, List, length, map, true, false, ap, sym, subst, arith}
 use Rattle.std.proofs.lemmas.List.{length-map}
-use Rattle.dwz_def_reading.specs.Lists.{In}
 use Rattle.dwz_groups.specs.declared.tops.TopRow.{TopRow}
-use Rattle.dwz_plan.specs.Gaining.{AreNumbers, edges_from, weights_of}
 use Rattle.dwz_groups.specs.Groups.{grouped}
-use Rattle.dwz_groups.specs.Spreading.{IsSpread}
 use Rattle.dwz_plan.specs.declared.plan.Home.{Home}
 use Rattle.dwz_plan.specs.declared.plan.Partial.{Partial}
-use Rattle.dwz_plan.specs.Gained.{IsGaining, among, gained, group_of, groups_of, home_after, kept_after, part_seed, place_after, stand_after}
-use Rattle.dwz_plan.specs.Planned.{imports_from, partials, place, units_of}
+use Rattle.dwz_plan.specs.Gained.{among, gained, home_after, kept_after}
+use Rattle.dwz_plan.specs.Planned.{imports_from, partials, units_of}
 use Rattle.dwz_plan.specs.Rows.{Given, given}
-use Rattle.dwz_plan.specs.Steps.{staying_pairs, stander, turned}
-use Rattle.dwz_plan.proofs.GainedRows.{among_few, fits, imports_left, kept_left, places_low, stands_left, users_left}
-use Rattle.dwz_plan.proofs.ListFacts.{all_from_in, map_map}
+use Rattle.dwz_plan.specs.Steps.{staying_pairs, turned}
+use Rattle.dwz_plan.proofs.GainedRows.{imports_left, kept_left, users_left}
 use Rattle.dwz_plan.proofs.RowLemmas.{length-rows_from}
 use Rattle.dwz_plan.proofs.plan.Plan.make.Goals as goal
-
-in_at : (ns : List ℕ) (P : ℕ → Type 0) → ((n : ℕ) → In n ns → P n) → All P ns
-in_at ns P h = all_from_in P ns h
-
-pub marks_of-requires-clause-users : goal.marks_of-requires-clause-users
-marks_of-requires-clause-users c =
-    let g : Given = given c.args.scope c.args.tops.now c.args.least.now in
-    let parts : c.as_slice.result.now ≡ partials g = c.as_slice.ensures.value ∙ c.in_ok-moves.ensures.partials in
-    subst (λ (ps : List Partial). All (λ p. length p.users < 4294967296) ps) (sym parts)
-    (all_from_in (λ (p : Partial). length p.users < 4294967296) (partials g) (λ p is. omega (arith, (fits c.args.scope c.args.tops.now c.args.least.now [] p is).users_few, c.requires.units)))
-
-pub marks_of-requires-clause-tops : goal.marks_of-requires-clause-tops
-marks_of-requires-clause-tops c =
-    let g : Given = given c.args.scope c.args.tops.now c.args.least.now in
-    let parts : c.as_slice.result.now ≡ partials g = c.as_slice.ensures.value ∙ c.in_ok-moves.ensures.partials in
-    let many = length-rows_from c.args.tops.now.files_of_units 0 c.args.tops.now.rows c.args.least.now c.requires.least in
-    subst (λ (ps : List Partial). All (λ p. length p.tops < 4294967296) ps) (sym parts)
-    (all_from_in (λ (p : Partial). length p.tops < 4294967296) (partials g) (λ p is. omega (arith, (fits c.args.scope c.args.tops.now c.args.least.now [] p is).few, many, c.requires.rows)))
-
-pub marks_of-requires-clause-inside : goal.marks_of-requires-clause-inside
-marks_of-requires-clause-inside c =
-    let g : Given = given c.args.scope c.args.tops.now c.args.least.now in
-    let parts : c.as_slice.result.now ≡ partials g = c.as_slice.ensures.value ∙ c.in_ok-moves.ensures.partials in
-    let many = length-rows_from c.args.tops.now.files_of_units 0 c.args.tops.now.rows c.args.least.now c.requires.least in
-    subst (λ (ps : List Partial). All (λ p. All (λ t. t < length c.args.tops.now.rows) p.tops) ps) (sym parts)
-    (all_from_in (λ (p : Partial). All (λ t. t < length c.args.tops.now.rows) p.tops) (partials g)
-    (λ p is. in_at p.tops (λ t. t < length c.args.tops.now.rows) (λ t there. omega (arith, (fits c.args.scope c.args.tops.now c.args.least.now [] p is).inside t there, many))))
-
-pub marks_of-requires-clause-homes : goal.marks_of-requires-clause-homes
-marks_of-requires-clause-homes c =
-    let g : Given = given c.args.scope c.args.tops.now c.args.least.now in
-    let parts : c.as_slice.result.now ≡ partials g = c.as_slice.ensures.value ∙ c.in_ok-moves.ensures.partials in
-    let homes : c.as_slice-2.result.now ≡ map (place g) g.rows = c.as_slice-2.ensures.value ∙ c.in_ok-moves.ensures.homes in
-    subst (λ (ps : List Partial). All (λ h. AreNumbers (length ps) (group_of h)) c.as_slice-2.result.now) (sym parts)
-    (subst (λ (hs : List Home). All (λ h. AreNumbers (length (partials g)) (group_of h)) hs) (sym homes) (places_low c.args.scope c.args.tops.now c.args.least.now [] c.requires.files))
-
-pub marks_of-requires-clause-len : goal.marks_of-requires-clause-len
-marks_of-requires-clause-len c =
-    let g : Given = given c.args.scope c.args.tops.now c.args.least.now in
-    omega (
-      arith,
-      ap (λ (hs : List Home). length hs) (c.as_slice-2.ensures.value ∙ c.in_ok-moves.ensures.homes),
-      length-map g.rows (place g),
-      length-rows_from c.args.tops.now.files_of_units 0 c.args.tops.now.rows c.args.least.now c.requires.least,
-      c.requires.targets,
-    )
-
-pub marks_of-requires-clause-targets : goal.marks_of-requires-clause-targets
-marks_of-requires-clause-targets c =
-    let g : Given = given c.args.scope c.args.tops.now c.args.least.now in
-    let n : length c.args.tops.now.rows ≡ length c.as_slice-2.result.now =
-    omega (
-      arith,
-      ap (λ (hs : List Home). length hs) (c.as_slice-2.ensures.value ∙ c.in_ok-moves.ensures.homes),
-      length-map g.rows (place g),
-      length-rows_from c.args.tops.now.files_of_units 0 c.args.tops.now.rows c.args.least.now c.requires.least,
-    ) in
-    subst (λ k. All (λ ts. All (λ t. t < k) ts) c.args.tops.now.targets) n c.requires.inside_targets
-
-marks_len : (n : ℕ) (marks : List Bool) (sources : List (List ℕ)) (ps : List Partial) (ws : List ℕ) → length ps ≡ n → IsSpread sources (map (part_seed ws) ps) marks → length marks ≡ n
-marks_len n marks sources ps ws e s = s.len ∙ length-map ps (part_seed ws) ∙ e
-
-pub homes_after-requires-clause-homes : goal.homes_after-requires-clause-homes
-homes_after-requires-clause-homes c =
-    let g : Given = given c.args.scope c.args.tops.now c.args.least.now in
-    let homes : c.as_slice-3.result.now ≡ map (place g) g.rows = c.as_slice-3.ensures.value ∙ c.in_ok-moves.ensures.homes in
-    let parts : c.as_slice.result.now ≡ partials g = c.as_slice.ensures.value ∙ c.in_ok-moves.ensures.partials in
-    let count : length c.as_slice-4.result.now ≡ length (partials g) = ap (λ (bs : List Bool). length bs) c.as_slice-4.ensures.value ∙ marks_len (length (partials g)) c.in_ok-marks.marks.items _
-    c.as_slice.result.now (weights_of c.args.tops.now.rows) (ap (λ (ps : List Partial). length ps) parts) c.in_ok-marks.ensures in
-    subst (λ k. All (λ h. AreNumbers k (group_of h)) c.as_slice-3.result.now) (sym count)
-    (subst (λ (hs : List Home). All (λ h. AreNumbers (length (partials g)) (group_of h)) hs) (sym homes) (places_low c.args.scope c.args.tops.now c.args.least.now [] c.requires.files))
-
--- where tops go after
-homes_left : (g : Given) (marks m : List Bool) (hs out : List Home) → hs ≡ map (place g) g.rows → m ≡ marks → out ≡ map (place_after m) hs → out ≡ map (home_after marks g) g.rows
-homes_left g marks m hs out e f is = is ∙ (λ i. map (place_after (f i)) (e i)) ∙ map_map (place_after marks) (place g) g.rows
 
 homes_count : (g : Given) (marks : List Bool) (out : List Home) (n : ℕ) → out ≡ map (home_after marks g) g.rows → length g.rows ≡ n → length out ≡ n
 homes_count g marks out n e l = ap (λ (hs : List Home). length hs) e ∙ length-map g.rows (home_after marks g) ∙ l
 
-spread_left : (g : Given) (marks : List Bool) (ps : List Partial) (hs : List Home) → ps ≡ partials g → hs ≡ map (place g) g.rows
-    → IsSpread (grouped (length ps) (edges_from (map group_of hs) (map group_of hs) g.targets)) (map (part_seed g.weights) ps) marks → IsGaining g marks
-spread_left g marks ps hs e f s =
-    let groups : map group_of hs ≡ groups_of g = ap (map group_of) f ∙ map_map group_of (place g) g.rows in
-    subst (λ (os : List (Option ℕ)). IsSpread (grouped (length (partials g)) (edges_from os os g.targets)) (map (part_seed g.weights) (partials g)) marks) groups
-    (subst (λ (qs : List Partial). IsSpread (grouped (length qs) (edges_from (map group_of hs) (map group_of hs) g.targets)) (map (part_seed g.weights) qs) marks) e s)
-
-pub stand_ins-requires-clause-few : goal.stand_ins-requires-clause-few
-stand_ins-requires-clause-few c =
-    let g : Given = given c.args.scope c.args.tops.now c.args.least.now in
-    let marks : List Bool = c.in_ok-marks.marks.items in
-    let many = length-rows_from c.args.tops.now.files_of_units 0 c.args.tops.now.rows c.args.least.now c.requires.least in
-    let homes = homes_left g marks c.as_slice-4.result.now c.as_slice-3.result.now c.in_ok-homes.homes.items (c.as_slice-3.ensures.value ∙ c.in_ok-moves.ensures.homes) c.as_slice-4.ensures.value
-    c.in_ok-homes.ensures in
-    let count = homes_count g marks c.as_slice-6.result.now (length c.args.tops.now.rows) (c.as_slice-6.ensures.value ∙ homes) many in
-    omega (arith, count, c.requires.rows)
-
 pub kept_of_units-requires-clause-homes : goal.kept_of_units-requires-clause-homes
 kept_of_units-requires-clause-homes c =
     let g : Given = given c.args.scope c.args.tops.now c.args.least.now in
-    let marks : List Bool = c.in_ok-marks.marks.items in
+    let moves = c.in_ok-moves.ensures.moves in
     let many = length-rows_from c.args.tops.now.files_of_units 0 c.args.tops.now.rows c.args.least.now c.requires.least in
-    let homes = homes_left g marks c.as_slice-4.result.now c.as_slice-3.result.now c.in_ok-homes.homes.items (c.as_slice-3.ensures.value ∙ c.in_ok-moves.ensures.homes) c.as_slice-4.ensures.value
-    c.in_ok-homes.ensures in
-    let count = homes_count g marks c.as_slice-9.result.now (length c.args.tops.now.rows) (c.as_slice-9.ensures.value ∙ homes) many in
-    omega (arith, count, ap (λ (rs : List TopRow). length rs) c.as_slice-8.ensures)
-
-parts_left : (g : Given) (marks m : List Bool) (ps out : List Partial) → ps ≡ partials g → m ≡ marks → out ≡ among m ps → out ≡ among marks (partials g)
-parts_left g marks m ps out e f is = is ∙ (λ i. among (f i) (e i))
-
-pub imports-requires-clause-few : goal.imports-requires-clause-few
-imports-requires-clause-few c =
-    let g : Given = given c.args.scope c.args.tops.now c.args.least.now in
-    let marks : List Bool = c.in_ok-marks.marks.items in
-    let parts = parts_left g marks c.as_slice-5.result.now c.in_ok-moves.moves.partials.items c.in_ok-partials.partials.items c.in_ok-moves.ensures.partials c.as_slice-5.ensures.value
-    c.in_ok-partials.ensures in
-    omega (
-      arith,
-      ap (λ (ps : List Partial). length ps) (c.as_slice-10.ensures.value ∙ parts),
-      among_few marks (partials g),
-      ap (λ (ps : List Partial). length ps) c.in_ok-moves.ensures.partials,
-      c.in_ok-moves.ensures.few,
-    )
+    let count = homes_count g moves.0 c.as_slice.result.now (length c.args.tops.now.rows) (c.as_slice.ensures.value ∙ moves.1.homes) many in
+    omega (arith, count, ap (λ (rs : List TopRow). length rs) c.as_slice-rows.ensures)
 
 pub imports-requires-clause-users : goal.imports-requires-clause-users
 imports-requires-clause-users c =
-    let g : Given = given c.args.scope c.args.tops.now c.args.least.now in
-    let marks : List Bool = c.in_ok-marks.marks.items in
-    let parts = parts_left g marks c.as_slice-5.result.now c.in_ok-moves.moves.partials.items c.in_ok-partials.partials.items c.in_ok-moves.ensures.partials c.as_slice-5.ensures.value
-    c.in_ok-partials.ensures in
-    subst (λ n. All (λ part. All (λ u. u < n) part.users) c.as_slice-10.result.now) (sym c.len-units.ensures)
-    (subst (λ (ps : List Partial). All (λ part. All (λ u. u < length c.args.tops.now.files_of_units) part.users) ps) (sym (c.as_slice-10.ensures.value ∙ parts))
-    (users_left c.args.scope c.args.tops.now c.args.least.now marks))
+    let moves = c.in_ok-moves.ensures.moves in
+    subst (λ n. All (λ part. All (λ u. u < n) part.users) c.as_slice-2.result.now) (sym c.len-units.ensures)
+    (subst (λ (ps : List Partial). All (λ part. All (λ u. u < length c.args.tops.now.files_of_units) part.users) ps) (sym (c.as_slice-2.ensures.value ∙ moves.1.partials))
+    (users_left c.args.scope c.args.tops.now c.args.least.now moves.0))
 
 pub returns : goal.returns
 unfolding gained
 returns c =
     let scope = c.args.scope in
     let g : Given = given scope c.args.tops.now c.args.least.now in
-    let marks : List Bool = c.in_ok-marks.marks.items in
-    let many = length-rows_from c.args.tops.now.files_of_units 0 c.args.tops.now.rows c.args.least.now c.requires.least in
-    let homes = homes_left g marks c.as_slice-4.result.now c.as_slice-3.result.now c.in_ok-homes.homes.items (c.as_slice-3.ensures.value ∙ c.in_ok-moves.ensures.homes) c.as_slice-4.ensures.value
-    c.in_ok-homes.ensures in
-    let parts = parts_left g marks c.as_slice-5.result.now c.in_ok-moves.moves.partials.items c.in_ok-partials.partials.items c.in_ok-moves.ensures.partials c.as_slice-5.ensures.value
-    c.in_ok-partials.ensures in
-    let six = c.as_slice-6.ensures.value ∙ homes in
-    let seven = c.as_slice-7.ensures.value ∙ c.in_ok-moves.ensures.reps in
-    let count = homes_count g marks c.as_slice-6.result.now (length g.rows) six refl in
-    let stands : c.in_ok-stand_ins.stand_ins.items ≡ map (stand_after marks g) g.rows =
-    c.in_ok-stand_ins.ensures ∙ ((λ i. map (stander (six i) (seven i)) (range_with_len 0 (count i))) ∙ stands_left scope c.args.tops.now c.args.least.now marks) in
-    let nine = c.as_slice-9.ensures.value ∙ homes in
+    let moves = c.in_ok-moves.ensures.moves in
+    let marks : List Bool = moves.0 in
+    let homes = c.as_slice.ensures.value ∙ moves.1.homes in
     let kept_is : c.in_ok-kept.kept ≡ map (kept_after marks g) (units_of g) =
     c.in_ok-kept.ensures
-    ∙ ((λ i. grouped (c.len-units.ensures i) (staying_pairs true 0 (c.as_slice-8.ensures i) (nine i) ++ staying_pairs false 0 (c.as_slice-8.ensures i) (nine i)))
+    ∙ ((λ i. grouped (c.len-units.ensures i) (staying_pairs true 0 (c.as_slice-rows.ensures i) (homes i) ++ staying_pairs false 0 (c.as_slice-rows.ensures i) (homes i)))
     ∙ kept_left scope c.args.tops.now c.args.least.now marks) in
-    let ten = c.as_slice-10.ensures.value ∙ parts in
+    let parts = c.as_slice-2.ensures.value ∙ moves.1.partials in
     let imports_is : c.in_ok-imports.imports ≡ map (λ unit. imports_from unit 0 (among marks (partials g))) (units_of g) =
-    c.in_ok-imports.ensures ∙ ((λ i. grouped (c.len-units.ensures i) (turned 0 (map (λ (part : Partial). part.users) (ten i)))) ∙ imports_left scope c.args.tops.now c.args.least.now marks) in
+    c.in_ok-imports.ensures ∙ ((λ i. grouped (c.len-units.ensures i) (turned 0 (map (λ (part : Partial). part.users) (parts i)))) ∙ imports_left scope c.args.tops.now c.args.least.now marks) in
     let plan : (record {
-      partials = c.in_ok-partials.partials.items;
-      homes = c.in_ok-homes.homes.items;
-      stand_ins = c.in_ok-stand_ins.stand_ins.items;
+      partials = c.in_ok-moves.moves.partials.items;
+      homes = c.in_ok-moves.moves.homes.items;
+      stand_ins = c.in_ok-moves.moves.stand_ins.items;
       kept = c.in_ok-kept.kept;
-      imports =
-          c.in_ok-imports.imports;
-    }) ≡ gained marks g = (λ i. record { partials = parts i; homes = homes i; stand_ins = stands i; kept = kept_is i; imports = imports_is i }) in (
+      imports = c.in_ok-imports.imports;
+    }) ≡ gained marks g = (λ i. record { partials = moves.1.partials i; homes = moves.1.homes i; stand_ins = moves.1.stand_ins i; kept = kept_is i; imports = imports_is i }) in (
       marks,
-      spread_left g marks c.as_slice.result.now c.as_slice-2.result.now (c.as_slice.ensures.value ∙ c.in_ok-moves.ensures.partials) (c.as_slice-2.ensures.value ∙ c.in_ok-moves.ensures.homes)
-          c.in_ok-marks.ensures,
+      moves.1.gaining,
       plan,
     )

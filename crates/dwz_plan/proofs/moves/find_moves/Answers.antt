@@ -7,7 +7,7 @@ use Rattle.dwz_plan.specs.Rows.{TopFacts, given, rows_from}
 use Rattle.dwz_plan.specs.Steps.{parts_by, placed_by}
 use Rattle.dwz_plan.proofs.RowLemmas.{length-rows_from}
 use Rattle.dwz_plan.proofs.StepLemmas.{length_lists, lists, lists_low, parts_are, places_are, reps_low, users_are}
-use Rattle.dwz_plan.proofs.plan.find_moves.Goals as goal
+use Rattle.dwz_plan.proofs.moves.find_moves.Goals as goal
 
 pub users-requires-clause-reps : goal.users-requires-clause-reps
 users-requires-clause-reps c =
@@ -68,3 +68,15 @@ returns-clause-homes c =
     ∙ ((λ i. map (λ r. get_or (c.as_slice-4.ensures.value i) r Stay) (reps i))
     ∙ places_are c.args.scope c.args.tops.now c.args.least.now c.requires.files c.in_ok-parted.parted.of_movers.items
     (λ k l. c.in_ok-parted.ensures.each k (omega (arith, l, long)) ∙ (λ i. placed_by (c.as_slice-files_of_units.ensures i) c.args.tops.now.files (users i) k)))
+
+pub returns-clause-few : goal.returns-clause-few
+returns-clause-few c =
+    let users : c.in_ok-users.users ≡ lists c.args.scope c.args.tops.now c.args.least.now = users_are c.args.scope c.args.tops.now c.args.least.now c.requires.least c.as_slice.result.now
+    c.as_slice-2.result.now (length c.as_slice-files_of_units.result.now) c.in_ok-users.users c.as_slice.ensures (c.as_slice-2.ensures.value ∙ c.in_ok-reps.ensures)
+    (ap (λ (ns : List ℕ). length ns) c.as_slice-files_of_units.ensures) c.in_ok-users.ensures in
+    omega (
+      arith,
+      c.in_ok-parted.ensures.few,
+      ap (λ (ls : List (List ℕ)). length ls) users,
+      length_lists c.args.scope c.args.tops.now c.args.least.now c.requires.least,
+    )

@@ -6,7 +6,7 @@ top=$(cd "$here/../.." && pwd)
 copy=${1:-$(mktemp -d)}
 mkdir -p "$copy/crates"
 cp "$top/HANDLES" "$copy/"
-for crate in dwz_model dwz_bytes dwz_codes dwz_def_reading dwz_def_tops dwz_def_plan dwz_groups dwz_plan; do
+for crate in dwz_model dwz_bytes dwz_codes dwz_def_reading dwz_def_tops dwz_def_plan dwz_def_images dwz_def_taken dwz_groups dwz_plan; do
     rm -rf "$copy/crates/$crate/src" "$copy/crates/$crate/specs" "$copy/crates/$crate/proofs"
     (cd "$top/crates" && tar cf - --exclude=out "$crate") | tar xf - -C "$copy/crates"
     grep "^$crate[ :]" "$top/crates.txt"

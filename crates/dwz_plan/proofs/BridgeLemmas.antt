@@ -69,6 +69,19 @@ file_is [] i = refl
 file_is (f ∷ units) zero = refl
 file_is (f ∷ units) (suc i) = file_is units i
 
+-- ---- what is imported
+
+pub imports_shown : (files unit n : ℕ) (parts : List PartialUnit) → unit_imports unit n parts ≡ import_row unit (imports_from unit n (map (shown_part files) parts))
+unfolding unit_imports import_row imports_from
+imports_shown files unit n [] = refl
+imports_shown files unit n (part ∷ parts) = by (has unit part.users) (imports_shown files unit (suc n) parts)
+  where
+    by : (x : Bool) → unit_imports unit (suc n) parts ≡ import_row unit (imports_from unit (suc n) (map (shown_part files) parts))
+        → (elim x as (λ _. Entries EntryName) [ true ↦ Entry (import_of unit n) End (unit_imports unit (suc n) parts) | false ↦ unit_imports unit (suc n) parts ])
+        ≡ import_row unit (cond x (n ∷ imports_from unit (suc n) (map (shown_part files) parts)) (imports_from unit (suc n) (map (shown_part files) parts)))
+    by true more = ap (λ e. Entry (import_of unit n) End e) more
+    by false more = more
+
 module _ (units : List (FileUnit EntryName)) (test : Test) (scope : Scope) (tops : Tops) (least : List ℕ) (shows : ShowsTops units tops) (decides : HaveLeast scope tops least test) where
   abbrev pub g : Given
   g = given scope tops least
@@ -167,19 +180,6 @@ module _ (units : List (FileUnit EntryName)) (test : Test) (scope : Scope) (tops
   unfolding unit_partials partials
   partials_is = map-append (shown_part tops.files) (unit_partials_at (all_rule test) units Common) (local_partials (all_rule test) units (range_with_len 0 tops.files))
       ∙ (λ i. partials_at_is Common i ++ local_is (range_with_len 0 tops.files) i)
-
-  -- ---- what is imported
-
-  pub imports_of : (unit n : ℕ) (parts : List PartialUnit) → unit_imports unit n parts ≡ import_row unit (imports_from unit n (map (shown_part tops.files) parts))
-  unfolding unit_imports import_row imports_from
-  imports_of unit n [] = refl
-  imports_of unit n (part ∷ parts) = by (has unit part.users) (imports_of unit (suc n) parts)
-    where
-      by : (x : Bool) → unit_imports unit (suc n) parts ≡ import_row unit (imports_from unit (suc n) (map (shown_part tops.files) parts))
-          → (elim x as (λ _. Entries EntryName) [ true ↦ Entry (import_of unit n) End (unit_imports unit (suc n) parts) | false ↦ unit_imports unit (suc n) parts ])
-          ≡ import_row unit (cond x (n ∷ imports_from unit (suc n) (map (shown_part tops.files) parts)) (imports_from unit (suc n) (map (shown_part tops.files) parts)))
-      by true more = ap (λ e. Entry (import_of unit n) End e) more
-      by false more = more
 
   -- ---- where a top goes
 

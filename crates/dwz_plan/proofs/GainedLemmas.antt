@@ -35,7 +35,7 @@ use Rattle.dwz_plan.specs.Planned.{Planned, imports_from, partials, place, rep}
 use Rattle.dwz_plan.specs.Rows.{Given, TopFacts, given, rows_from}
 use Rattle.dwz_plan.specs.Shows.{HaveLeast, IsPlace, PartAt, ShowsPlan, ShowsTops, import_row, may_move, shown_part}
 use Rattle.dwz_plan.specs.Steps.{is_in_unit}
-use Rattle.dwz_plan.proofs.BridgeLemmas.{imports_of, partials_is, place_is, rep_is, same}
+use Rattle.dwz_plan.proofs.BridgeLemmas.{imports_shown, partials_is, place_is, rep_is, same}
 use Rattle.dwz_plan.proofs.ListFacts.{map_map}
 use Rattle.dwz_plan.proofs.RowLemmas.{length-rows_from}
 use Rattle.dwz_plan.proofs.ShownLemmas.{SameRows, filter_shown, numbers_shown}
@@ -301,7 +301,7 @@ module _ (units : List (FileUnit EntryName)) (test : Test) (scope : Scope) (tops
             get_or-map (stand_after marks g) g.rows t.number no_row 0 l ∙ (stand_gained a r.0 ∙ ap (unit_stand_in gain units) r.1));
         kept = λ unit l. get_or-map-range_with_len (kept_after marks g) 0 (length tops.files_of_units) unit unit [] (omega (arith, l, count)) (omega arith) ∙ sym (kept_gained unit);
         imports = λ unit l. (
-            imports_of units test scope tops least shows decides unit 0 after
+            imports_shown tops.files unit 0 after
             ∙ ap (λ (ps : List Partial). import_row unit (imports_from unit 0 ps)) partials_after
             ∙ ap (import_row unit) (sym (get_or-map-range_with_len (λ u. imports_from u 0 (among marks (partials g))) 0 (length tops.files_of_units) unit unit [] (omega (arith, l, count))
             (omega arith))));

@@ -15,11 +15,11 @@ use Rattle.dwz_plan.specs.declared.plan.Home.{Home as Place}
 use Rattle.dwz_plan.specs.declared.plan.Home.TheVariants.{Stay as InUnit}
 use Rattle.dwz_plan.specs.declared.plan.Partial.{Partial}
 use Rattle.dwz_plan.specs.declared.plan.Scope.{Scope}
-use Rattle.dwz_plan.specs.Gained.{among, group_of, home_after, kept_after, kept_by, stand_after, staying_after, staying_by}
+use Rattle.dwz_plan.specs.Gained.{among, group_of, home_after, kept_after, kept_by, stand_after, staying_by}
 use Rattle.dwz_plan.specs.Planned.{alike, home, imports_from, number_in, numbers, partial_with, partials, partials_at, place, place_at, rep, representatives, reps_of, units_of, users}
 use Rattle.dwz_plan.specs.Rows.{Given, TopFacts, given, rows_from}
 use Rattle.dwz_plan.specs.Steps.{is_in_unit, same_bool, stander, staying_pairs, turned}
-use Rattle.dwz_plan.proofs.KeptLemmas.{filter_twice, imports_values, is_staying, of_row, once_at, same_other, same_pinned, staying_values}
+use Rattle.dwz_plan.proofs.KeptLemmas.{OnceAt, filter_twice, imports_values, is_staying, of_row, once_at, same_other, same_pinned, staying_values}
 use Rattle.dwz_plan.proofs.ListFacts.{all_from_in, filter_in, map_in, map_map}
 use Rattle.dwz_plan.proofs.LedLemmas.{counted_below, numbers_counted}
 use Rattle.dwz_plan.proofs.PartialLemmas.{represents}
@@ -60,10 +60,10 @@ module _ (scope : Scope) (tops : Tops) (least : List ℕ) (marks : List Bool) wh
   abbrev h : TopFacts → Place
   h = home_after marks g
 
-  one_kind : (pinned : Bool) (unit : ℕ) → numbers (filter (is_staying h pinned unit) rows) ≡ numbers (filter (λ a. same_bool a.pinned pinned) (staying_after marks g unit))
+  one_kind : (to : TopFacts → Place) (pinned : Bool) (unit : ℕ) → numbers (filter (is_staying to pinned unit) rows) ≡ numbers (filter (λ a. same_bool a.pinned pinned) (staying_by to rows unit))
   unfolding staying_by
-  one_kind pinned unit = ap numbers (filter_twice (λ a. same_bool a.pinned pinned) (λ a. a.unit == unit && is_in_unit (h a)) (is_staying h pinned unit) rows
-      (λ a. by (same_bool a.pinned pinned) (is_in_unit (h a)) (a.unit == unit)))
+  one_kind to pinned unit = ap numbers (filter_twice (λ a. same_bool a.pinned pinned) (λ a. a.unit == unit && is_in_unit (to a)) (is_staying to pinned unit) rows
+      (λ a. by (same_bool a.pinned pinned) (is_in_unit (to a)) (a.unit == unit)))
     where
       by : (s t u : Bool) → ((s && t) && u) ≡ ((u && t) && s)
       by true true true = refl
@@ -75,27 +75,38 @@ module _ (scope : Scope) (tops : Tops) (least : List ℕ) (marks : List Bool) wh
       by false false true = refl
       by false false false = refl
 
-  kept_at : (unit : ℕ) → values_at (staying_pairs true 0 tops.rows (map h rows) ++ staying_pairs false 0 tops.rows (map h rows)) unit ≡ kept_after marks g unit
+  kept_at : (to : TopFacts → Place) (unit : ℕ) → values_at (staying_pairs true 0 tops.rows (map to rows) ++ staying_pairs false 0 tops.rows (map to rows)) unit ≡ kept_by to rows unit
   unfolding kept_by
-  kept_at unit =
-      let stay = staying_after marks g unit in
-      let pinned = staying_values h true tops.files_of_units 0 tops.rows least unit
-      ∙ (one_kind true unit ∙ ap numbers (filter_in (λ a. same_bool a.pinned true) (λ a. a.pinned) stay (λ a is. same_pinned a.pinned))) in
-      let others = staying_values h false tops.files_of_units 0 tops.rows least unit
-      ∙ (one_kind false unit ∙ ap numbers (filter_in (λ a. same_bool a.pinned false) (λ a. not a.pinned) stay (λ a is. same_other a.pinned))) in
-      values_at-append (staying_pairs true 0 tops.rows (map h rows)) (staying_pairs false 0 tops.rows (map h rows)) unit
+  kept_at to unit =
+      let stay = staying_by to rows unit in
+      let pinned = staying_values to true tops.files_of_units 0 tops.rows least unit
+      ∙ (one_kind to true unit ∙ ap numbers (filter_in (λ a. same_bool a.pinned true) (λ a. a.pinned) stay (λ a is. same_pinned a.pinned))) in
+      let others = staying_values to false tops.files_of_units 0 tops.rows least unit
+      ∙ (one_kind to false unit ∙ ap numbers (filter_in (λ a. same_bool a.pinned false) (λ a. not a.pinned) stay (λ a is. same_other a.pinned))) in
+      values_at-append (staying_pairs true 0 tops.rows (map to rows)) (staying_pairs false 0 tops.rows (map to rows)) unit
       ∙ ((λ i. pinned i ++ others i) ∙ sym (map-append (λ (a : TopFacts). a.number) (filter (λ a. a.pinned) stay) (filter (λ a. not a.pinned) stay)))
 
-  pub kept_left : grouped (length tops.files_of_units) (staying_pairs true 0 tops.rows (map h rows) ++ staying_pairs false 0 tops.rows (map h rows)) ≡ map (kept_after marks g) (units_of g)
+  -- what is kept, wherever tops go
+  pub kept_any : (to : TopFacts → Place) → grouped (length tops.files_of_units) (staying_pairs true 0 tops.rows (map to rows) ++ staying_pairs false 0 tops.rows (map to rows))
+      ≡ map (kept_by to rows) (units_of g)
   unfolding grouped
-  kept_left = map_in (values_at (staying_pairs true 0 tops.rows (map h rows) ++ staying_pairs false 0 tops.rows (map h rows))) (kept_after marks g) (units_of g) (λ unit is. kept_at unit)
+  kept_any to = map_in (values_at (staying_pairs true 0 tops.rows (map to rows) ++ staying_pairs false 0 tops.rows (map to rows))) (kept_by to rows) (units_of g) (λ unit is. kept_at to unit)
+
+  pub kept_left : grouped (length tops.files_of_units) (staying_pairs true 0 tops.rows (map h rows) ++ staying_pairs false 0 tops.rows (map h rows)) ≡ map (kept_after marks g) (units_of g)
+  kept_left = kept_any h
+
+  -- what is imported of partial units of which none has a user twice
+  pub imports_any : (parts : List Partial) → ((part : Partial) → In part parts → OnceAt part.users)
+      → grouped (length tops.files_of_units) (turned 0 (map (λ (part : Partial). part.users) parts)) ≡ map (λ unit. imports_from unit 0 parts) (units_of g)
+  unfolding grouped
+  imports_any parts once = map_in (values_at (turned 0 (map (λ (part : Partial). part.users) parts))) (λ unit. imports_from unit 0 parts) (units_of g) (λ unit is. imports_values unit 0 parts once)
+
+  pub once_left : (part : Partial) → In part (among marks (partials g)) → OnceAt part.users
+  once_left part there = once_at scope tops least part (among_in marks (partials g) part there)
 
   pub imports_left : grouped (length tops.files_of_units) (turned 0 (map (λ (part : Partial). part.users) (among marks (partials g)))) ≡ map (λ unit. imports_from unit 0 (among marks (partials g)))
       (units_of g)
-  unfolding grouped
-  imports_left =
-      map_in (values_at (turned 0 (map (λ (part : Partial). part.users) (among marks (partials g))))) (λ unit. imports_from unit 0 (among marks (partials g))) (units_of g)
-      (λ unit is. imports_values scope tops least unit 0 (among marks (partials g)) (λ part there. once_at scope tops least part (among_in marks (partials g) part there)))
+  imports_left = imports_any (among marks (partials g)) once_left
 
   -- ---- bounds
 
@@ -159,11 +170,13 @@ module _ (scope : Scope) (tops : Tops) (least : List ℕ) (marks : List Bool) wh
   places_low files = all_from_in (λ p. AreNumbers (length (partials g)) (group_of p)) (map (place g) rows)
       (λ p is. (let o = in_map_from (place g) p rows is in subst (λ (q : Place). AreNumbers (length (partials g)) (group_of q)) o.is (place_low files o.source o.there)))
 
+  pub users_in : (part : Partial) → In part (among marks (partials g)) → All (λ u. u < length tops.files_of_units) part.users
+  users_in part is =
+      let o = of_row scope tops least part (among_in marks (partials g) part is) in
+      subst (λ (us : List ℕ). All (λ u. u < length tops.files_of_units) us) o.is (users_low scope tops least o.row)
+
   pub users_left : All (λ part. All (λ u. u < length tops.files_of_units) part.users) (among marks (partials g))
-  users_left =
-      all_from_in (λ (part : Partial). All (λ u. u < length tops.files_of_units) part.users) (among marks (partials g))
-      (λ part is. (let o = of_row scope tops least part (among_in marks (partials g) part is) in subst (λ (us : List ℕ). All (λ u. u < length tops.files_of_units) us) o.is
-      (users_low scope tops least o.row)))
+  users_left = all_from_in (λ (part : Partial). All (λ u. u < length tops.files_of_units) part.users) (among marks (partials g)) users_in
 
   -- ---- what stands for what
 

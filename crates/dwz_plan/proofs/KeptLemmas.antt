@@ -71,48 +71,62 @@ pub same_other : (b : Bool) → same_bool b false ≡ not b
 same_other true = refl
 same_other false = refl
 
+-- ---- imports
+
+-- a unit stands there at most once
+abbrev pub OnceAt : List ℕ → Type 0
+OnceAt us = (n unit : ℕ) → repeats n unit us ≡ cond (has unit us) (n ∷ []) []
+
+none_below : (test : ℕ → Bool) (s n m unit : ℕ) → unit < s → repeats m unit (filter test (range_with_len s n)) ≡ []
+unfolding repeats
+none_below test s zero m unit l = refl
+none_below test s (suc n) m unit l = by (test s) (none_below test (s + 1) n m unit (omega arith))
+  where
+    by : (t : Bool) → repeats m unit (filter test (range_with_len (s + 1) n)) ≡ [] → repeats m unit (cond t (s ∷ filter test (range_with_len (s + 1) n)) (filter test (range_with_len (s + 1) n)))
+        ≡ []
+    by true more = ap (λ t. cond t (m ∷ repeats m unit (filter test (range_with_len (s + 1) n))) (repeats m unit (filter test (range_with_len (s + 1) n)))) (ne_eqb s unit (λ e. omega (arith, e, l)))
+        ∙ more
+    by false more = more
+
+pub once_range : (test : ℕ → Bool) (s n m unit : ℕ) → repeats m unit (filter test (range_with_len s n)) ≡ cond (has unit (filter test (range_with_len s n))) (m ∷ []) []
+unfolding repeats has
+once_range test s zero m unit = refl
+once_range test s (suc n) m unit = by (test s) (once_range test (s + 1) n m unit) (λ l. none_below test (s + 1) n m unit l)
+  where
+    rest : List ℕ
+    rest = filter test (range_with_len (s + 1) n)
+
+    one : (s ≡ unit) ⊎ (s ≡ unit → ⊥) → repeats m unit rest ≡ cond (has unit rest) (m ∷ []) [] → (unit < s + 1 → repeats m unit rest ≡ [])
+        → cond (s == unit) (m ∷ repeats m unit rest) (repeats m unit rest) ≡ cond (cond (s == unit) true (has unit rest)) (m ∷ []) []
+    one (inl e) more none = (λ i. cond (eq-eqb s unit e i) (m ∷ none (omega (arith, e)) i) (repeats m unit rest)) ∙ sym (ap (λ t. cond (cond t true (has unit rest)) (m ∷ []) []) (eq-eqb s unit e))
+    one (inr ne) more none = ap (λ t. cond t (m ∷ repeats m unit rest) (repeats m unit rest)) (ne_eqb s unit ne)
+        ∙ (more ∙ sym (ap (λ t. cond (cond t true (has unit rest)) (m ∷ []) []) (ne_eqb s unit ne)))
+
+    by : (t : Bool) → repeats m unit rest ≡ cond (has unit rest) (m ∷ []) [] → (unit < s + 1 → repeats m unit rest ≡ [])
+        → repeats m unit (cond t (s ∷ rest) rest) ≡ cond (has unit (cond t (s ∷ rest) rest)) (m ∷ []) []
+    by true more none = one (cases_eq s unit) more none
+    by false more none = more
+
+pub imports_values : (unit s : ℕ) (parts : List Partial) → ((part : Partial) → In part parts → OnceAt part.users) → values_at (turned s (map (λ (part : Partial). part.users) parts)) unit
+    ≡ imports_from unit s parts
+unfolding turned values_at imports_from
+imports_values unit s [] once = refl
+imports_values unit s (part ∷ parts) once =
+    let e : s + 1 ≡ suc s = omega arith in
+    let more = ap (λ n. values_at (turned n (map (λ (p : Partial). p.users) parts)) unit) e ∙ imports_values unit (suc s) parts (λ p is. once p (inr is)) in
+    values_at-append (map (λ k. pair k s) part.users) (turned (s + 1) (map (λ (p : Partial). p.users) parts)) unit
+    ∙ ((λ i. (values-turned_one s unit part.users ∙ once part (inl refl) s unit) i ++ more i) ∙ by (has unit part.users))
+  where
+    by : (t : Bool) → cond t (s ∷ []) [] ++ imports_from unit (suc s) parts ≡ cond t (s ∷ imports_from unit (suc s) parts) (imports_from unit (suc s) parts)
+    by true = refl
+    by false = refl
+
 module _ (scope : Scope) (tops : Tops) (least : List ℕ) where
   abbrev rows : List TopFacts
   rows = rows_from tops.files_of_units 0 tops.rows least
 
   abbrev g : Given
   g = given scope tops least
-
-  -- ---- imports
-
-  -- a unit stands there at most once
-  abbrev pub OnceAt : List ℕ → Type 0
-  OnceAt us = (n unit : ℕ) → repeats n unit us ≡ cond (has unit us) (n ∷ []) []
-
-  none_below : (test : ℕ → Bool) (s n m unit : ℕ) → unit < s → repeats m unit (filter test (range_with_len s n)) ≡ []
-  unfolding repeats
-  none_below test s zero m unit l = refl
-  none_below test s (suc n) m unit l = by (test s) (none_below test (s + 1) n m unit (omega arith))
-    where
-      by : (t : Bool) → repeats m unit (filter test (range_with_len (s + 1) n)) ≡ [] → repeats m unit (cond t (s ∷ filter test (range_with_len (s + 1) n)) (filter test (range_with_len (s + 1) n)))
-          ≡ []
-      by true more = ap (λ t. cond t (m ∷ repeats m unit (filter test (range_with_len (s + 1) n))) (repeats m unit (filter test (range_with_len (s + 1) n)))) (ne_eqb s unit (λ e. omega (arith, e, l)))
-          ∙ more
-      by false more = more
-
-  once_range : (test : ℕ → Bool) (s n m unit : ℕ) → repeats m unit (filter test (range_with_len s n)) ≡ cond (has unit (filter test (range_with_len s n))) (m ∷ []) []
-  unfolding repeats has
-  once_range test s zero m unit = refl
-  once_range test s (suc n) m unit = by (test s) (once_range test (s + 1) n m unit) (λ l. none_below test (s + 1) n m unit l)
-    where
-      rest : List ℕ
-      rest = filter test (range_with_len (s + 1) n)
-
-      one : (s ≡ unit) ⊎ (s ≡ unit → ⊥) → repeats m unit rest ≡ cond (has unit rest) (m ∷ []) [] → (unit < s + 1 → repeats m unit rest ≡ [])
-          → cond (s == unit) (m ∷ repeats m unit rest) (repeats m unit rest) ≡ cond (cond (s == unit) true (has unit rest)) (m ∷ []) []
-      one (inl e) more none = (λ i. cond (eq-eqb s unit e i) (m ∷ none (omega (arith, e)) i) (repeats m unit rest)) ∙ sym (ap (λ t. cond (cond t true (has unit rest)) (m ∷ []) []) (eq-eqb s unit e))
-      one (inr ne) more none = ap (λ t. cond t (m ∷ repeats m unit rest) (repeats m unit rest)) (ne_eqb s unit ne)
-          ∙ (more ∙ sym (ap (λ t. cond (cond t true (has unit rest)) (m ∷ []) []) (ne_eqb s unit ne)))
-
-      by : (t : Bool) → repeats m unit rest ≡ cond (has unit rest) (m ∷ []) [] → (unit < s + 1 → repeats m unit rest ≡ [])
-          → repeats m unit (cond t (s ∷ rest) rest) ≡ cond (has unit (cond t (s ∷ rest) rest)) (m ∷ []) []
-      by true more none = one (cases_eq s unit) more none
-      by false more none = more
 
   -- the users of a partial unit are those of a row
   pub record OfRow (part : Partial) : Type 0 where
@@ -145,17 +159,3 @@ module _ (scope : Scope) (tops : Tops) (least : List ℕ) where
   once_at part is =
       let o = of_row part is in
       subst (λ (us : List ℕ). OnceAt us) o.is (λ n unit. once_range (λ unit. list_any (λ b. b.unit == unit && alike scope o.row b) rows) 0 (length tops.files_of_units) n unit)
-
-  pub imports_values : (unit s : ℕ) (parts : List Partial) → ((part : Partial) → In part parts → OnceAt part.users) → values_at (turned s (map (λ (part : Partial). part.users) parts)) unit
-      ≡ imports_from unit s parts
-  unfolding turned values_at imports_from
-  imports_values unit s [] once = refl
-  imports_values unit s (part ∷ parts) once =
-      let e : s + 1 ≡ suc s = omega arith in
-      let more = ap (λ n. values_at (turned n (map (λ (p : Partial). p.users) parts)) unit) e ∙ imports_values unit (suc s) parts (λ p is. once p (inr is)) in
-      values_at-append (map (λ k. pair k s) part.users) (turned (s + 1) (map (λ (p : Partial). p.users) parts)) unit
-      ∙ ((λ i. (values-turned_one s unit part.users ∙ once part (inl refl) s unit) i ++ more i) ∙ by (has unit part.users))
-    where
-      by : (t : Bool) → cond t (s ∷ []) [] ++ imports_from unit (suc s) parts ≡ cond t (s ∷ imports_from unit (suc s) parts) (imports_from unit (suc s) parts)
-      by true = refl
-      by false = refl

@@ -16,11 +16,17 @@ pub mod ListingLemmas
 pub mod MadeLemmas
 pub mod MoverLemmas
 pub mod OnePlan
+pub mod OverBounds
+pub mod OverLemmas
+pub mod OverParts
+pub mod OverRows
 pub mod PartialLemmas
 pub mod PlaceLemmas
 pub mod RowLemmas
 pub mod ShownLemmas
 pub mod ShownMoves
+pub mod ShownOver
 pub mod StepLemmas
+pub mod TargetLemmas
 pub mod TurnedLemmas
 pub mod UserLemmas

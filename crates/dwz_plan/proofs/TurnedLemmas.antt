@@ -55,7 +55,7 @@ turned_all P n (ns ∷ lists) all =
     All-append (λ (p : Edge). P p.key) (map (λ k. pair k n) ns) (turned (n + 1) lists) (All-map (λ (p : Edge). P p.key) (λ k. pair k n) ns (All-head (λ (ns : List ℕ). All P ns) ns lists all))
     (turned_all P (n + 1) lists (All-tail (λ (ns : List ℕ). All P ns) ns lists all))
 
-turned_values : (s n : ℕ) (lists : List (List ℕ)) → s < n → All (λ p. s < p.value) (turned n lists)
+pub turned_values : (s n : ℕ) (lists : List (List ℕ)) → s < n → All (λ p. s < p.value) (turned n lists)
 unfolding turned
 turned_values s n [] l = λ k d l. absurd (omega arith)
 turned_values s n (ns ∷ lists) l =
@@ -118,7 +118,7 @@ dedup_from-repeats s v (n ∷ ns) ys all = by (n == v) (dedup_from-repeats s v n
     by true more = ap (λ t. cond t (dedup_from nat_eq s (repeats s v ns ++ ys)) (s ∷ dedup_from nat_eq s (repeats s v ns ++ ys))) (eq-eqb s s refl) ∙ more
     by false more = more
 
-dedup-repeats : (s v : ℕ) (ns ys : List ℕ) → All (λ y. s < y) ys → dedup nat_eq (repeats s v ns ++ ys) ≡ cond (list_any (λ n. n == v) ns) (s ∷ dedup nat_eq ys) (dedup nat_eq ys)
+pub dedup-repeats : (s v : ℕ) (ns ys : List ℕ) → All (λ y. s < y) ys → dedup nat_eq (repeats s v ns ++ ys) ≡ cond (list_any (λ n. n == v) ns) (s ∷ dedup nat_eq ys) (dedup nat_eq ys)
 unfolding repeats
 dedup-repeats s v [] ys all = refl
 dedup-repeats s v (n ∷ ns) ys all = by (n == v) (dedup-repeats s v ns ys all)

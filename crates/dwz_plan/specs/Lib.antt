@@ -3,6 +3,9 @@ pub mod Gaining
 pub mod Groups
 pub mod Classes
 pub mod Gained
+pub mod Over
+pub mod OverLaws
+pub mod OverSteps
 pub mod PlanLaws
 pub mod Planned
 pub mod Rows

@@ -1,6 +1,7 @@
 //! Which tops move, and what is left of that where only groups move that gain.
 ghost use Rattle.std.specs.Prelude.{◌≡◌, ℕ, ◌+◌, ◌-◌, ◌<◌, ◌≤◌, ◌^◌, All, Bool, List, length, map, IfOk};
-ghost use Rattle.dwz_plan.specs.Gained.{AreMoves};
+ghost use Rattle.dwz_plan.specs.Gained.{AreMoves, group_of};
+ghost use Rattle.dwz_plan.specs.Gaining.{AreNumbers};
 ghost use Rattle.dwz_plan.specs.Planned.{partials, place, reps_of};
 ghost use Rattle.dwz_plan.specs.Rows.{given, with_targets};
 
@@ -85,6 +86,7 @@ pub(crate) fn gaining_moves(
     ensures moves { IfOk result (λ m. let g = given scope (with_targets targets.now tops.now) least.now in (marks : List Bool)
         × AreMoves g marks m.partials.items m.homes.items m.stand_ins.items) }
     ensures few { IfOk result (λ m. length m.partials.items ≤ length tops.now.rows) }
+    ensures numbers { IfOk result (λ m. All (λ h. AreNumbers (length tops.now.rows) (group_of h)) m.homes.items) }
 {
     let moves = find_moves(alloc, tops, least, bound, scope)?;
     let marks = marks_of(

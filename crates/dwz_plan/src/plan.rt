@@ -1,10 +1,13 @@
 //! The plan and how it is made.
-ghost use Rattle.std.specs.Prelude.{◌≡◌, ℕ, ◌+◌, ◌-◌, ◌<◌, ◌≤◌, ◌^◌, [], All, length, IfOk, slice_index, slice_index_or};
+ghost use Rattle.std.specs.Prelude.{◌≡◌, ℕ, ◌+◌, ◌-◌, ◌<◌, ◌≤◌, ◌^◌, [], All, length, take, IfOk, slice_index, slice_index_or};
 ghost use Rattle.dwz_plan.specs.Gained.{IsPlanOf};
+ghost use Rattle.dwz_plan.specs.Over.{IsImageRow, IsPlanOver, own_units};
 ghost use Rattle.dwz_plan.specs.Rows.{given};
 
 use crate::moves::gaining_moves;
+use crate::over::{first, free_tops, homes_over, stand_ins_over, standing_parts};
 use crate::units::{imports, kept_of_units};
+use dwz_def_taken::Fixed;
 use dwz_groups::{Groups, Tops};
 use dwz_model::{NoMemory, Numbers};
 use std::alloc::Global;
@@ -93,6 +96,52 @@ impl Plan {
             partials: moves.partials,
             homes: moves.homes,
             stand_ins: moves.stand_ins,
+            kept,
+            imports,
+        })
+    }
+
+    /// The plan of tops of files over a finished common file, whose units are the last ones; of them `fixed` says what the other units
+    /// take. Its partial units come first, as they stand. A top that is taken goes to the one of its image, which stands for it. Of the
+    /// other tops of the files those are planned that are free, each file by itself, as in `make`; all else stays.
+    pub fn with_common(
+        alloc: Global,
+        tops: &Tops,
+        least: &[u32],
+        fixed: &Fixed,
+    ) -> Result<Plan, NoMemory>
+        requires room { length fixed.now.roots + length tops.now.rows < 2 ^ 32 }
+        requires units { length tops.now.files_of_units < 2 ^ 32 }
+        requires least { length least.now ≡ length tops.now.rows }
+        requires inside { All (λ n. n < length tops.now.rows) least.now }
+        requires of_units { All (λ row. row.unit < length tops.now.files_of_units) tops.now.rows }
+        requires parts { length fixed.now.roots ≤ length tops.now.files_of_units }
+        requires files { All (λ file. file < tops.now.files) (take (own_units tops.now fixed.now) tops.now.files_of_units) }
+        requires targets { length tops.now.targets ≡ length tops.now.rows }
+        requires takes { length fixed.now.takes ≡ length tops.now.files_of_units }
+        requires inside_takes { All (λ parts. All (λ p. p < length fixed.now.roots) parts) fixed.now.takes }
+        requires images { length fixed.now.images ≡ length tops.now.rows }
+        requires inside_images { All (IsImageRow tops.now fixed.now) fixed.now.images }
+        requires blocked { length fixed.now.blocked ≡ length tops.now.rows }
+        ensures { IfOk result (λ plan. IsPlanOver tops.now least.now fixed.now plan) }
+    {
+        let free = free_tops(alloc, tops, fixed)?;
+        let own = first(least, free.rows.len());
+        let moves = gaining_moves(alloc, &free, &tops.targets, own, least.len(), Scope::Each)?;
+        let mut partials = standing_parts(alloc, tops, fixed)?;
+        let mut more = moves.partials;
+        partials.append(&mut more)?;
+        let homes = homes_over(alloc, tops, fixed, moves.homes.as_slice())?;
+        let rows = tops.rows.as_slice();
+        let count = rows.len();
+        let stand_ins = stand_ins_over(alloc, count, fixed, moves.stand_ins.as_slice())?;
+        let units = tops.files_of_units.len();
+        let kept = kept_of_units(alloc, rows, homes.as_slice(), units)?;
+        let imports = imports(alloc, partials.as_slice(), units)?;
+        Ok(Plan {
+            partials,
+            homes,
+            stand_ins,
             kept,
             imports,
         })

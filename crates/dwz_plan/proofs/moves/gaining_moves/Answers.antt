@@ -1,6 +1,7 @@
-use Rattle.std.proofs.Common.{◌≡◌, ◌<◌, ◌∙◌, [], ℕ, All, Bool, List, Option, length, map, refl, ap, sym, subst, arith}
+use Rattle.std.proofs.Common.{get_or, ◌≤◌, ◌≡◌, ◌<◌, ◌∙◌, [], ℕ, All, Bool, List, Option, length, map, refl, ap, sym, subst, arith}
 use Rattle.std.specs.List.{range_with_len}
 use Rattle.std.proofs.lemmas.List.{length-map}
+use Rattle.std.proofs.lemmas.List.Elements.{All-map}
 use Rattle.dwz_def_reading.specs.Lists.{In}
 use Rattle.dwz_groups.specs.declared.tops.TopRow.{TopRow}
 use Rattle.dwz_groups.specs.declared.tops.Tops.{Tops}
@@ -8,15 +9,15 @@ use Rattle.dwz_groups.specs.Groups.{grouped}
 use Rattle.dwz_groups.specs.Spreading.{IsSpread}
 use Rattle.dwz_plan.specs.declared.plan.Home.{Home}
 use Rattle.dwz_plan.specs.declared.plan.Partial.{Partial}
-use Rattle.dwz_plan.specs.declared.plan.Scope.{Scope}
 use Rattle.dwz_plan.specs.Gained.{IsGaining, among, group_of, groups_of, home_after, part_seed, place_after}
 use Rattle.dwz_plan.specs.Gaining.{AreNumbers, edges_from, weights_of}
-use Rattle.dwz_plan.specs.Planned.{home, number_in, partials, partials_at, place, place_at, representatives, users}
-use Rattle.dwz_plan.specs.Rows.{Given, TopFacts, given, with_targets}
+use Rattle.dwz_plan.specs.Planned.{partials, place}
+use Rattle.dwz_plan.specs.Rows.{Given, given, with_targets}
 use Rattle.dwz_plan.specs.Steps.{stander}
 use Rattle.dwz_plan.proofs.GainedRows.{among_few, fits, places_low, stands_left}
 use Rattle.dwz_plan.proofs.ListFacts.{all_from_in, map_map}
 use Rattle.dwz_plan.proofs.RowLemmas.{length-rows_from}
+use Rattle.dwz_plan.proofs.TargetLemmas.{after_low, numbers_more, parts_same, place_same}
 use Rattle.dwz_plan.proofs.moves.gaining_moves.Goals as goal
 
 in_at : (ns : List ℕ) (P : ℕ → Type 0) → ((n : ℕ) → In n ns → P n) → All P ns
@@ -107,15 +108,6 @@ stand_ins-requires-clause-few c =
 parts_left : (g : Given) (marks m : List Bool) (ps out : List Partial) → ps ≡ partials g → m ≡ marks → out ≡ among m ps → out ≡ among marks (partials g)
 parts_left g marks m ps out e f is = is ∙ (λ i. among (f i) (e i))
 
--- what targets there are is no matter for groups
-parts_same : (targets : List (List ℕ)) (scope : Scope) (tops : Tops) (least : List ℕ) → partials (given scope tops least) ≡ partials (given scope (with_targets targets tops) least)
-unfolding partials partials_at representatives users
-parts_same targets scope tops least = refl
-
-place_same : (targets : List (List ℕ)) (scope : Scope) (tops : Tops) (least : List ℕ) (a : TopFacts) → place (given scope tops least) a ≡ place (given scope (with_targets targets tops) least) a
-unfolding place users
-place_same targets scope tops least a = ap (λ (ps : List Partial). place_at (home (given scope tops least) a) (number_in ps (users (given scope tops least) a))) (parts_same targets scope tops least)
-
 pub returns-clause-moves : goal.returns-clause-moves
 returns-clause-moves c =
     let scope = c.args.scope in
@@ -157,3 +149,15 @@ returns-clause-few c =
       ap (λ (ps : List Partial). length ps) c.in_ok-moves.ensures.partials,
       c.in_ok-moves.ensures.few,
     )
+
+pub returns-clause-numbers : goal.returns-clause-numbers
+returns-clause-numbers c =
+    let n = length c.args.tops.now.rows in
+    let g : Given = given c.args.scope c.args.tops.now c.args.least.now in
+    let before : List Home = c.as_slice-4.result.now in
+    let is : before ≡ map (place g) g.rows = c.as_slice-4.ensures.value ∙ c.in_ok-moves.ensures.homes in
+    let few : length (partials g) ≤ n = omega (arith, ap (λ (ps : List Partial). length ps) c.in_ok-moves.ensures.partials, c.in_ok-moves.ensures.few) in
+    let low : All (λ h. AreNumbers (length (partials g)) (group_of h)) before =
+    subst (λ (hs : List Home). All (λ h. AreNumbers (length (partials g)) (group_of h)) hs) (sym is) (places_low c.args.scope c.args.tops.now c.args.least.now [] c.requires.files) in
+    subst (λ (hs : List Home). All (λ h. AreNumbers n (group_of h)) hs) (sym c.in_ok-homes.ensures) (All-map (λ h. AreNumbers n (group_of h)) (place_after c.as_slice-5.result.now) before
+    (λ k d l. after_low c.as_slice-5.result.now n (get_or before k d) (numbers_more (length (partials g)) n (group_of (get_or before k d)) few (low k d l))))

@@ -1,5 +1,7 @@
 -- Where entries are laid, one behind the other (DWARF 5, 7.5).
-use Rattle.std.specs.Prelude.{ℕ, ◌+◌, suc, List, [], ◌∷◌, ◌++◌, length, replicate, slice_set}
+use Rattle.std.specs.Prelude.{ℕ, ◌+◌, ◌-◌, suc, List, [], ◌∷◌, ◌++◌, length, map, replicate, slice_set}
+use Rattle.dwz_def_reading.specs.Units.{RawUnit}
+use Rattle.dwz_unit.specs.Rows.{EntryRow, Source, rows_of, units_of}
 use Rattle.dwz_layout.specs.Shapes.{table_for}
 use Rattle.dwz_def_encoding.specs.Writing.{DeclarationShape, code_in, or_zero, table_in, with_shape, with_table}
 use Rattle.dwz_layout.specs.declared.known.EntryTable.{EntryTable}
@@ -133,10 +135,36 @@ unfoldable pub with_files : EntryTable → ℕ → List (List UnitItems) → All
 with_files k here [] all = all
 with_files k here (f ∷ files) all = with_files k (here + length f) files (with_file k here f all)
 
+-- no file is laid yet, and entries and roots have these places
+abbrev pub no_file : List ℕ → List ℕ → AllMade
+no_file places roots = record { files = []; places = places; roots = roots }
+
+-- all files that are written, behind units that stand already
+abbrev pub made_from : EntryTable → List (List UnitItems) → AllMade → AllMade
+made_from k files start = with_files k (length start.roots) files start
+
 -- so many entries were read, and none has a place yet
 abbrev pub none_made : ℕ → AllMade
-none_made count = record { files = []; places = replicate count 0; roots = [] }
+none_made count = no_file (replicate count 0) []
 
 -- all files that are written, the common one first
 abbrev pub made_of : EntryTable → List (List UnitItems) → AllMade
-made_of k files = with_files k 0 files (none_made (length k.owners.items))
+made_of k files = made_from k files (none_made (length k.owners.items))
+
+-- ---- over a common file that stands already
+
+-- where its entries stand, and the roots of its units
+pub record Standing : Type 0 where
+  pub places : List ℕ
+  pub roots : List ℕ
+
+abbrev pub standing_view : Source → Standing
+standing_view s = record { places = map (λ (r : EntryRow). r.entry.at) (rows_of (units_of s)); roots = map (λ (u : RawUnit). u.root.at) (units_of s) }
+
+-- of so many entries these are the last, and of all units these the first
+abbrev pub over_made : ℕ → Standing → AllMade
+over_made count s = no_file (replicate (count - length s.places) 0 ++ s.places) s.roots
+
+-- all files that are written but that one
+abbrev pub over_of : EntryTable → Standing → List (List UnitItems) → AllMade
+over_of k s files = made_from k files (over_made (length k.owners.items) s)

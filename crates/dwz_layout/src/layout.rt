@@ -1,7 +1,7 @@
 //! Where all units and entries stand.
 
 ghost use Rattle.std.specs.Prelude.{◌≡◌, ◌==◌, ◌+◌, ◌<◌, IfOk, OnOk, Some, length, slice_get};
-ghost use Rattle.dwz_layout.specs.Laid.{file_view, made, made_of, no_unit, with_unit, with_units};
+ghost use Rattle.dwz_layout.specs.Laid.{file_view, made, made_from, made_of, no_file, no_unit, over_of, standing_view, with_unit, with_units};
 
 use crate::Tables;
 use crate::known::EntryTable;
@@ -9,7 +9,9 @@ use crate::laying::{Laying, header_size, lay};
 use crate::order::{FileItems, UnitItems};
 use crate::recent::Recent;
 use crate::sizes::{Scratch, more};
+use crate::standing::{standing_places, standing_roots};
 use dwz_model::{DwzList, NoMemory};
+use dwz_unit::Units;
 use std::alloc::{AllocError, Global};
 use std::marker::Model;
 
@@ -139,6 +141,31 @@ fn lay_file(
     Ok(file)
 }
 
+// Lays the units of files one behind the other, in each file from 0, where entries and roots that stand already have places.
+fn lay_files(
+    alloc: Global,
+    known: &EntryTable,
+    files: &[FileItems],
+    start: Spots,
+) -> Result<Layout, NoMemory>
+    ensures { IfOk result (λ layout. layout ≡ made_from known.now files.now (no_file start.places.items start.roots.items)) }
+{
+    let mut spots = start;
+    let mut room = Scratch {
+        pairs: Vec::new(alloc),
+        operands: Vec::new(alloc),
+        codes: Vec::new(alloc),
+        recent: Recent::new(alloc)?,
+    };
+    let mut laid = Vec::new(alloc);
+    let mut first = behind(0, spots.roots.len())?;
+    for units in files {
+        laid.push(lay_file(alloc, &mut room, known, first, units.as_slice(), &mut spots)?)?;
+        first = behind(first, units.len())?;
+    }
+    Ok(Layout { files: laid, spots })
+}
+
 impl Layout {
     /// Lays the units of files one behind the other, in each file from 0. A file's units come in order, and files are counted with the
     /// common one first. It fails only for want of memory; more bytes or units than 64 or 32 bits can count are such a want.
@@ -147,23 +174,23 @@ impl Layout {
     {
         let mut places = Vec::new(alloc);
         places.resize(known.owners.len(), 0)?;
-        let mut spots = Spots {
-            places,
-            roots: Vec::new(alloc),
-        };
-        let mut room = Scratch {
-            pairs: Vec::new(alloc),
-            operands: Vec::new(alloc),
-            codes: Vec::new(alloc),
-            recent: Recent::new(alloc)?,
-        };
-        let mut laid = Vec::new(alloc);
-        let mut first = 0;
-        for units in files {
-            laid.push(lay_file(alloc, &mut room, known, first, units.as_slice(), &mut spots)?)?;
-            first = behind(first, units.len())?;
-        }
-        Ok(Layout { files: laid, spots })
+        let roots = Vec::new(alloc);
+        lay_files(alloc, known, files, Spots { places, roots })
+    }
+
+    /// As `make`, but over a common file with these units that stands already and isn't among the files: its entries, which are the last of
+    /// all by number, and the roots of its units, which are the first, keep their places.
+    pub fn over(
+        alloc: Global,
+        known: &EntryTable,
+        common: &Units,
+        files: &[FileItems],
+    ) -> Result<Layout, NoMemory>
+        ensures { IfOk result (λ layout. layout ≡ over_of known.now (standing_view common.now) files.now) }
+    {
+        let places = standing_places(alloc, known.owners.len(), common)?;
+        let roots = standing_roots(alloc, common)?;
+        lay_files(alloc, known, files, Spots { places, roots })
     }
 
     /// How many files there are.

@@ -1,9 +1,10 @@
 //! Where each entry of the output stands, with codes and abbreviation tables, before any byte is written.
 //!
 //! `Layout::make` takes `EntryTable` and the orders of the files, and answers for each file where its units, their tables and all entries stand
-//! (`FileLayout`, `Spots`). No length depends on a number, so one pass does. `Walk` gives the entries of a unit one by one; `dwz_encode`
-//! walks the same way. `Shapes` gives codes by first use, `Tables` keeps each table once. `EntryTable`, filled by `dwz_layout_input`, and
-//! `FileItems`, by `dwz_layout_order`, are types of this crate.
+//! (`FileLayout`, `Spots`). No length depends on a number, so one pass does. `Layout::over` does the same over a common file that stands
+//! already. `Walk` gives the entries of a unit one by one; `dwz_encode` walks the same way. `Shapes` gives codes by first
+//! use, `Tables` keeps each table once. `EntryTable`, filled by `dwz_layout_input`, and `FileItems`, by `dwz_layout_order`, are types of this
+//! crate.
 //!
 //! A form that isn't written as it is read is a row of `way_of`.
 //!
@@ -20,6 +21,7 @@ mod pairs;
 mod recent;
 mod shapes;
 mod sizes;
+mod standing;
 mod tables;
 mod walk;
 mod ways;

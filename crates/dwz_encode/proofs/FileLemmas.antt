@@ -1,5 +1,5 @@
 -- Files one after the other: where all stands, and what is written of each.
-use Rattle.std.proofs.Common.{◌≡◌, ◌⊎◌, inl, inr, ℕ, suc, ◌+◌, ◌-◌, ◌<◌, ◌≤◌, List, [], ◌∷◌, ◌++◌, length, replicate, slice_index, sym, ap, ◌∙◌, append_assoc, append-nil, arith}
+use Rattle.std.proofs.Common.{◌≡◌, ◌⊎◌, inl, inr, ℕ, suc, ◌+◌, ◌-◌, ◌<◌, ◌≤◌, List, [], ◌∷◌, ◌++◌, length, refl, slice_index, sym, ap, ◌∙◌, append_assoc, append-nil, arith}
 use Rattle.std.proofs.lemmas.List.{get_or-append_right, get_or_append_left}
 use Rattle.dwz_def_reading.specs.Lists.{Each}
 use Rattle.dwz_def_encoding.specs.Placing.{FileOut, UnitsStand}
@@ -12,14 +12,13 @@ use Rattle.dwz_layout.specs.declared.order.UnitItems.{UnitItems}
 use Rattle.dwz_layout.specs.declared.walk.Slot.{Slot}
 use Rattle.dwz_layout.specs.Attributes.{Content, OfEntry, OfParts, OfRoot, OutAttr, Read, WritingContext, attrs_of, here_of}
 use Rattle.dwz_layout.specs.Entries.{items_slots}
-use Rattle.dwz_layout.specs.Laid.{AllMade, FileMade, Made, made_of, no_unit, none_made, with_files}
+use Rattle.dwz_layout.specs.Laid.{AllMade, FileMade, Made, made_from, no_file, no_unit, with_files}
 use Rattle.dwz_encode.proofs.ByteLemmas.{below}
 use Rattle.dwz_encode.specs.Pages.{numbers_in, units_page}
-use Rattle.dwz_encode.specs.Shown.{ContentRefers, IsWritten, Keys, Refer, RowRefers, ShowFiles, ShowUnits, SlotRefers, SortRefers, unit_count}
+use Rattle.dwz_encode.specs.Shown.{ContentRefers, IsWritten, Keys, Refer, ShowFiles, ShowUnits, SlotRefers, SortRefers, There, unit_count}
 use Rattle.dwz_encode.proofs.SectionLemmas.{AllAgree, IsRight, bytes_are, end_is, end_of, outs_of, places_len, places_of, places_right, roots_len, roots_of, roots_right, units_made}
 use Rattle.dwz_encode.proofs.StepLemmas.{AttrAgrees, ContentAgrees, RowAgrees, SlotAgrees}
 use Rattle.dwz_encode.proofs.UnitLemmas.{SortAgrees}
-use Rattle.dwz_encode.proofs.PassLemmas.{length-zeros}
 
 abbrev pub AllFixed : {K : Type 0} → List (FileOut K) → Type 0
 AllFixed files = Each (λ f. Each FixedUnit f.units) files
@@ -115,53 +114,64 @@ module _ {K : Type 0} (keys : Keys K) (k : EntryTable) where
 
 -- ---- numbers agree with what was kept
 
-module _ {K : Type 0} (keys : Keys K) (n : Numbering K) (k : EntryTable) (all : List (List UnitItems)) (files : List (FileOut K)) (shows : ShowFiles keys k 0 all files) (fixed : AllFixed files)
-    (there : AllStand n files) where
+-- what is there is written, or stands already where the numbers say
+pub record AreThere {K : Type 0} (keys : Keys K) (n : Numbering K) (k : EntryTable) (t : There) (places roots : List ℕ) (all : List (List UnitItems)) : Type 0 where
+  pub rows : (i : ℕ) → t.row i → (i < length places) × ((IsRight keys n k i places) ⊎ IsWritten k i all)
+  pub standing : (j : ℕ) → j < length roots → slice_index roots j ≡ n.place (keys.root j)
+  pub units : t.units ≡ length roots + unit_count all
+
+module _ {K : Type 0} (keys : Keys K) (n : Numbering K) (k : EntryTable) (t : There) (places roots : List ℕ) (all : List (List UnitItems)) (files : List (FileOut K))
+    (shows : ShowFiles keys k (length roots) all files) (fixed : AllFixed files) (there : AllStand n files) (are : AreThere keys n k t places roots all) where
   abbrev pub Whole : AllMade
-  Whole = record { files = files_of k 0 all files; places = file_places k 0 all files (replicate (length k.owners.items) 0); roots = file_roots k all files }
+  Whole = record { files = files_of k (length roots) all files; places = file_places k (length roots) all files places; roots = roots ++ file_roots k all files }
 
-  pub whole : made_of k all ≡ Whole
-  whole = files_made keys k 0 all files (none_made (length k.owners.items)) shows fixed
+  pub whole : made_from k all (no_file places roots) ≡ Whole
+  whole = files_made keys k (length roots) all files (no_file places roots) shows fixed
 
-  pub row_is : (i : ℕ) → RowRefers k all i → n.place (keys.row i) ≡ slice_index Whole.places i
-  row_is i refers =
-      sym (row_right keys k n 0 all files i (replicate (length k.owners.items) 0) (omega (arith, refers.0, length-zeros (length k.owners.items))) shows fixed there (inr refers.1))
+  pub row_is : (i : ℕ) → t.row i → n.place (keys.row i) ≡ slice_index Whole.places i
+  row_is i refers = let r = are.rows i refers in sym (row_right keys k n (length roots) all files i places r.0 shows fixed there r.1)
 
-  root_is : (j : ℕ) → j < unit_count all → n.place (keys.root j) ≡ slice_index Whole.roots j
-  root_is j lt =
-      let one : 0 + j ≡ j = omega arith in
-      sym (root_right keys k n 0 all files j shows fixed there lt ∙ ap (λ (h : ℕ). n.place (keys.root h)) one)
+  root_by : (j : ℕ) → j < length roots + unit_count all → (j < length roots) ⊎ (length roots ≤ j) → slice_index Whole.roots j ≡ n.place (keys.root j)
+  root_by j lt (inl less) = get_or_append_left roots (file_roots k all files) 0 j less ∙ are.standing j less
+  root_by j lt (inr le) =
+      let place : length roots + (j - length roots) ≡ j = omega (arith, le) in
+      get_or-append_right roots (file_roots k all files) (length roots) j 0 refl le
+      ∙ root_right keys k n (length roots) all files (j - length roots) shows fixed there (omega (arith, le, lt))
+      ∙ ap (λ (h : ℕ). n.place (keys.root h)) place
 
-  rows_agree : (numbers : List ℕ) → Each (RowRefers k all) numbers → Each (RowAgrees keys n (numbers_in Whole.places Whole.roots 0)) numbers
+  root_is : (j : ℕ) → j < t.units → n.place (keys.root j) ≡ slice_index Whole.roots j
+  root_is j lt = sym (root_by j (omega (arith, lt, are.units)) (below j (length roots)))
+
+  rows_agree : (numbers : List ℕ) → Each t.row numbers → Each (RowAgrees keys n (numbers_in Whole.places Whole.roots 0)) numbers
   rows_agree [] refer = tt
   rows_agree (x ∷ numbers) refer = (row_is x refer.0, rows_agree numbers refer.1)
 
-  content_agrees : (c : Content) → ContentRefers k all c → ContentAgrees keys n (numbers_in Whole.places Whole.roots 0) c
+  content_agrees : (c : Content) → ContentRefers t c → ContentAgrees keys n (numbers_in Whole.places Whole.roots 0) c
   content_agrees (Read raw) refers = tt
   content_agrees (OfEntry number) refers = row_is number refers
   content_agrees (OfRoot unit) refers = root_is unit refers
   content_agrees (OfParts parts numbers) refers = rows_agree numbers refers
 
-  sort_agrees : (s : Sort) → SortRefers k all s → SortAgrees keys n (numbers_in Whole.places Whole.roots 0) s
+  sort_agrees : (s : Sort) → SortRefers t s → SortAgrees keys n (numbers_in Whole.places Whole.roots 0) s
   sort_agrees (Compile root) refers = tt
-  sort_agrees (OfType root t main) refers = row_is main refers
+  sort_agrees (OfType root s main) refers = row_is main refers
   sort_agrees (Partial line) refers = tt
 
-  attrs_agree : (attrs : List OutAttr) → Each (λ a. ContentRefers k all a.content) attrs → Each (AttrAgrees keys n (numbers_in Whole.places Whole.roots 0)) attrs
+  attrs_agree : (attrs : List OutAttr) → Each (λ a. ContentRefers t a.content) attrs → Each (AttrAgrees keys n (numbers_in Whole.places Whole.roots 0)) attrs
   attrs_agree [] refer = tt
   attrs_agree (a ∷ attrs) refer = (content_agrees a.content refer.0, attrs_agree attrs refer.1)
 
-  slots_agree : (here : WritingContext) (slots : List Slot) → Each (SlotRefers k all here) slots → Each (SlotAgrees keys n (numbers_in Whole.places Whole.roots 0) k here) slots
+  slots_agree : (here : WritingContext) (slots : List Slot) → Each (SlotRefers t k here) slots → Each (SlotAgrees keys n (numbers_in Whole.places Whole.roots 0) k here) slots
   slots_agree here [] refer = tt
   slots_agree here (s ∷ slots) refer = (attrs_agree (attrs_of k here s.origin) refer.0, slots_agree here slots refer.1)
 
-  pub all_agree : (here : ℕ) (order : List UnitItems) → Refer k all here order → AllAgree k keys n Whole.places Whole.roots here order
+  pub all_agree : (here : ℕ) (order : List UnitItems) → Refer t k here order → AllAgree k keys n Whole.places Whole.roots here order
   all_agree here [] refer = tt
   all_agree here (o ∷ order) refer = (sort_agrees o.sort refer.0.0, slots_agree (here_of k here o.sort) (items_slots k o.sort o.items) refer.0.1, all_agree (suc here) order refer.1)
 
   -- ---- what is written of a file
 
-  pub file_bytes : (here : ℕ) (order : List UnitItems) (f : FileOut K) → UnitsStand n f.units 0 → Each FixedUnit f.units → ShowUnits keys k here order f.units → Refer k all here order
+  pub file_bytes : (here : ℕ) (order : List UnitItems) (f : FileOut K) → UnitsStand n f.units 0 → Each FixedUnit f.units → ShowUnits keys k here order f.units → Refer t k here order
       → units_page k Whole.places Whole.roots here order (outs_of k here 0 [] order f.units) ≡ units_bytes n (tables_of [] f.units) f.units
   file_bytes here order f stand fix show refer =
       bytes_are k keys n Whole.places Whole.roots here 0 [] (tables_of [] f.units) order f.units show fix stand (all_agree here order refer)

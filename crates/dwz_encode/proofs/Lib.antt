@@ -6,6 +6,7 @@ pub mod UnitLemmas
 pub mod SectionLemmas
 pub mod FileLemmas
 pub mod LawLemmas
+pub mod StandingPlaces
 pub mod ByteLemmas
 pub mod ValueLemmas
 mod StretchLemmas

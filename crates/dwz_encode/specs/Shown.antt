@@ -118,7 +118,7 @@ ShowUnits keys k unit [] [] = Unit {0}
 ShowUnits keys k unit (o ∷ order) (u ∷ units) = ShowsUnit keys k unit o u × ShowUnits keys k (suc unit) order units
 ShowUnits keys k unit _ _ = ⊥
 
--- ---- what is named is written
+-- ---- what is written
 
 abbrev pub IsRow : EntryTable → ℕ → Origin → Type 0
 IsRow k number (OfRow r) = number_of k r ≡ number
@@ -144,27 +144,38 @@ unit_count (order ∷ files) = length order + unit_count files
 abbrev pub RowRefers : EntryTable → List (List UnitItems) → ℕ → Type 0
 RowRefers k all number = (number < length k.owners.items) × IsWritten k number all
 
-abbrev pub ContentRefers : EntryTable → List (List UnitItems) → Content → Type 0
-ContentRefers k all (Read raw) = Unit {0}
-ContentRefers k all (OfEntry number) = RowRefers k all number
-ContentRefers k all (OfRoot unit) = unit < unit_count all
-ContentRefers k all (OfParts parts numbers) = Each (RowRefers k all) numbers
+-- ---- what is named is there
 
-abbrev pub SortRefers : EntryTable → List (List UnitItems) → Sort → Type 0
-SortRefers k all (CompileSort root) = Unit {0}
-SortRefers k all (TypeSort root s main) = RowRefers k all main
-SortRefers k all (PartialSort line) = Unit {0}
+-- which entries are there to be named, by their numbers among all files, and of how many units the roots
+pub record There : Type 1 where
+  pub row : ℕ → Type 0
+  pub units : ℕ
 
-abbrev pub SlotRefers : EntryTable → List (List UnitItems) → WritingContext → Slot → Type 0
-SlotRefers k all here s = Each (λ a. ContentRefers k all a.content) (attrs_of k here s.origin)
+-- what an order writes
+abbrev pub written_in : EntryTable → List (List UnitItems) → There
+written_in k all = record { row = RowRefers k all; units = unit_count all }
 
-abbrev pub UnitRefers : EntryTable → List (List UnitItems) → ℕ → UnitItems → Type 0
-UnitRefers k all unit o = SortRefers k all o.sort × Each (SlotRefers k all (here_of k unit o.sort)) (items_slots k o.sort o.items)
+abbrev pub ContentRefers : There → Content → Type 0
+ContentRefers t (Read raw) = Unit {0}
+ContentRefers t (OfEntry number) = t.row number
+ContentRefers t (OfRoot unit) = unit < t.units
+ContentRefers t (OfParts parts numbers) = Each t.row numbers
+
+abbrev pub SortRefers : There → Sort → Type 0
+SortRefers t (CompileSort root) = Unit {0}
+SortRefers t (TypeSort root s main) = t.row main
+SortRefers t (PartialSort line) = Unit {0}
+
+abbrev pub SlotRefers : There → EntryTable → WritingContext → Slot → Type 0
+SlotRefers t k here s = Each (λ a. ContentRefers t a.content) (attrs_of k here s.origin)
+
+abbrev pub UnitRefers : There → EntryTable → ℕ → UnitItems → Type 0
+UnitRefers t k unit o = SortRefers t o.sort × Each (SlotRefers t k (here_of k unit o.sort)) (items_slots k o.sort o.items)
 
 -- units, the first of which has that number
-abbrev pub Refer : EntryTable → List (List UnitItems) → ℕ → List UnitItems → Type 0
-Refer k all unit [] = Unit {0}
-Refer k all unit (o ∷ order) = UnitRefers k all unit o × Refer k all (suc unit) order
+abbrev pub Refer : There → EntryTable → ℕ → List UnitItems → Type 0
+Refer t k unit [] = Unit {0}
+Refer t k unit (o ∷ order) = UnitRefers t k unit o × Refer t k (suc unit) order
 
 -- ---- files
 
@@ -174,6 +185,6 @@ ShowFiles keys k unit [] [] = Unit {0}
 ShowFiles keys k unit (order ∷ files) (f ∷ outs) = ShowUnits keys k unit order f.units × ShowFiles keys k (unit + length order) files outs
 ShowFiles keys k unit _ _ = ⊥
 
-abbrev pub FilesRefer : EntryTable → List (List UnitItems) → ℕ → List (List UnitItems) → Type 0
-FilesRefer k all unit [] = Unit {0}
-FilesRefer k all unit (order ∷ files) = Refer k all unit order × FilesRefer k all (unit + length order) files
+abbrev pub FilesRefer : There → EntryTable → ℕ → List (List UnitItems) → Type 0
+FilesRefer t k unit [] = Unit {0}
+FilesRefer t k unit (order ∷ files) = Refer t k unit order × FilesRefer t k (unit + length order) files

@@ -4,7 +4,7 @@
 //! names the least section that would have too many bytes. `info_by` writes the same by several workers; no run calls it.
 //!
 //! The law `layout_laws`: where an order shows the units of files, what is laid and written are the very sections of `dwz_def_encoding`,
-//! and each entry has the place of its name.
+//! and each entry has the place of its name. `standing_laws`: so it is over a common file that stands already.
 //!
 //! Read first: `specs/Pages.antt`, `specs/Laws.antt`.
 #![tactic(auto)]
@@ -20,6 +20,6 @@ mod units;
 mod values;
 
 pub use info::info_by;
-pub use laws::layout_laws;
+pub use laws::{layout_laws, standing_laws};
 pub use limits::too_large;
 pub use units::{info_of, put_unit};

@@ -15,7 +15,7 @@ use Rattle.dwz_layout.specs.declared.walk.Slot.{Slot}
 use Rattle.dwz_layout.specs.Attributes.{Content, OfEntry, OfParts, OfRoot, Read, WritingContext, attrs_of, here_of}
 use Rattle.dwz_layout.specs.Entries.{items_slots}
 use Rattle.dwz_layout.specs.Known.{reference_at, row_at, unit_of_part}
-use Rattle.dwz_encode.specs.Shown.{FilesRefer, IsWritten, Keys, ShowFiles, unit_count}
+use Rattle.dwz_encode.specs.Shown.{FilesRefer, IsWritten, Keys, ShowFiles, unit_count, written_in}
 use Rattle.dwz_def_readback.specs.Fewer.{NameOnly}
 
 -- ---- numbers
@@ -71,7 +71,7 @@ ReferLaw =
     (keys : Keys EntryName) (k : EntryTable) (order : List (List UnitItems)) (files : List (FileOut EntryName))
     → ShowFiles keys k 0 order files
     → FilesCounted k (unit_count order) 0 order → ((f : FileOut EntryName) → In f files → NameOnly (files_keys files) f.units)
-    → RowsApart keys k order files → FilesRefer k order 0 order
+    → RowsApart keys k order files → FilesRefer (written_in k order) k 0 order
 
 -- And the name of each entry that is written stands in the files that the order shows.
 abbrev pub NamesThereLaw : Type 0

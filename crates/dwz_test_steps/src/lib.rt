@@ -8,6 +8,8 @@ mod finished;
 #[cfg(test)]
 mod labels;
 #[cfg(test)]
+mod standing;
+#[cfg(test)]
 mod tops;
 #[cfg(test)]
 mod workers;

@@ -130,7 +130,7 @@ module _ (f : RunFacts) (t : TextsAt) (k : EntryTable) (facts : AreFacts f) (lis
     top_of : (depth : ℕ) (y : Top) → In y part.tops → AllOfPart (tree_slots k depth (top_row k y.number))
     unfolding rows_below
     top_of depth y is =
-        let own = part_tops f.scope (units f) (rule f) facts.alike facts.choice (file_numbers 0 (docs f)) p part nth y is in
+        let own = part_tops (units f) (rule f) facts.fair (file_numbers 0 (docs f)) p part nth y is in
         let read = top_read f facts t k listed n from.read.x from.read.index o y own.there (of_file y is) in
         let slots = tree_slots k depth (top_row k y.number) in
         let within = tree_within f k n from.read.x from.read.index o rows_are depth y (labelled f facts y own.there) read in
@@ -195,7 +195,7 @@ module _ (f : RunFacts) (t : TextsAt) (k : EntryTable) (facts : AreFacts f) (lis
     in_part y is path there =
         let m = move f in
         let s = Within y.number path in
-        let own = part_tops f.scope (units f) (rule f) facts.alike facts.choice (file_numbers 0 (docs f)) p part nth y is in
+        let own = part_tops (units f) (rule f) facts.fair (file_numbers 0 (docs f)) p part nth y is in
         let fixed : image_in m s ≡ s = ap (λ (q : ℕ). Within q path) own.stands in
         let has = ((part_is p part).tops_are (name_list y) y).1 (is, refl) in
         let mine : In s (own_keys y) = subst (In s) (sym (top_labelled y ((files_old (docs f) (all_placed f facts)).tops_named y own.there)))
@@ -280,14 +280,14 @@ module _ (f : RunFacts) (t : TextsAt) (k : EntryTable) (facts : AreFacts f) (lis
       itself : IsItself f (entry_name f q d)
       itself =
           let y = found.of_top.top in
-          let own = part_tops f.scope (units f) (rule f) facts.alike facts.choice (file_numbers 0 (docs f)) p part nth y found.of_top.there in
+          let own = part_tops (units f) (rule f) facts.fair (file_numbers 0 (docs f)) p part nth y found.of_top.there in
           subst (IsItself f) (sym name_is) (ap (λ (w : ℕ). Within w found.of_top.within.path) own.stands)
 
       has_name : In s (unit_keys (partial_unit (move f) p))
       has_name =
           let y = found.of_top.top in
           let path = found.of_top.within.path in
-          let own = part_tops f.scope (units f) (rule f) facts.alike facts.choice (file_numbers 0 (docs f)) p part nth y found.of_top.there in
+          let own = part_tops (units f) (rule f) facts.fair (file_numbers 0 (docs f)) p part nth y found.of_top.there in
           let at = own_name (docs f) (o.start + e) y.number path name_there in
           let same : at.0 ≡ y = one_top (units f) at.0 y at.1 own.there at.2 in
           in_part y found.of_top.there path (subst (λ (w : Top). In path (paths_of w.below)) same at.3)
@@ -353,8 +353,7 @@ module _ (f : RunFacts) (t : TextsAt) (k : EntryTable) (facts : AreFacts f) (lis
       subst (λ (w : List RowOfSpace). IsPart w (map (spaces_at settled.lists) (all_tops f.indexes))
       (map (λ (y : Top). y.number) part.tops) o.items) settled.rows_are
       (subst (λ (w : List TopSpaces). IsPart s.rows.now w (map (λ (y : Top). y.number) part.tops) o.items) settled.of_tops put.items) in
-      new_items (docs f) f.indexes f.scope (rule f) (file_numbers 0 (docs f)) settled.texts settled.lists facts.indexed facts.alike
-      facts.choice spaces p part o.items nth put_so
+      new_items (docs f) f.indexes (rule f) (file_numbers 0 (docs f)) settled.texts settled.lists facts.indexed facts.fair spaces p part o.items nth put_so
 
   pub are_in_common : (order : List UnitItems) → PartsPut s (length (docs f)) 0 s.plan.now.partials order → AreInCommon f k order
   are_in_common order put =

@@ -177,8 +177,8 @@ module _ (f : RunFacts) (t : TextsAt) (k : EntryTable) (facts : AreFacts f) (lis
           (subst (λ (w : List TopSpaces). IsPart s.rows.now w (map (λ (y : Top). y.number) part.tops) o.items) settled.of_tops put)
 
       new : NewNames (units f) part o.items
-      new = new_items (docs f) f.indexes f.scope (rule f)
-          (file_numbers 0 (docs f)) settled.texts settled.lists facts.indexed facts.alike facts.choice
+      new = new_items (docs f) f.indexes (rule f)
+          (file_numbers 0 (docs f)) settled.texts settled.lists facts.indexed facts.fair
           spaces p part o.items nth put_so
 
       shows : ShowsUnit mine o.items (partial_unit (move f) p)

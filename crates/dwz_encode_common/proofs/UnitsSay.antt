@@ -45,7 +45,7 @@ module _ (f : RunFacts) (facts : AreFacts f) (p : ℕ) (part : PartialUnit) (nth
   -- the file of such a unit is one that was read
   home_low : (n : ℕ) → part.home ≡ Local n → n < length (docs f)
   home_low n home =
-      let some = (part_is f.scope (units f) (rule f) facts.alike facts.choice (file_numbers 0 (docs f)) p part nth).some in
+      let some = (part_is (units f) (rule f) (file_numbers 0 (docs f)) p part nth).some in
       let r = top_files f facts some.0 (tops_there f facts n p part nth some.0 some.1) in
       let file = top_file f facts n p part nth home some.0 some.1 in
       let low = got_below f.files some.0.file r.x r.has.file in

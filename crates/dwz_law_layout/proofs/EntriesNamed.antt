@@ -10,20 +10,16 @@ use Rattle.dwz_def_tops.specs.Shown.{HaveMains}
 use Rattle.dwz_def_tops.proofs.Members.{From, in_map_from}
 use Rattle.dwz_def_tops.specs.Spots.{EntryName, UnitOf, file_numbers}
 use Rattle.dwz_def_images.specs.Units.{common_units, file_units, out_units}
-use Rattle.dwz_def_images.proofs.FileLemmas.{files_same}
 use Rattle.dwz_def_encoding.specs.Meant.{all_entry_keys}
 use Rattle.dwz_def_encoding.specs.Placing.{FileOut}
 use Rattle.dwz_def_readback.specs.Files.{fitted_by, formed_by}
 use Rattle.dwz_def_readback.specs.Files.{Run, common_fitted, common_forms, common_out, file_forms, file_out, fitted, fitted_if, formed, sources, uses}
-use Rattle.dwz_def_readback.proofs.CommonLemmas.{common_within}
 use Rattle.dwz_def_readback.proofs.NameLemmas.{common_entries, fitted_entries}
-use Rattle.dwz_def_readback.proofs.WithinLemmas.{within}
 use Rattle.dwz_def_readback.proofs.OutOperands.{all_with, unit_with}
 use Rattle.dwz_def_readback.specs.Fewer.{NameOnly}
 use Rattle.dwz_def_readback.proofs.SeenFitted.{fit_kinds, fit_seen, new_kinds, new_seen}
 use Rattle.dwz_def_readback.proofs.SomeFiles.{some_in}
-use Rattle.dwz_law_layout.specs.Facts.{AreFacts, RunFacts, docs, files_written, move, rule, run, units}
-use Rattle.dwz_law_layout.proofs.ReadFiles.{all_placed}
+use Rattle.dwz_law_layout.specs.Facts.{AreFacts, RunFacts, docs, files_written, move, run, units}
 use Rattle.dwz_law_layout.specs.Laid.{written_out}
 use Rattle.dwz_law_layout.proofs.FilesLaid.{some_written}
 use Rattle.dwz_law_layout.proofs.NoUnits.{all, among_all, no_entry}
@@ -62,7 +58,7 @@ module _ (r : Run) where
 
 -- ---- the entries of files
 
-pub entries_of : List (FileOut EntryName) → List EntryName
+unfoldable pub entries_of : List (FileOut EntryName) → List EntryName
 entries_of [] = []
 entries_of (x ∷ files) = all_entry_keys x.units ++ entries_of files
 
@@ -97,7 +93,7 @@ module _ (f : RunFacts) (facts : AreFacts f) where
   number_in n there = some_in (file_numbers 0 (docs f)) (files_written f) (some_written f facts) n there
 
   all_mains : HaveMains (all f facts)
-  all_mains = (files_same f.scope (docs f) (rule f) (all_placed f facts) facts.alike facts.choice).mains
+  all_mains = facts.whole.mains
 
   in_common : (s : EntryName) → In s (all_entry_keys (common_fitted (run f))) → In s names
   in_common s key = entries_in (written_out f) (common_out (run f)) s (inl refl) key
@@ -105,7 +101,7 @@ module _ (f : RunFacts) (facts : AreFacts f) where
   common_only : NameOnly names (common_fitted (run f))
   common_only = record {
     refs = λ e a s there attr ref.
-        elim (common_within f.scope (docs f) (rule f) (all_placed f facts) facts.alike facts.choice f.input e a s (subst (In e) (common_seen (run f)) there) attr ref) [
+        elim (facts.whole.common e a s (subst (In e) (common_seen (run f)) there) attr ref) [
           | inl own ↦ in_common s own
           | inr none ↦ absurd none
         ];
@@ -119,7 +115,7 @@ module _ (f : RunFacts) (facts : AreFacts f) where
       let there : In (file_out (run f) n) (written_out f) = inr (in_map (file_out (run f)) n (files_written f) file_in) in
       record {
         refs = λ e a s seen attr ref.
-            elim (within f.scope (docs f) (rule f) (all_placed f facts) facts.alike facts.choice f.input n e a s (subst (In e) (fitted_seen (run f) n) seen) attr ref) [
+            elim (facts.whole.closed n e a s (subst (In e) (fitted_seen (run f) n) seen) attr ref) [
               | inl own ↦ entries_in (written_out f) (file_out (run f) n) s there own
               | inr common ↦ in_common s common
             ];

@@ -5,7 +5,7 @@ use Rattle.dwz_def_reading.specs.Documents.{DwUnit}
 use Rattle.dwz_def_images.specs.Units.{out_units}
 use Rattle.dwz_def_encoding.specs.Placing.{FileOut}
 use Rattle.dwz_def_readback.specs.Files.{fitted_by, formed_by}
-use Rattle.dwz_def_readback.specs.Files.{common_out, file_forms, file_out, fitted, fitted_if, formed, common_fitted}
+use Rattle.dwz_def_readback.specs.Files.{common_out, file_forms, file_out, fitted_if, common_fitted}
 use Rattle.dwz_encode.specs.Shown.{ShowFiles}
 use Rattle.dwz_law_layout.specs.Fitted.{fitted_file, given_units}
 use Rattle.dwz_law_layout.proofs.FileFits.{files_fit}

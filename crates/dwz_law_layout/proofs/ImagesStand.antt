@@ -18,8 +18,7 @@ use Rattle.dwz_def_plan.specs.Plan.{PartialUnit, image, part_row, partials, stan
 use Rattle.dwz_def_plan.proofs.HomeLemmas.{file_of_top, home_is}
 use Rattle.dwz_def_plan.proofs.PlanLemmas.{are_parts}
 use Rattle.dwz_def_plan.proofs.PartRows.{part_is}
-use Rattle.dwz_def_plan.proofs.StandLemmas.{fair}
-use Rattle.dwz_def_plan.proofs.UserLemmas.{Fair, move_stand, moves_same, moves_self, moving, rep_is, stands_same, used}
+use Rattle.dwz_def_plan.proofs.UserLemmas.{Fair as IsFair, move_stand, moves_same, moves_self, moving, rep_is, stands_same, used}
 use Rattle.dwz_plan.specs.declared.plan.Home.{Home as Place}
 use Rattle.dwz_plan.specs.declared.plan.Home.TheVariants.{Common as InCommon, Local as InOwn, Stay as InUnit}
 use Rattle.dwz_plan.specs.Shows.{IsPlace, PartAt}
@@ -34,6 +33,7 @@ use Rattle.dwz_layout_numbers.proofs.OwnerKeys.{own_keys, top_labelled, tree_top
 use Rattle.dwz_layout_numbers.proofs.OwnerLemmas.{own_name}
 use Rattle.dwz_layout_numbers.proofs.Paths.{paths_of}
 use Rattle.dwz_law_layout.specs.Facts.{AreFacts, RunFacts, docs, move, rule, units}
+use Rattle.dwz_law_layout.proofs.FairLemmas.{is_fair as fair_is}
 use Rattle.dwz_law_layout.proofs.ReadFiles.{all_placed}
 
 -- ---- names
@@ -60,8 +60,8 @@ module _ (f : RunFacts) (facts : AreFacts f) where
   pub old : AreOld (units f)
   old = files_old (docs f) (all_placed f facts)
 
-  is_fair : Fair (units f) (rule f)
-  is_fair = fair f.scope (units f) (rule f) facts.alike facts.choice
+  is_fair : IsFair (units f) (rule f)
+  is_fair = fair_is (units f) (rule f) facts.fair
 
   -- ---- tops that move
 

@@ -13,6 +13,8 @@ pub mod RowsStored
 pub mod Walks
 pub mod ReadFiles
 pub mod FileEntries
+pub mod FairLemmas
+pub mod WholeRuns
 pub mod OwnedEntries
 pub mod ImagesStand
 pub mod EntriesReach
@@ -65,6 +67,7 @@ pub mod EntryNames
 pub mod WrittenUnits
 pub mod NoUnits
 pub mod EntriesNamed
+pub mod SectionsLaid
 pub mod NamesCounted
 pub mod NamesApart
 pub mod FileKnown

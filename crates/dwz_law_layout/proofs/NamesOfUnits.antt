@@ -4,16 +4,17 @@ use Rattle.dwz_def_reading.specs.Lists.{Each, In}
 use Rattle.dwz_def_reading.specs.Pruning.{new_number}
 use Rattle.dwz_def_reading.proofs.ListFacts.{in_left, in_map, in_right}
 use Rattle.dwz_def_reading.specs.Documents.{Compile, Doc, DwUnit, Kind, OfType, Partial, kind_map}
-use Rattle.dwz_def_tops.specs.Alike.{IsAlike, TopScope}
 use Rattle.dwz_def_tops.specs.Spots.{EntryName, FileUnit, Row, rows_of_root, units_of}
 use Rattle.dwz_def_tops.specs.Seen.{IsPartial}
 use Rattle.dwz_def_tops.specs.Shown.{units_keys}
 use Rattle.dwz_def_tops.proofs.Members.{From, in_map_from}
-use Rattle.dwz_def_plan.specs.Homes.{IsChoice, Rule}
+use Rattle.dwz_def_plan.specs.Homes.{Rule}
 use Rattle.dwz_def_plan.specs.Moves.{Move, image_in}
-use Rattle.dwz_def_images.specs.After.{AreOld, ArePlaced, IsKeptUnit, IsNamedBelow, IsNamedUnit, IsNewUnit, Replaces}
+use Rattle.dwz_def_images.specs.After.{AreAfter, AreOld, ArePlaced, IsKeptUnit, IsNamedBelow, IsNamedUnit, IsNewUnit}
 use Rattle.dwz_def_images.specs.Units.{all_units, common_units, file_units, out_units}
-use Rattle.dwz_def_images.proofs.FileLemmas.{replaced}
+use Rattle.dwz_def_images.proofs.FileLemmas.{files_are}
+use Rattle.dwz_def_images.proofs.OldFiles.{files_old}
+use Rattle.dwz_def_images.proofs.OutLemmas.{all_outs}
 use Rattle.dwz_def_encoding.specs.Placing.{FileOut, Forms, fit_unit, fit_units, with_keys}
 use Rattle.dwz_def_encoding.specs.Pruned.{renumbered_unit, renumbered_units}
 use Rattle.dwz_def_readback.specs.Back.{run_of}
@@ -90,19 +91,21 @@ named_by units outs same named u there =
       root = λ p. (let w = v.root (subst IsPartial (sym (ap (λ (x : Head). x.kind) o.is)) p) in (w.0, sym (ap (λ (x : Head). x.root) o.is) ∙ w.1));
     }
 
-module _ (scope : TopScope) (docs : List (Doc ℕ)) (rule : Rule) (placed : Each (λ doc. ArePlaced doc.units) docs) (is : IsAlike scope (units_of docs) rule.alike)
-    (choice : IsChoice (units_of docs) rule)
+module _ (docs : List (Doc ℕ)) (rule : Rule) (placed : Each (λ doc. ArePlaced doc.units) docs)
     (input : Stored) where
   abbrev r : Run
   r = run_of rule docs input
 
-  whole : Replaces (units_of docs) r.move (all_units r.move r.units r.files)
-  whole = replaced scope docs rule placed is choice
+  old : AreOld (units_of docs)
+  old = files_old docs placed
+
+  after : AreAfter r.move (units_of docs) (all_units r.move r.units r.files)
+  after = all_outs (units_of docs) rule r.files (files_are docs)
 
   after_named : (v : DwUnit EntryName) → In v (all_units r.move r.units r.files) → UnitNamed v
-  after_named v there = elim (whole.after.from v there) [
-    | inl new ↦ new_named (units_of docs) r.move whole.old v new
-    | inr kept ↦ kept_named (units_of docs) r.move whole.old v kept
+  after_named v there = elim (after.from v there) [
+    | inl new ↦ new_named (units_of docs) r.move old v new
+    | inr kept ↦ kept_named (units_of docs) r.move old v kept
   ]
 
   pub all_named : (f : FileOut EntryName) → In f (files_out r) → (u : DwUnit EntryName) → In u f.units → UnitNamed u

@@ -8,15 +8,13 @@ use Rattle.dwz_def_images.specs.Units.{all_units, common_units, file_units, out_
 use Rattle.dwz_def_encoding.specs.Placing.{FileOut, lines_bytes, paths_of, texts_bytes, texts_of, units_with}
 use Rattle.dwz_def_encoding.proofs.WriteLengths.{no_lines}
 use Rattle.dwz_def_readback.specs.Files.{file_out}
-use Rattle.dwz_def_readback.proofs.FilesSound.{all_sound}
-use Rattle.dwz_def_readback.proofs.SomeOfRuns.{files_in_run, once_in_run, some_name}
+use Rattle.dwz_def_readback.proofs.SomeOfRuns.{files_in_run, once_in_run}
 use Rattle.dwz_layout.specs.declared.known.EntryTable.{EntryTable}
 use Rattle.dwz_layout.specs.declared.order.UnitItems.{UnitItems}
 use Rattle.dwz_encode.specs.Shown.{Keys, ShowFiles, ShowUnits, unit_count}
 use Rattle.dwz_law_layout.proofs.OrderRefers.{order_refers}
-use Rattle.dwz_law_layout.specs.Facts.{RunFacts, docs, files_written, move, rule, run, units, units_written}
+use Rattle.dwz_law_layout.specs.Facts.{RunFacts, files_written, move, run, units, units_written}
 use Rattle.dwz_law_layout.specs.Named.{keys}
-use Rattle.dwz_law_layout.proofs.ReadFiles.{all_placed}
 use Rattle.dwz_law_layout.specs.Laid.{RunFewLaw, RunOrderLaw, SettledOrderLaw, run_numbers, written_out}
 use Rattle.dwz_law_layout.proofs.EntriesNamed.{common_many, entries_no, entries_of, files_only, fitted_many}
 use Rattle.dwz_law_layout.proofs.FilesFitted.{run_shown}
@@ -24,6 +22,7 @@ use Rattle.dwz_law_layout.proofs.FilesKnown.{run_known}
 use Rattle.dwz_law_layout.proofs.FilesLaid.{all_once, some_written}
 use Rattle.dwz_law_layout.proofs.NamesApart.{entries_many, rows_apart}
 use Rattle.dwz_law_layout.proofs.NamesCounted.{files_counted}
+use Rattle.dwz_law_layout.proofs.SectionsLaid.{names_only}
 use Rattle.dwz_law_layout.proofs.WrittenUnits.{written_units}
 
 -- ---- how many units there are
@@ -73,10 +72,10 @@ run_order f t k orders facts listed read few shows =
     let some = some_written f facts in
     record {
       shows = shows;
-      sound = λ x there. all_sound f.scope (docs f) f.input read (rule f) facts.alike facts.choice few x (files_in_run (run f) (files_written f) some x there);
+      sound = λ x there. facts.whole.sound read few x (files_in_run (run f) (files_written f) some x there);
       apart = once_in_run (run f) (files_written f) some (all_once f facts);
       refer = order_refers (keys f) k orders (written_out f) (rows_apart f facts k (entries_many f t k facts listed) orders) shows
-          (λ x there. some_name f.scope (docs f) (rule f) (all_placed f facts) facts.alike facts.choice f.input (files_written f) some x there)
+          (λ x there. names_only f facts x there)
           (files_counted f k (entries_many f t k facts listed) (entries_of (written_out f)) (entries_no f facts) (unit_count orders) (units_long f k orders shows) 0 orders (written_out f)
           (files_only f facts) shows);
     }

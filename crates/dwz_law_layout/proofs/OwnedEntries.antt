@@ -22,7 +22,6 @@ use Rattle.dwz_graph.specs.Index.{Index}
 use Rattle.dwz_graph.specs.Names.{names_from}
 use Rattle.dwz_graph.proofs.TopNameLemmas.{means_units}
 use Rattle.dwz_graph.specs.Indexed.{first_starts}
-use Rattle.dwz_layout_numbers.specs.OwnerLaws.{AreMoved}
 use Rattle.dwz_layout_numbers.specs.Owners.{IsFileWritten, StandsIn}
 use Rattle.dwz_layout_numbers.proofs.OwnerLemmas.{owned}
 use Rattle.dwz_layout_numbers.proofs.UnitNames.{IsOfUnit, of_unit}
@@ -33,9 +32,6 @@ use Rattle.dwz_law_layout.specs.Listed.{AreListed, TextsAt}
 use Rattle.dwz_law_layout.proofs.FileEntries.{IsHere, names}
 use Rattle.dwz_law_layout.proofs.ReadFiles.{all_placed}
 use Rattle.dwz_law_layout.proofs.Walks.{owners_at}
-
-pub are_moved : (f : RunFacts) → AreFacts f → AreMoved (docs f) (rule f) f.planned (written f) f.commons f.parts f.olds
-are_moved f facts = record { placed = all_placed f facts; scope = f.scope; alike = facts.alike; choice = facts.choice; shows = facts.shows; numbers = facts.numbers }
 
 module _ (f : RunFacts) (t : TextsAt) (k : EntryTable) (facts : AreFacts f) (listed : AreListed f t k) (n : ℕ) (x : File) (index : Index) (o : IsHere f k n x index) where
   abbrev raw : List RawUnit
@@ -107,7 +103,7 @@ module _ (f : RunFacts) (t : TextsAt) (k : EntryTable) (facts : AreFacts f) (lis
       let number = u.is_number in
       let same : index.starts.unit + r.unit ≡ u.number = ap (λ (v : Starts). v.unit + r.unit) (sym o.starts_same) ∙ sym number in
       let is = w.is kept.0 (ap (slice_get f.olds) same ∙ kept.1) in
-      let stands = owned (docs f) (rule f) f.planned (written f) f.commons f.parts f.olds (are_moved f facts)
+      let stands = owned (docs f) (rule f) f.planned (written f) f.commons f.parts f.olds facts.moved
       n index o.start o.found is_written (around_of o.bytes raw) raw means i r s row_is name_found fixed
       kept.0 (ap (slice_get f.olds) (sym number) ∙ kept.1) in
       subst (StandsIn (units_written f) s) (sym (owner ∙ is)) stands

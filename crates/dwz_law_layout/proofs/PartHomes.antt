@@ -65,8 +65,8 @@ pub record ComesFrom (f : RunFacts) (part : PartialUnit) : Type 0 where
 pub comes_from : (f : RunFacts) → AreFacts f → (p : ℕ) (part : PartialUnit) → Nth 0 (move f).parts p part → ComesFrom f part
 unfolding changes
 comes_from f facts p part nth =
-    let some = (part_is f.scope (units f) (rule f) facts.alike facts.choice (file_numbers 0 (docs f)) p part nth).some in
-    let own = part_tops f.scope (units f) (rule f) facts.alike facts.choice (file_numbers 0 (docs f)) p part nth some.0 some.1 in
+    let some = (part_is (units f) (rule f) (file_numbers 0 (docs f)) p part nth).some in
+    let own = part_tops (units f) (rule f) facts.fair (file_numbers 0 (docs f)) p part nth some.0 some.1 in
     let u = of_unit (units f) some.0 own.there in
     let at = subst (λ (i : ℕ). Nth 0 (units f) i u.unit) own.unit u.nth in
     let same = eq-eqb some.0.file u.unit.file u.file in
@@ -88,15 +88,15 @@ home_number files n Stay moves lt = absurd cc
 
 module _ (f : RunFacts) (facts : AreFacts f) (n : ℕ) (p : ℕ) (part : PartialUnit) (nth : Nth 0 (move f).parts p part) where
   pub home_moves : is_home part.home ≡ true
-  home_moves = (part_is f.scope (units f) (rule f) facts.alike facts.choice (file_numbers 0 (docs f)) p part nth).moves
+  home_moves = (part_is (units f) (rule f) (file_numbers 0 (docs f)) p part nth).moves
 
   pub tops_there : (t : Top) → In t part.tops → In t (tops_of (units f))
-  tops_there t is = (part_tops f.scope (units f) (rule f) facts.alike facts.choice (file_numbers 0 (docs f)) p part nth t is).there
+  tops_there t is = (part_tops (units f) (rule f) facts.fair (file_numbers 0 (docs f)) p part nth t is).there
 
   -- the unit that they are of is one of the file, so they are
   pub tops_of_file : ((u : FileUnit EntryName) → Nth 0 (units f) (first_unit part.tops) u → u.file ≡ n) → (t : Top) → In t part.tops → t.file ≡ n
   tops_of_file first t is =
-      let own = part_tops f.scope (units f) (rule f) facts.alike facts.choice (file_numbers 0 (docs f)) p part nth t is in
+      let own = part_tops (units f) (rule f) facts.fair (file_numbers 0 (docs f)) p part nth t is in
       let u = of_unit (units f) t own.there in
       u.file ∙ first u.unit (subst (λ (i : ℕ). Nth 0 (units f) i u.unit) own.unit u.nth)
 
@@ -104,7 +104,7 @@ module _ (f : RunFacts) (facts : AreFacts f) (n : ℕ) (p : ℕ) (part : Partial
     pub first_file : (u : FileUnit EntryName) → Nth 0 (units f) (first_unit part.tops) u → u.file ≡ n
     first_file u at =
         elim (used_homes (rule f) (units f) (file_numbers 0 (docs f)) p part nth (first_unit part.tops) u at
-        (first_uses f.scope (units f) (rule f) facts.alike facts.choice (file_numbers 0 (docs f)) p part nth)) [
+        (first_uses (units f) (rule f) facts.fair (file_numbers 0 (docs f)) p part nth)) [
           | inl e ↦ absurd (let w : Common ≡ Local n = sym e ∙ home in cc)
           | inr e ↦ (let w : Local u.file ≡ Local n = sym e ∙ home in cc)
         ]

@@ -131,7 +131,7 @@ module _ (f : RunFacts) (t : TextsAt) (k : EntryTable) (facts : AreFacts f) (lis
           (subst (λ (w : List TopSpaces). IsPart s.rows.now w (map (λ (y : Top). y.number) part.tops) o.items) settled.of_tops put)
 
       new : NewNames (units f) part o.items
-      new = new_items (docs f) f.indexes f.scope (rule f) (file_numbers 0 (docs f)) settled.texts settled.lists facts.indexed facts.alike facts.choice spaces p part o.items nth put_so
+      new = new_items (docs f) f.indexes (rule f) (file_numbers 0 (docs f)) settled.texts settled.lists facts.indexed facts.fair spaces p part o.items nth put_so
 
       known_in : KnowsOwners (keys f) k F here o ft → KnowsFiles k F o ft → KnowsIn (keys f) k here o ft numbers F
       known_in owners files = record {

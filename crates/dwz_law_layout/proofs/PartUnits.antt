@@ -3,28 +3,28 @@ use Rattle.std.proofs.Common.{◌≡◌, ℕ, ◌≤◌, true, List, sym, ap, su
 use Rattle.dwz_def_reading.specs.Lists.{In}
 use Rattle.dwz_def_tops.specs.Lists.{Nth}
 use Rattle.dwz_def_tops.proofs.Members.{each_in, nth_in}
-use Rattle.dwz_def_tops.specs.Alike.{IsAlike, TopScope}
 use Rattle.dwz_def_tops.specs.Spots.{EntryName, FileUnit, Top, tops_of}
-use Rattle.dwz_def_tops.proofs.AlikePer.{alike_per}
 use Rattle.dwz_def_tops.proofs.Tops.{tops_rise, unit_of}
 use Rattle.dwz_def_tops.proofs.TopOrder.{units_rise}
-use Rattle.dwz_def_plan.specs.Homes.{IsChoice, Rule, is_home, moves, rep, users}
+use Rattle.dwz_def_plan.specs.Homes.{Rule, is_home, moves, rep, users}
 use Rattle.dwz_def_plan.specs.IsPlan.{IsPart}
 use Rattle.dwz_def_plan.specs.Moves.{first_unit}
 use Rattle.dwz_def_plan.specs.Plan.{PartialUnit, partials}
 use Rattle.dwz_def_plan.proofs.PlanLemmas.{are_parts}
-use Rattle.dwz_def_plan.proofs.UserLemmas.{Fair, move_stand, moves_self, rep_is, used, used_by}
+use Rattle.dwz_def_plan.proofs.UserLemmas.{Fair as IsFair, move_stand, moves_self, rep_is, used, used_by}
 use Rattle.dwz_def_readback.proofs.OriginLemmas.{first_there, ordered}
+use Rattle.dwz_law_layout.specs.Fair.{Fair}
 use Rattle.dwz_law_layout.specs.New.{MovesFrom, TopUnitLaw}
+use Rattle.dwz_law_layout.proofs.FairLemmas.{is_fair}
 
 -- ---- the tops of a partial unit
 
-module _ (scope : TopScope) (units : List (FileUnit EntryName)) (rule : Rule) (is : IsAlike scope units rule.alike) (choice : IsChoice units rule) (files : List ℕ) where
-  fair : Fair units rule
-  fair = record { per = alike_per scope units rule.alike is; choice = choice }
+pub part_is : (units : List (FileUnit EntryName)) (rule : Rule) (files : List ℕ) (n : ℕ) (part : PartialUnit) → Nth 0 (partials rule units files) n part → IsPart rule units part
+part_is units rule files n part nth = each_in (IsPart rule units) part (partials rule units files) (are_parts rule units files) (nth_in 0 (partials rule units files) n part nth)
 
-  pub part_is : (n : ℕ) (part : PartialUnit) → Nth 0 (partials rule units files) n part → IsPart rule units part
-  part_is n part nth = each_in (IsPart rule units) part (partials rule units files) (are_parts rule units files) (nth_in 0 (partials rule units files) n part nth)
+module _ (units : List (FileUnit EntryName)) (rule : Rule) (is : Fair units rule) (files : List ℕ) where
+  fair : IsFair units rule
+  fair = is_fair units rule is
 
   -- a top that stands for those alike to it is of the first unit that has one
   first_user : (t : Top) → In t (tops_of units) → moves rule units t.number ≡ true → rep rule.alike units t.number ≡ t.number → (u : ℕ) → In u (users rule.alike units t.number) → t.unit ≤ u
@@ -45,7 +45,7 @@ module _ (scope : TopScope) (units : List (FileUnit EntryName)) (rule : Rule) (i
 
   pub part_tops : (n : ℕ) (part : PartialUnit) → Nth 0 (partials rule units files) n part → (t : Top) → In t part.tops → MovesFrom rule units (first_unit part.tops) t
   part_tops n part nth t there =
-      let p = part_is n part nth in
+      let p = part_is units rule files n part nth in
       let own = (p.tops t).0 there in
       let moved : moves rule units t.number ≡ true = ap is_home own.home ∙ p.moves in
       let o = first_there part.tops t there in
@@ -55,7 +55,7 @@ module _ (scope : TopScope) (units : List (FileUnit EntryName)) (rule : Rule) (i
 
   pub first_uses : (n : ℕ) (part : PartialUnit) → Nth 0 (partials rule units files) n part → In (first_unit part.tops) part.users
   first_uses n part nth =
-      let p = part_is n part nth in
+      let p = part_is units rule files n part nth in
       let t = p.some.0 in
       let own = (p.tops t).0 p.some.1 in
       let moved : moves rule units t.number ≡ true = ap is_home own.home ∙ p.moves in

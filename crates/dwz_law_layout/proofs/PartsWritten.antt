@@ -77,7 +77,7 @@ module _ (f : RunFacts) (t : TextsAt) (k : EntryTable) (facts : AreFacts f) (lis
     what_fixed place depth Root is = absurd is
     what_fixed place depth Whole is = absurd is
     what_fixed place depth (ATopOf top) is =
-        let own = part_tops f.scope (units f) (rule f) facts.alike facts.choice (file_numbers 0 (docs f)) p part nth is.0 is.1 in
+        let own = part_tops (units f) (rule f) facts.fair (file_numbers 0 (docs f)) p part nth is.0 is.1 in
         let read = top_read f facts t k listed n x index o is.0 own.there (of_file is.0 is.1) in
         let within = tree_within f k n x index o (knows_file f t k facts listed n bytes x index h).rows depth is.0 (labelled f facts is.0 own.there) read in
         let slots = tree_slots k depth (top_row k is.0.number) in

@@ -14,7 +14,7 @@ use Rattle.dwz_def_images.specs.After.{ArePlaced}
 use Rattle.dwz_def_readback.proofs.ReadPlaces.{read_from}
 use Rattle.dwz_unit.specs.Rows.{EntryRow, rows_of, units_of}
 use Rattle.dwz_graph.specs.declared.file.File.{File}
-use Rattle.dwz_graph.specs.Files.{AreRead, HasFile, HasRead}
+use Rattle.dwz_graph.specs.Files.{AreKept, AreRead, HasFile, HasRead, docs_of}
 use Rattle.dwz_graph.proofs.GraphLemmas.{files_read}
 use Rattle.dwz_layout_order.proofs.FileWalk.{first_doc}
 use Rattle.dwz_law_layout.proofs.RowsStored.{rows_stored}
@@ -42,9 +42,12 @@ placed_from l n (b ∷ contents) (y ∷ files) left said h m are =
     subst (λ (w : List (Doc ℕ)). Each (λ doc. ArePlaced doc.units) w) r.2
     (first.placed, placed_from (limits_after l b (units_of y.units)) (suc n) contents files left r.0 h.1 r.1 are.1)
 
+pub files_placed : (contents : List (List ℕ)) (files : List File) → AreKept contents files → Each AreBytes contents → Each (λ doc. ArePlaced doc.units) (docs_of contents)
+files_placed contents files kept bytes =
+    placed_from no_files_before 0 contents files kept.end (docs_of contents) kept.are (files_read contents files kept.end kept.are) bytes
+
 pub all_placed : (f : RunFacts) → AreFacts f → Each (λ doc. ArePlaced doc.units) (docs f)
-all_placed f facts =
-    placed_from no_files_before 0 f.contents f.files facts.kept.end (docs f) facts.kept.are (files_read f.contents f.files facts.kept.end facts.kept.are) facts.bytes
+all_placed f facts = files_placed f.contents f.files facts.kept facts.bytes
 
 -- ---- values
 

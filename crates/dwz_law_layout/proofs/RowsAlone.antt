@@ -6,9 +6,8 @@ use Rattle.std.proofs.lemmas.Option.{slice_get-get_or}
 use Rattle.dwz_def_reading.specs.Lists.{Each, In}
 use Rattle.dwz_def_reading.proofs.ListFacts.{got_in}
 use Rattle.dwz_def_reading.specs.Documents.{Doc}
-use Rattle.dwz_def_tops.specs.Alike.{IsAlike, TopScope}
-use Rattle.dwz_def_tops.specs.Spots.{EntryName, PartialOf, UnitOf, units_of}
-use Rattle.dwz_def_plan.specs.Homes.{IsChoice, Rule}
+use Rattle.dwz_def_tops.specs.Spots.{EntryName, PartialOf, UnitOf}
+use Rattle.dwz_def_plan.specs.Homes.{Rule}
 use Rattle.dwz_def_images.specs.After.{ArePlaced}
 use Rattle.dwz_def_encoding.specs.Placing.{FileOut}
 use Rattle.dwz_def_readback.specs.Back.{run_of}
@@ -44,8 +43,7 @@ module _ (docs : List (Doc ℕ)) where
     by (inr past) = absurd (subst IsEntryName (e ∙ get_or_past (all_names docs) n (UnitOf 0) past) (is_entry m lt))
     by (inl less) = one_entry docs (name_at n) m n (found m lt ∙ ap (λ (s : EntryName). Some s) e) (found n less)
 
-module _ (scope : TopScope) (docs : List (Doc ℕ)) (rule : Rule) (placed : Each (λ doc. ArePlaced doc.units) docs) (is : IsAlike scope (units_of docs) rule.alike)
-    (choice : IsChoice (units_of docs) rule)
+module _ (docs : List (Doc ℕ)) (rule : Rule) (placed : Each (λ doc. ArePlaced doc.units) docs)
     (input : Stored) (keys : Keys EntryName) (k : EntryTable) (order : List (List UnitItems)) (files : List (FileOut EntryName)) (are : KeysOfNames docs keys) (many : length k.owners.items ≡ length
     (all_names docs))
     (into : (f : FileOut EntryName) → In f files → In f (files_out (run_of rule docs input))) where
@@ -58,9 +56,9 @@ module _ (scope : TopScope) (docs : List (Doc ℕ)) (rule : Rule) (placed : Each
   pub rows_apart : RowsApart keys k order files
   rows_apart = record {
     rows = λ m n lt written e. one_row docs m n (less m lt) (sym (are.row m) ∙ e ∙ are.row n);
-    units = λ m f u lt f_in u_in e. unit_or_entry u.at (all_named scope docs rule placed is choice input f (into f f_in) u u_in).at (subst IsEntryName e (row_entry m lt));
+    units = λ m f u lt f_in u_in e. unit_or_entry u.at (all_named docs rule placed input f (into f f_in) u u_in).at (subst IsEntryName e (row_entry m lt));
     roots = λ m f u lt f_in u_in partial e.
-        (let root = (all_named scope docs rule placed is choice input f (into f f_in) u u_in).root partial in
+        (let root = (all_named docs rule placed input f (into f f_in) u u_in).root partial in
         subst IsEntryName (e ∙ root.1) (row_entry m lt));
     chained = λ m unit chain depth lt e. subst IsEntryName (e ∙ (are.chained unit chain depth).1) (row_entry m lt);
     imports = λ m unit part lt e. subst IsEntryName (e ∙ (are.import unit part).1) (row_entry m lt);

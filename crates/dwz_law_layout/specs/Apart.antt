@@ -2,10 +2,9 @@
 use Rattle.std.specs.Prelude.{◌≡◌, ℕ, List, length, slice_index_or}
 use Rattle.dwz_def_reading.specs.Lists.{Each, In}
 use Rattle.dwz_def_reading.specs.Documents.{Doc, DwUnit}
-use Rattle.dwz_def_tops.specs.Alike.{IsAlike, TopScope}
-use Rattle.dwz_def_tops.specs.Spots.{EntryName, Import, InChain, InType, PartialOf, PartialRoot, RootOf, SpaceAt, UnitOf, Within, units_of}
+use Rattle.dwz_def_tops.specs.Spots.{EntryName, Import, InChain, InType, PartialOf, PartialRoot, RootOf, SpaceAt, UnitOf, Within}
 use Rattle.dwz_def_tops.specs.Seen.{IsPartial}
-use Rattle.dwz_def_plan.specs.Homes.{IsChoice, Rule}
+use Rattle.dwz_def_plan.specs.Homes.{Rule}
 use Rattle.dwz_def_images.specs.After.{ArePlaced}
 use Rattle.dwz_def_encoding.specs.Placing.{FileOut}
 use Rattle.dwz_def_readback.specs.Back.{run_of}
@@ -41,8 +40,7 @@ pub record UnitNamed (u : DwUnit EntryName) : Type 0 where
 
 abbrev pub UnitNameLaw : Type 0
 UnitNameLaw =
-    (scope : TopScope) (docs : List (Doc ℕ)) (rule : Rule) → Each (λ doc. ArePlaced doc.units) docs
-    → IsAlike scope (units_of docs) rule.alike → IsChoice (units_of docs) rule
+    (docs : List (Doc ℕ)) (rule : Rule) → Each (λ doc. ArePlaced doc.units) docs
     → (input : Stored) (f : FileOut EntryName) → In f (files_out (run_of rule docs input)) → (u : DwUnit EntryName) → In u f.units
     → UnitNamed u
 
@@ -55,8 +53,7 @@ pub record KeysOfNames (docs : List (Doc ℕ)) (keys : Keys EntryName) : Type 0 
 -- then entries have names of their own, whatever is written
 abbrev pub RowsApartLaw : Type 0
 RowsApartLaw =
-    (scope : TopScope) (docs : List (Doc ℕ)) (rule : Rule) → Each (λ doc. ArePlaced doc.units) docs
-    → IsAlike scope (units_of docs) rule.alike → IsChoice (units_of docs) rule
+    (docs : List (Doc ℕ)) (rule : Rule) → Each (λ doc. ArePlaced doc.units) docs
     → (input : Stored) (keys : Keys EntryName) (k : EntryTable) (order : List (List UnitItems)) (files : List (FileOut EntryName))
     → KeysOfNames docs keys → length k.owners.items ≡ length (all_names docs)
     → ((f : FileOut EntryName) → In f files → In f (files_out (run_of rule docs input))) → RowsApart keys k order files

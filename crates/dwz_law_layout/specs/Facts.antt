@@ -5,11 +5,8 @@ use Rattle.dwz_def_reading.specs.Values.{AreBytes}
 use Rattle.dwz_def_reading.specs.Documents.{Doc, DwUnit}
 use Rattle.dwz_def_reading.specs.Files.{around_of}
 use Rattle.dwz_def_reading.specs.Lists.{Each}
-use Rattle.dwz_def_tops.specs.Alike.{IsAlike, TopScope}
-use Rattle.dwz_def_tops.specs.Deciding.{alike_test}
 use Rattle.dwz_def_tops.specs.Spots.{EntryName, FileUnit, file_numbers, units_of}
-use Rattle.dwz_def_plan.specs.Gain.{gain_rule}
-use Rattle.dwz_def_plan.specs.Homes.{IsChoice, Rule}
+use Rattle.dwz_def_plan.specs.Homes.{Rule}
 use Rattle.dwz_def_plan.specs.Moves.{Move}
 use Rattle.dwz_def_images.specs.Units.{changes}
 use Rattle.dwz_def_readback.specs.Back.{run_of}
@@ -21,17 +18,21 @@ use Rattle.dwz_graph.specs.declared.file.File.{File}
 use Rattle.dwz_graph.specs.Files.{AreKept, HasRead, docs_of}
 use Rattle.dwz_graph.specs.Index.{Index}
 use Rattle.dwz_graph.specs.Indexed.{AreIndexes}
-use Rattle.dwz_layout_numbers.specs.Names.{all_names}
+use Rattle.dwz_layout_numbers.specs.Names.{AreTopEntries, all_names}
+use Rattle.dwz_layout_numbers.specs.OwnerLaws.{AreMoved}
 use Rattle.dwz_layout_numbers.specs.Owners.{AreUnitNumbers, all_written, move_of}
+use Rattle.dwz_layout_numbers.specs.Images.{IsPlanned}
+use Rattle.dwz_law_layout.specs.Fair.{Fair}
 use Rattle.dwz_law_layout.specs.Knows.{FileRead}
+use Rattle.dwz_law_layout.specs.Whole.{AreWhole}
 
--- Files as they were read, with their indexes: which of them share, how they are stored, their plan; how many units the common file has,
--- and the numbers of partial units and of old ones among all units that are written.
+-- Files as they were read, with their indexes: by which rule their tops move, how they are stored, their plan; how many units the common file
+-- has, and the numbers of partial units and of old ones among all units that are written.
 pub record RunFacts : Type 0 where
   pub contents : List (List ℕ)
   pub files : List File
   pub indexes : List Index
-  pub scope : TopScope
+  pub rule : Rule
   pub input : Stored
   pub planned : Planned
   pub commons : ℕ
@@ -45,9 +46,8 @@ docs f = docs_of f.contents
 abbrev pub units : RunFacts → List (FileUnit EntryName)
 units f = units_of (docs f)
 
--- alike tops move whose groups gain
 abbrev pub rule : RunFacts → Rule
-rule f = gain_rule (alike_test f.scope (units f)) (units f)
+rule f = f.rule
 
 abbrev pub move : RunFacts → Move
 move f = move_of (rule f) (docs f)
@@ -89,14 +89,17 @@ IsStoredSo f =
     (number : ℕ) (bytes : List ℕ) (x : File) (index : Index) → HasFile f number bytes x index
     → (f.input.bytes number ≡ bytes) × (f.input.raw number ≡ raw_units x.units)
 
--- The files were read, and these are their indexes, their plan and the numbers of their units.
+-- The files were read, and these are their indexes, their plan and the numbers of their units. The rule is fair, what is written is whole,
+-- and it is known what owns entries, and which stand for which.
 pub record AreFacts (f : RunFacts) : Type 0 where
   pub bytes : Each AreBytes f.contents
   pub kept : AreKept f.contents f.files
   pub indexed : AreIndexes (docs f) f.indexes
   pub stored : IsStoredSo f
-  pub alike : IsAlike f.scope (units f) (rule f).alike
-  pub choice : IsChoice (units f) (rule f)
+  pub fair : Fair (units f) (rule f)
+  pub whole : AreWhole (docs f) (run f)
+  pub moved : AreMoved (docs f) (rule f) f.planned (written f) f.commons f.parts f.olds
+  pub images : (tops : List ℕ) → AreTopEntries (docs f) tops → IsPlanned (docs f) (rule f) f.planned tops
   pub shows : ShowsPlan (rule f) (units f) (length (docs f)) f.planned
   pub numbers : AreUnitNumbers (move f) (units f) (written f) f.commons f.parts f.olds
   pub few : length (all_names (docs f)) ≤ 2 ^ 24

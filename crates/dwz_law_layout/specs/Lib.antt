@@ -1,5 +1,7 @@
 pub mod Knows
 pub mod Fitted
+pub mod Fair
+pub mod Whole
 pub mod Facts
 pub mod Listed
 pub mod Named

@@ -4,7 +4,6 @@ use Rattle.std.specs.List.{range_with_len}
 use Rattle.dwz_def_reading.specs.Lists.{Each, In}
 use Rattle.dwz_def_reading.specs.Documents.{Doc}
 use Rattle.dwz_def_tops.specs.Lists.{Nth}
-use Rattle.dwz_def_tops.specs.Alike.{IsAlike, TopScope}
 use Rattle.dwz_def_tops.specs.Spots.{EntryName, FileUnit, Top, tops_of, units_of}
 use Rattle.dwz_graph.specs.Index.{Index}
 use Rattle.dwz_graph.specs.Indexed.{AreIndexes}
@@ -14,7 +13,7 @@ use Rattle.dwz_layout_items.specs.declared.order.ItemKind.TheVariants.{InChain, 
 use Rattle.dwz_layout_items.specs.declared.partial.SpaceRow.{SpaceRow}
 use Rattle.dwz_layout_items.specs.declared.partial.TopSpaces.{TopSpaces}
 use Rattle.dwz_layout_items.specs.Chains.{Up, inner_at}
-use Rattle.dwz_def_plan.specs.Homes.{Common, IsChoice, Local, Rule, moves}
+use Rattle.dwz_def_plan.specs.Homes.{Common, Local, Rule, moves}
 use Rattle.dwz_def_plan.specs.Moves.{first_unit}
 use Rattle.dwz_def_plan.specs.Plan.{PartialUnit, partials, stand_in}
 use Rattle.dwz_plan.specs.declared.plan.Home.TheVariants.{Stay as InUnit}
@@ -23,6 +22,7 @@ use Rattle.dwz_plan.specs.Shows.{ShowsPlan}
 use Rattle.dwz_layout_order.specs.Lists.{all_spaces, all_tops, rows_from, spaces_at}
 use Rattle.dwz_layout_order.specs.Parts.{IsPart}
 use Rattle.dwz_layout_order.specs.Shown.{KnowsSpaces}
+use Rattle.dwz_law_layout.specs.Fair.{Fair}
 use Rattle.dwz_law_layout.specs.Items.{RootThen}
 use Rattle.dwz_law_layout.specs.Old.{IsSpaceIn}
 
@@ -38,16 +38,14 @@ pub record MovesFrom (rule : Rule) (units : List (FileUnit EntryName)) (i : ℕ)
 -- the tops of a partial unit are all of the unit of the first of them
 abbrev pub PartTopsLaw : Type 0
 PartTopsLaw =
-    (scope : TopScope) (units : List (FileUnit EntryName)) (rule : Rule) → IsAlike scope units rule.alike → IsChoice units rule
-    → (files : List ℕ)
+    (units : List (FileUnit EntryName)) (rule : Rule) → Fair units rule → (files : List ℕ)
     → (n : ℕ) (part : PartialUnit) → Nth 0 (partials rule units files) n part → (t : Top) → In t part.tops
     → MovesFrom rule units (first_unit part.tops) t
 
 -- which is one of its users
 abbrev pub FirstUnitLaw : Type 0
 FirstUnitLaw =
-    (scope : TopScope) (units : List (FileUnit EntryName)) (rule : Rule) → IsAlike scope units rule.alike → IsChoice units rule
-    → (files : List ℕ)
+    (units : List (FileUnit EntryName)) (rule : Rule) → Fair units rule → (files : List ℕ)
     → (n : ℕ) (part : PartialUnit) → Nth 0 (partials rule units files) n part → In (first_unit part.tops) part.users
 
 -- a top is of the file of its unit
@@ -112,9 +110,8 @@ NewNames units part items = RootThen (IsOfNew units part) items
 
 abbrev pub NewItemsLaw : Type 0
 NewItemsLaw =
-    (docs : List (Doc ℕ)) (indexes : List Index) (scope : TopScope) (rule : Rule) (files : List ℕ) (texts lists : List ℕ)
-    → AreIndexes docs indexes
-    → IsAlike scope (units_of docs) rule.alike → IsChoice (units_of docs) rule
+    (docs : List (Doc ℕ)) (indexes : List Index) (rule : Rule) (files : List ℕ) (texts lists : List ℕ)
+    → AreIndexes docs indexes → Fair (units_of docs) rule
     → KnowsSpaces (units_of docs) (rows_of_spaces indexes) texts lists (all_tops indexes)
     → (n : ℕ) (part : PartialUnit) (items : List Item) → Nth 0 (partials rule (units_of docs) files) n part
     → IsPart (rows_of_spaces indexes) (spaces_of_tops lists indexes) (map (λ t. t.number) part.tops) items

@@ -3,6 +3,8 @@
 
 ghost use Rattle.dwz_law_layout.specs.NamedLaws.{EntryNamesLaw, KnownLaw, ReferencesLaw, SelfNamesLaw};
 ghost use Rattle.dwz_law_layout.specs.OwnedLaws.{CommonPartsLaw, CommonReachedLaw, FilePartsLaw, FileReachedLaw, OwnedLaw, PartsLaw};
+ghost use Rattle.dwz_law_layout.specs.Fair.{FairLaw};
+ghost use Rattle.dwz_law_layout.specs.Whole.{WholeLaw};
 ghost use Rattle.dwz_law_layout.specs.Items.{KeptItemsLaw, PartItemsLaw};
 ghost use Rattle.dwz_law_layout.specs.New.{FirstUnitLaw, NewItemsLaw, PartPlaceLaw, PartTopsLaw, StayPlaceLaw, TopUnitLaw, UsedHomeLaw, WaysLaw};
 ghost use Rattle.dwz_law_layout.specs.Old.{OldItemsLaw, SpaceLaw};
@@ -14,6 +16,13 @@ ghost use Rattle.dwz_law_layout.specs.ShownKept.{KeptKnownLaw};
 ghost use Rattle.dwz_law_layout.specs.ShownParts.{CommonKnownLaw, PartsKnownLaw};
 ghost use Rattle.dwz_law_layout.specs.Laid.{NoneKnownLaw, RunFewLaw, RunFittedLaw, RunKnownLaw, RunOrderLaw, RunShownLaw, SettledOrderLaw};
 ghost use Rattle.dwz_law_layout.specs.Laid.{RunLaidLaw, RunPlacesLaw, RunRootsLaw, RunSelfLaw};
+
+/// A rule that finds tops alike exactly where they are is fair, if its choice is as it is asked for. And what is written by it is whole: no
+/// name stands twice there, and each reference names an entry of its file or of the common one (DWARF 5, 7.5.5).
+pub fn rule_laws()
+    ensures fair { FairLaw }
+    ensures whole { WholeLaw }
+{}
 
 /// Of each file that was read its entries are known, and each value as the file stores it. Its references lead to what stands for their
 /// targets after. The name of an entry's number among all is that of its place; where it stands for itself, it is what stands for it after.

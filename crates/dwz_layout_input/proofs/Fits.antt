@@ -18,6 +18,7 @@ use Rattle.dwz_layout_order.proofs.FileEntries.{all_entries}
 use Rattle.dwz_layout_order.proofs.FileWalk.{first_doc, is_among}
 use Rattle.dwz_layout_order.proofs.FilesFew.{all_small}
 use Rattle.dwz_layout_numbers.specs.declared.numbers.UnitNumbers.{UnitNumbers}
+use Rattle.dwz_layout_numbers.specs.Images.{tops_from}
 use Rattle.dwz_layout_numbers.specs.Whole.{AreWhole}
 use Rattle.dwz_layout_numbers.proofs.WholeLemmas.{all_inside, top_entries}
 use Rattle.dwz_plan.specs.Planned.{Planned}
@@ -76,7 +77,6 @@ fit contents files indexes plan kept is few homes stands =
 pub made : (f : RunFacts) (numbers : UnitNumbers) → AreFacts f → f.parts ≡ numbers.parts.items → f.olds ≡ numbers.olds.items → f.commons ≡ numbers.commons
     → AreMade f f.files f.indexes f.planned numbers
 made f numbers h parts olds commons =
-    let few_names = h.few in
     record {
       files_are = refl;
       indexes_are = refl;
@@ -85,5 +85,5 @@ made f numbers h parts olds commons =
       olds_are = olds;
       commons_are = commons;
       indexed = h.indexed;
-      planned = record { few = omega arith; scope = f.scope; alike = h.alike; shows = h.shows; tops_are = top_entries (docs f) f.indexes h.indexed (whole f.contents f.files h.kept) };
+      planned = h.images (tops_from 0 f.indexes) (top_entries (docs f) f.indexes h.indexed (whole f.contents f.files h.kept));
     }

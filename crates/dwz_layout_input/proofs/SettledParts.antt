@@ -21,7 +21,7 @@ use Rattle.dwz_layout_order.proofs.FitLemmas.{parts_fit}
 use Rattle.dwz_layout.specs.declared.order.Sort.TheVariants.{Partial as PartialSort}
 use Rattle.dwz_plan.specs.declared.plan.Scope.{Scope}
 use Rattle.dwz_plan.specs.Planned.{Planned}
-use Rattle.dwz_plan_files.specs.Rules.{alike_scope, rule_by}
+use Rattle.dwz_plan_files.specs.Rules.{rule_by}
 use Rattle.dwz_plan_files.proofs.TopMarks.{marks_are}
 use Rattle.dwz_plan_files.specs.Roots.{AreLines}
 use Rattle.dwz_def_images.specs.Units.{changes}
@@ -43,7 +43,7 @@ pub record AreParts (contents : List (List ℕ)) (indexes : List Index) (sharing
   pub written : r.written.items ≡ map (changes (move_of (rule_by sharing (docs_of contents)) (docs_of contents)) (units_of (docs_of contents))) (file_numbers 0 (docs_of contents))
 
 module _ (contents : List (List ℕ)) (indexes : List Index) (sharing : Scope) (r : SettledFiles) (parts : AreParts contents indexes sharing r) (s : Settled) (lends : Lends r s) where
-  settled_with : (f : RunFacts) → IsSettled (facts_with contents indexes (alike_scope sharing) r.planned.plan f) s
+  settled_with : (f : RunFacts) → IsSettled (facts_with contents indexes (rule_by sharing (docs_of contents)) r.planned.plan f) s
   settled_with f =
       let docs = docs_of contents in
       let units = units_of docs in

@@ -12,7 +12,7 @@ use Rattle.dwz_plan.specs.Shows.{ShowsPlan}
 use Rattle.dwz_move_files.specs.Outlines.{IsOutline}
 use Rattle.dwz_plan_files.specs.declared.planned.PlannedFiles.{PlannedFiles}
 use Rattle.dwz_plan_files.specs.Fits.{FitsFiles}
-use Rattle.dwz_plan_files.specs.Rules.{alike_scope, rule_by}
+use Rattle.dwz_plan_files.specs.Rules.{rule_by}
 use Rattle.dwz_layout_numbers.specs.Owners.{AreUnitNumbers}
 use Rattle.dwz_law_layout.specs.Facts.{AreFacts, IsStoredSo, RunFacts, docs, move, units, written}
 use Rattle.dwz_layout_order.specs.declared.orders.Settled.{Settled}
@@ -28,7 +28,7 @@ pub record ArePlanned (sharing : Scope) (docs : List (Doc ℕ)) (p : PlannedFile
 pub record AreFactsOf (contents : List (List ℕ)) (indexes : List Index) (sharing : Scope) (p : PlannedFiles) (f : RunFacts) : Type 0 where
   pub contents_are : f.contents ≡ contents
   pub indexes_are : f.indexes ≡ indexes
-  pub scope_is : f.scope ≡ alike_scope sharing
+  pub rule_is : f.rule ≡ rule_by sharing (docs_of contents)
   pub plan_is : f.planned ≡ p.plan
 
 -- what is settled is lent so

@@ -15,7 +15,7 @@ use Rattle.dwz_graph.specs.declared.file.File.{File}
 use Rattle.dwz_graph.specs.Files.{AreKept, docs_of}
 use Rattle.dwz_layout.specs.declared.known.EntryTable.{EntryTable}
 use Rattle.dwz_layout.specs.declared.order.UnitItems.{UnitItems}
-use Rattle.dwz_layout_input.specs.Rules.{alike_scope}
+use Rattle.dwz_layout_input.specs.Rules.{rule_by}
 use Rattle.dwz_layout_order.specs.declared.orders.Settled.{Settled}
 use Rattle.dwz_law_layout.specs.Facts.{AreFacts, RunFacts, docs, move, run, units}
 use Rattle.dwz_law_layout.specs.Listed.{TextsAt}
@@ -58,7 +58,7 @@ module _ (contents : List (List ℕ)) (files : List File) (prunes : List Bool) (
     contents = contents;
     files = files;
     indexes = a.indexes.now;
-    scope = alike_scope a.settled.scope;
+    rule = rule_by a.settled.scope (docs_of contents);
     input = stored_of contents prunes;
     planned = a.settled.planned.plan;
     commons = j.listed.numbers.commons;
@@ -67,7 +67,7 @@ module _ (contents : List (List ℕ)) (files : List File) (prunes : List Bool) (
   }
 
   theirs : AreTheirs contents a joined
-  theirs = record { contents_are = refl; indexes_are = refl; scope_is = refl; plan_is = refl }
+  theirs = record { contents_are = refl; indexes_are = refl; rule_is = refl; plan_is = refl }
 
   stored : AreStored joined
   stored = record { bytes = j.bytes; kept = j.kept; indexed = j.settled.indexed; stored = are_stored joined prunes j.kept refl }

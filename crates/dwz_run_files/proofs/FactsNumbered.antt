@@ -35,7 +35,7 @@ some_facts contents files indexes sharing p = record {
   contents = contents;
   files = files;
   indexes = indexes;
-  scope = alike_scope sharing;
+  rule = rule_by sharing (docs_of contents);
   input = nothing_stored;
   planned = p.plan;
   commons = 0;
@@ -50,7 +50,7 @@ pub flags_are : FlagsLaw
 flags_are contents files indexes sharing p r s kept lends settled =
     let f = some_facts contents files indexes sharing p in
     let of : AreFactsOf contents indexes sharing p f =
-    record { contents_are = refl; indexes_are = refl; scope_is = refl; plan_is = refl } in
+    record { contents_are = refl; indexes_are = refl; rule_is = refl; plan_is = refl } in
     let docs_many : length (docs_of contents) ≡ length contents =
     sym (files_many contents files kept) ∙ as_many no_files_before 0 contents files kept.end kept.are in
     record {
@@ -67,7 +67,7 @@ NumbersOf f = AreUnitNumbers (move f) (units f) (written f) f.commons f.parts f.
 module _ (contents : List (List ℕ)) (indexes : List Index) (sharing : Scope) (p : PlannedFiles) (f : RunFacts)
     (planned : ArePlanned sharing (docs_of contents) p) (of : AreFactsOf contents indexes sharing p f) where
   abbrev same_facts : RunFacts
-  same_facts = facts_with contents indexes (alike_scope sharing) p.plan f
+  same_facts = facts_with contents indexes (rule_by sharing (docs_of contents)) p.plan f
 
   numbered : (flags : List Bool) (n : UnitNumbers) → flags ≡ written f → AreNumbersOf (docs_of contents) p.plan flags n
       → AreUnitNumbers (move same_facts) (units same_facts) (written same_facts) n.commons n.parts.items n.olds.items

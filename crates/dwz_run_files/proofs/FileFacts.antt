@@ -129,14 +129,7 @@ module _ (f : RunFacts) (w : LaidRun) (m : FileAfter) (is : IsMoved f w m) where
 
   pub is_planned : IsPlanned (docs f) (rule f) plan w.tops.now
   is_planned =
-      let few = facts.few in
-      let theirs : IsPlanned (docs f) (rule f) f.planned (tops_from 0 f.indexes) = record {
-        few = omega arith;
-        scope = f.scope;
-        alike = facts.alike;
-        shows = facts.shows;
-        tops_are = tops;
-      } in
+      let theirs : IsPlanned (docs f) (rule f) f.planned (tops_from 0 f.indexes) = facts.images (tops_from 0 f.indexes) tops in
       subst (λ (p : Planned). IsPlanned (docs f) (rule f) p w.tops.now) is.works.works.plan_is
       (subst (λ (ts : List ℕ). IsPlanned (docs f) (rule f) f.planned ts) (sym is.works.tops_are) theirs)
 

@@ -4,19 +4,15 @@ use Rattle.std.specs.List.{range_with_len}
 use Rattle.std.proofs.lemmas.List.{length-map}
 use Rattle.dwz_model.specs.declared.sections.Sections.{Sections}
 use Rattle.dwz_def_tops.specs.Lists.{Nth}
-use Rattle.dwz_def_tops.specs.Alike.{TopScope}
-use Rattle.dwz_def_tops.specs.Deciding.{alike_test}
-use Rattle.dwz_def_tops.specs.Spots.{units_of}
 use Rattle.dwz_def_tops.proofs.FileNumbers.{numbers_long}
-use Rattle.dwz_def_plan.specs.Gain.{gain_rule}
 use Rattle.dwz_def_plan.specs.Plan.{partials as unit_partials}
 use Rattle.dwz_def_readback.specs.Back.{run_of}
-use Rattle.dwz_def_readback.specs.Files.{Run, Stored}
+use Rattle.dwz_def_readback.specs.Files.{Run}
 use Rattle.dwz_def_output.specs.Written.{stored_of}
 use Rattle.dwz_plan.specs.declared.plan.Scope.{Scope}
 use Rattle.dwz_plan.specs.Shows.{shown_part}
 use Rattle.dwz_plan.proofs.BridgeLemmas.{file_numbers_are}
-use Rattle.dwz_layout_input.specs.Rules.{alike_scope, rule_by}
+use Rattle.dwz_layout_input.specs.Rules.{rule_by}
 use Rattle.dwz_graph.specs.Files.{docs_of}
 use Rattle.dwz_law_layout.specs.Facts.{AreFacts, RunFacts, docs, move, rule, run, units}
 use Rattle.dwz_run_files.specs.declared.prepared.PreparedFiles.{PreparedFiles}
@@ -32,11 +28,6 @@ parts_many f facts =
     ∙ length-map all (shown_part (length (docs f)))
     ∙ ap (λ (numbers : List ℕ). length (unit_partials (rule f) (units f) numbers)) (sym (file_numbers_are 0 (docs f)))
 
--- the run of files in that scope
-abbrev run_with : List (List ℕ) → TopScope → Stored → Run
-run_with contents scope input =
-    run_of (gain_rule (alike_test scope (units_of (docs_of contents))) (units_of (docs_of contents))) (docs_of contents) input
-
 module _ (contents : List (List ℕ)) (prunes : List Bool) (sharing : Scope) (p : PreparedFiles) (f : RunFacts)
     (shares : p.run.settled.scope ≡ sharing) (of : AreFactsOf contents prunes p f) where
   abbrev run_made : Run
@@ -44,8 +35,8 @@ module _ (contents : List (List ℕ)) (prunes : List Bool) (sharing : Scope) (p 
 
   same_run : run f ≡ run_made
   same_run =
-      let scope : f.scope ≡ alike_scope sharing = of.scope_is ∙ ap alike_scope shares in
-      (λ i. run_with (of.contents_are i) (scope i) (of.input_is i))
+      let rule : f.rule ≡ rule_by sharing (docs_of contents) = of.rule_is ∙ ap (λ (s : Scope). rule_by s (docs_of contents)) shares in
+      (λ i. run_of (rule i) (docs_of (of.contents_are i)) (of.input_is i))
 
   pub is_new_common : (common : Option Sections) → IsNewCommon (run f) common → IsNewCommon run_made common
   is_new_common common is = subst (λ (r : Run). IsNewCommon r common) same_run is

@@ -17,7 +17,7 @@ use Rattle.dwz_encode_texts.specs.PrunedFiles.{IsPrunedFile}
 use Rattle.dwz_encode_texts.specs.Used.{order_uses}
 use Rattle.dwz_encode_texts.proofs.NamedUses.{after_uses}
 use Rattle.dwz_run_files.specs.Moved.{AreMoved, ArePruned, IsPrunedIf, pruned_at}
-use Rattle.dwz_layout_input.specs.Rules.{alike_scope}
+use Rattle.dwz_layout_input.specs.Rules.{rule_by}
 use Rattle.dwz_layout_input.specs.Fits.{FitsFiles}
 use Rattle.dwz_run_files.specs.Prepared.{AreRanks, CanLay, firsts_from}
 use Rattle.dwz_run_files.specs.declared.settled.SettledRun.{SettledRun}
@@ -67,7 +67,7 @@ module _ (contents : List (List ℕ)) (files : List File) (prunes : List Bool) (
       theirs = record {
         contents_are = refl;
         input_is = refl;
-        scope_is = ap (λ (x : SettledRun). alike_scope x.settled.scope) (sym of_run);
+        rule_is = ap (λ (x : SettledRun). rule_by x.settled.scope (docs_of contents)) (sym of_run);
         files_are = sym of_files;
         indexes_are = ap (λ (x : SettledRun). x.indexes.now) (sym of_run);
         plan_is = ap (λ (x : SettledRun). x.settled.planned.plan) (sym of_run);

@@ -30,7 +30,6 @@ use Rattle.dwz_encode_texts.proofs.ShownUses.{shown_uses}
 use Rattle.dwz_run_files.specs.Prepared.{ArePrepared, IsOrdered}
 use Rattle.dwz_run_files.specs.Whole.{StandWhole}
 use Rattle.dwz_run_files.specs.MovedLaws.{UsesLaw}
-use Rattle.dwz_run_files.proofs.FilesSay.{formed_say}
 
 -- what is known of the units of a file, the first of which has that number
 abbrev Know : Keys EntryName → EntryTable → ℕ → List UnitItems → Unfitted → Type 0
@@ -84,7 +83,7 @@ module _ (f : RunFacts) (s : Settled) (t : TextsAt) (k : EntryTable) (orders : L
   uses_named few n rank first order is =
       let there : In n (file_numbers 0 (docs f)) =
       (in_filter_from (changes (move f) (units f)) n (file_numbers 0 (docs f)) (got_in (files_written f) rank n is.file)).0 in
-      let say = formed_say f p.facts p.read few n there in
+      let say = p.facts.whole.say p.read few n there in
       subst (λ (w : List ℕ). All (λ used. IsSome (text_at (sources (run f) n).strs used)) w) (sym (uses_are n rank first order is))
       (named_uses (tells (run f) n) (formed (run f) n) say)
 

@@ -30,7 +30,6 @@ pub mod EntryNumbers
 pub mod SlotsThere
 pub mod SameLists
 pub mod CommonMoves
-pub mod FilesSay
 pub mod FilesUse
 pub mod UnitUses
 pub mod FileMoves

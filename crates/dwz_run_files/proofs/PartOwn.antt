@@ -102,7 +102,7 @@ module _ (f : RunFacts) (t : TextsAt) (k : EntryTable) (facts : AreFacts f) (lis
   module _ (p : ℕ) (part : PartialUnit) (nth : Nth 0 (move f).parts p part) (at : part.home ≡ Local n) where
     not_common : (y : Top) → In y part.tops → home (rule f) (units f) y.number ≡ Common → ⊥
     not_common y is goes =
-        let own = ((part_is f.scope (units f) (rule f) facts.alike facts.choice (file_numbers 0 (docs f)) p part nth).tops y).0 is in
+        let own = ((part_is (units f) (rule f) (file_numbers 0 (docs f)) p part nth).tops y).0 is in
         let no : Common ≡ Local n = sym goes ∙ own.home ∙ at in
         cc
 
@@ -110,7 +110,7 @@ module _ (f : RunFacts) (t : TextsAt) (k : EntryTable) (facts : AreFacts f) (lis
     what_apart place depth Root is = absurd is
     what_apart place depth Whole is = absurd is
     what_apart place depth (ATopOf top) is =
-        let own = part_tops f.scope (units f) (rule f) facts.alike facts.choice (file_numbers 0 (docs f)) p part nth is.0 is.1 in
+        let own = part_tops (units f) (rule f) facts.fair (file_numbers 0 (docs f)) p part nth is.0 is.1 in
         let read = top_read f facts t k listed n x index o is.0 own.there (top_file f facts n p part nth at is.0 is.1) in
         let within = tree_within f k n x index o (knows_file f t k facts listed n bytes x index h).rows depth is.0
         (labelled f facts is.0 own.there) read in
@@ -158,8 +158,7 @@ module _ (f : RunFacts) (t : TextsAt) (k : EntryTable) (facts : AreFacts f) (lis
         subst (λ (w : List RowOfSpace). IsPart w (map (spaces_at settled.lists) (all_tops f.indexes)) (numbers_of part) u.items)
         settled.rows_are
         (subst (λ (w : List TopSpaces). IsPart s.rows.now w (numbers_of part) u.items) settled.of_tops put.items) in
-        new_items (docs f) f.indexes f.scope (rule f) (file_numbers 0 (docs f)) settled.texts settled.lists facts.indexed facts.alike
-        facts.choice spaces p part u.items nth put_so
+        new_items (docs f) f.indexes (rule f) (file_numbers 0 (docs f)) settled.texts settled.lists facts.indexed facts.fair spaces p part u.items nth put_so
 
     abbrev Put : ℕ → List PartialUnit → List UnitItems → Type 0
     Put p parts order = PartsPut s n p (map (shown_part (length (docs f))) parts) order

@@ -57,8 +57,7 @@ module _ (f : RunFacts) (t : TextsAt) (k : EntryTable) (facts : AreFacts f) (lis
 
     new : NewNames (units f) part o.items
     new =
-        new_items (docs f) f.indexes f.scope (rule f) (file_numbers 0 (docs f)) settled.texts settled.lists facts.indexed facts.alike
-        facts.choice spaces p part o.items nth put_so
+        new_items (docs f) f.indexes (rule f) (file_numbers 0 (docs f)) settled.texts settled.lists facts.indexed facts.fair spaces p part o.items nth put_so
 
     part_texts : part.home ≡ Local n → Stand f t k facts listed stand n o (partial_unit (move f) p)
     part_texts home =

@@ -89,7 +89,7 @@ module _ (f : RunFacts) (t : TextsAt) (k : EntryTable) (facts : AreFacts f) (lis
     what_here place depth Root is = absurd is
     what_here place depth Whole is = absurd is
     what_here place depth (ATopOf top) is =
-        let own = part_tops f.scope (units f) (rule f) facts.alike facts.choice (file_numbers 0 (docs f)) p part nth is.0 is.1 in
+        let own = part_tops (units f) (rule f) facts.fair (file_numbers 0 (docs f)) p part nth is.0 is.1 in
         let of_file = top_file f facts n p part nth home is.0 is.1 in
         let stands = top_stands f facts t k listed n bytes x index h is.0 own.there of_file in
         let rows = (knows_file f t k facts listed n bytes x index h).rows in

@@ -15,7 +15,7 @@ use Rattle.dwz_plan.specs.declared.plan.Partial.{Partial}
 use Rattle.dwz_plan.specs.declared.plan.Scope.{Scope}
 use Rattle.dwz_plan.specs.Planned.{Planned}
 use Rattle.dwz_layout_input.specs.PlannedFiles.{PlannedFiles}
-use Rattle.dwz_layout_input.specs.Rules.{alike_scope}
+use Rattle.dwz_layout_input.specs.Rules.{rule_by}
 use Rattle.dwz_layout_numbers.specs.declared.numbers.UnitNumbers.{UnitNumbers}
 use Rattle.dwz_layout.specs.declared.known.EntryTable.{EntryTable}
 use Rattle.dwz_law_layout.specs.Facts.{RunFacts, docs, move, units, written}
@@ -73,14 +73,14 @@ docs_many contents a is =
       contents = contents;
       files = [];
       indexes = a.indexes.now;
-      scope = alike_scope a.settled.scope;
+      rule = rule_by a.settled.scope (docs_of contents);
       input = stored_of contents [];
       planned = a.settled.planned.plan;
       commons = 0;
       parts = [];
       olds = [];
     } in
-    let theirs : AreTheirs contents a f = record { contents_are = refl; indexes_are = refl; scope_is = refl; plan_is = refl } in
+    let theirs : AreTheirs contents a f = record { contents_are = refl; indexes_are = refl; rule_is = refl; plan_is = refl } in
     sym (numbers_long 0 (docs f))
     ∙ sym (length-map (file_numbers 0 (docs f)) (changes (move f) (units f)))
     ∙ sym (ap length (is.flags.are f theirs))

@@ -9,7 +9,7 @@ use Rattle.dwz_law_layout.specs.Listed.{TextsAt}
 use Rattle.dwz_run_files.specs.Moved.{pruned_at}
 use Rattle.dwz_run_files.specs.Prepared.{AreRanks, CanLay, firsts_from}
 use Rattle.dwz_layout_input.specs.Fits.{FitsFiles}
-use Rattle.dwz_layout_input.specs.Rules.{alike_scope}
+use Rattle.dwz_layout_input.specs.Rules.{rule_by}
 use Rattle.dwz_graph.specs.Files.{docs_of}
 use Rattle.dwz_encode_texts.specs.declared.pruning.PrunedFile.{PrunedFile}
 use Rattle.dwz_encode_texts.specs.UseLaws.{ArePruned}
@@ -21,7 +21,7 @@ use Rattle.dwz_run_files.specs.Common.{HasTexts}
 pub record AreFactsOf (contents : List (List ℕ)) (prunes : List Bool) (p : PreparedFiles) (f : RunFacts) : Type 0 where
   pub contents_are : f.contents ≡ contents
   pub input_is : f.input ≡ stored_of contents prunes
-  pub scope_is : f.scope ≡ alike_scope p.run.settled.scope
+  pub rule_is : f.rule ≡ rule_by p.run.settled.scope (docs_of contents)
   pub files_are : f.files ≡ p.files.now
   pub indexes_are : f.indexes ≡ p.run.indexes.now
   pub plan_is : f.planned ≡ p.run.settled.planned.plan

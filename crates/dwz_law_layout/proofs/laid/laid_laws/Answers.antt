@@ -1,5 +1,6 @@
 use Rattle.dwz_law_layout.proofs.EntriesPlaced.{run_roots, run_self}
-use Rattle.dwz_law_layout.proofs.FilesLaid.{run_laid, run_places}
+use Rattle.dwz_law_layout.proofs.FilesLaid.{run_places}
+use Rattle.dwz_law_layout.proofs.SectionsLaid.{run_laid}
 use Rattle.dwz_law_layout.proofs.laid.laid_laws.Goals as goal
 
 pub returns-clause-sections : goal.returns-clause-sections

@@ -3,7 +3,7 @@ use Rattle.dwz_law_layout.proofs.Places.{part_places, stay_places, used_homes}
 use Rattle.dwz_law_layout.proofs.laid.plan_laws.Goals as goal
 
 pub returns-clause-tops : goal.returns-clause-tops
-returns-clause-tops c = λ scope units rule alike choice files n part nth t there. part_tops scope units rule alike choice files n part nth t there
+returns-clause-tops c = part_tops
 
 pub returns-clause-places : goal.returns-clause-places
 returns-clause-places c = part_places
@@ -18,4 +18,4 @@ pub returns-clause-units : goal.returns-clause-units
 returns-clause-units c = of_unit
 
 pub returns-clause-first : goal.returns-clause-first
-returns-clause-first c = λ scope units rule alike choice files n part nth. first_uses scope units rule alike choice files n part nth
+returns-clause-first c = first_uses

@@ -36,6 +36,7 @@ use Rattle.dwz_layout.specs.Ways.{if_file, rewrite_of}
 use Rattle.dwz_encode.specs.Shown.{HasRow, IsRow}
 use Rattle.dwz_law_layout.specs.Knows.{FileRead, IsRead, IsText, KnowsTexts, Writes, is_placed, name_attr, texts_in}
 use Rattle.dwz_law_layout.proofs.FormWays.{class_way, is_read, way_is}
+use Rattle.dwz_law_layout.specs.Beside.{Alone}
 use Rattle.dwz_law_layout.specs.Facts.{AreFacts, HasFile, RunFacts, file_read, move, run}
 use Rattle.dwz_law_layout.specs.Listed.{AreListed, TextsAt, entry_row, space_entries}
 use Rattle.dwz_law_layout.specs.Unfitted.{HasChained, KnowsTextsOf, NamesChained, common_unit_forms}
@@ -61,7 +62,7 @@ pub record IsInCommon (k : EntryTable) (o : UnitItems) (n i : ℕ) : Type 0 wher
   pub there : In slot (items_slots k o.sort o.items)
   pub is : slot.origin ≡ OfRow (row n i)
 
-pub record AreInCommon (f : RunFacts) (k : EntryTable) (order : List UnitItems) : Type 0 where
+pub record AreInCommon (f : RunFacts Alone) (k : EntryTable) (order : List UnitItems) : Type 0 where
   pub many : length order ≡ length (common_units (move f))
   pub each : (o : UnitItems) → In o order → (n : ℕ) (bytes : List ℕ) (x : File) (index : Index) → HasFile f n bytes x index
       → (i : ℕ) (r : EntryRow) (d : Node ℕ) → IsRead (file_read f n bytes x) i r d → Writes k o (file_read f n bytes x) i → IsInCommon k o n i
@@ -161,7 +162,7 @@ module _ (ft : UnitForms EntryName) (holder : ft.holder ≡ CommonUnit) (a : Att
 
 -- ---- texts
 
-module _ (f : RunFacts) (t : TextsAt) (sharing : List Bool) (before k : EntryTable) (facts : AreFacts f) (listed : AreListed f t before)
+module _ (f : RunFacts Alone) (t : TextsAt) (sharing : List Bool) (before k : EntryTable) (facts : AreFacts f) (listed : AreListed f t before)
     (has : HasCommon f sharing before k) (order : List UnitItems) (owned : AreInCommon f before order)
     (found : with_all [] (order_texts f.contents before order) ≡ texts (run f)) where
   abbrev give : Origin → List (List ℕ)

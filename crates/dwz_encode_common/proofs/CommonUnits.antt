@@ -35,6 +35,7 @@ use Rattle.dwz_layout.specs.declared.walk.Slot.{Slot}
 use Rattle.dwz_layout.specs.Entries.{items_slots, row}
 use Rattle.dwz_layout.specs.Known.{file_at, no_firsts}
 use Rattle.dwz_law_layout.specs.Knows.{EachFrom, IsRead, KnowsFiles, files_in, firsts_at}
+use Rattle.dwz_law_layout.specs.Beside.{Alone}
 use Rattle.dwz_law_layout.specs.Facts.{AreFacts, HasFile, RunFacts, docs, file_read, move, run}
 use Rattle.dwz_law_layout.specs.Listed.{AreListed, TextsAt, firsts_from, none_before}
 use Rattle.dwz_law_layout.specs.Unfitted.{KnowCommon, common_unit_forms}
@@ -56,7 +57,7 @@ use Rattle.dwz_encode_common.proofs.SharedEntries.{files_many}
 use Rattle.dwz_encode_common.proofs.TextsThere.{in_all, in_flat}
 use Rattle.dwz_encode_common.proofs.WithLists.{firsts_kept, number_with}
 
-module _ (f : RunFacts) (t : TextsAt) (sharing : List Bool) (before k : EntryTable) (facts : AreFacts f) (listed : AreListed f t before)
+module _ (f : RunFacts Alone) (t : TextsAt) (sharing : List Bool) (before k : EntryTable) (facts : AreFacts f) (listed : AreListed f t before)
     (has : HasCommon f sharing before k) (order : List UnitItems) (owned : AreInCommon f before order)
     (texts_found : with_all [] (order_texts f.contents before order) ≡ texts (run f))
     (paths_found : with_all [] (order_paths f.files before order) ≡ paths (run f)) where
@@ -177,7 +178,7 @@ module _ (f : RunFacts) (t : TextsAt) (sharing : List Bool) (before k : EntryTab
   all_known = known order (common_units (move f)) (λ o o_in. o_in) owned.many
 
 -- what is written of the order is owned by its units
-pub all_owned : (f : RunFacts) (before : EntryTable) (order : List UnitItems) → IsCommonOrder f before order → AreInCommon f before order
+pub all_owned : (f : RunFacts Alone) (before : EntryTable) (order : List UnitItems) → IsCommonOrder f before order → AreInCommon f before order
 all_owned f before order is =
     let o = is.ordered in
     let first : order ≡ o.common = cc in

@@ -10,6 +10,7 @@ use Rattle.dwz_layout.specs.declared.known.EntryTable.{EntryTable}
 use Rattle.dwz_layout.specs.declared.known.Row.{Row}
 use Rattle.dwz_layout.specs.declared.known.SpaceRow.{SpaceRow}
 use Rattle.dwz_layout.specs.declared.known.TextAt.{TextAt}
+use Rattle.dwz_law_layout.specs.Beside.{Alone}
 use Rattle.dwz_law_layout.specs.Facts.{RunFacts}
 use Rattle.dwz_law_layout.specs.Listed.{AreAllOwners, AreListed, AreRows, TextsAt, space_entries, space_rows}
 use Rattle.dwz_encode_common.specs.Placed.{space_placed}
@@ -19,7 +20,7 @@ use Rattle.dwz_encode_common.proofs.WithLists.{numbers_many, places_many}
 abbrev texts_of : FileRows → List TextAt
 texts_of r = r.texts.items
 
-rows_with : (f : RunFacts) (files : List File) (indexes : List Index) (starts : List ℕ) (old : List (List TextAt)) (rows : List FileRows)
+rows_with : (f : RunFacts Alone) (files : List File) (indexes : List Index) (starts : List ℕ) (old : List (List TextAt)) (rows : List FileRows)
     (places : List (Vec TextAt)) (numbers : List (Vec ℕ)) → AreRows f files indexes starts old rows → length places ≡ length rows
     → length numbers ≡ length rows
     → AreRows f files indexes starts (map texts_of (files_with rows places numbers)) (files_with rows places numbers)
@@ -69,7 +70,7 @@ rows_placed files texts sharing (s ∷ spaces) = ap (λ (w : List Row). s.row �
 
 -- ---- all
 
-pub listed_with : (f : RunFacts) (t : TextsAt) (files : List File) (texts paths : List (List ℕ)) (sharing : _) (before k : EntryTable)
+pub listed_with : (f : RunFacts Alone) (t : TextsAt) (files : List File) (texts paths : List (List ℕ)) (sharing : _) (before k : EntryTable)
     → IsWithCommon files texts paths sharing before k → length before.files.items ≡ length files → AreListed f t before
     → AreListed f (texts_held k) k
 listed_with f t files texts paths sharing before k w many h =

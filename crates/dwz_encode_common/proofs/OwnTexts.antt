@@ -29,6 +29,7 @@ use Rattle.dwz_layout.specs.declared.known.TextAt.{TextAt}
 use Rattle.dwz_layout.specs.declared.known.TextAt.TheVariants.{Shared}
 use Rattle.dwz_layout.specs.Known.{no_space, no_text, space_at, text_at, text_held}
 use Rattle.dwz_law_layout.specs.Knows.{IsRead, name_attr}
+use Rattle.dwz_law_layout.specs.Beside.{Alone}
 use Rattle.dwz_law_layout.specs.Facts.{AreFacts, HasFile, RunFacts, file_read, run}
 use Rattle.dwz_law_layout.specs.Listed.{AreListed, TextsAt, entry_row, space_entries}
 use Rattle.dwz_encode_texts.specs.Names.{named_text, row_name}
@@ -83,7 +84,7 @@ name_placed : (shares : Bool) (T said : List (List ℕ)) (own : TextAt) → NotP
 name_placed shares T [] own none = none
 name_placed shares T (text ∷ said) own none = placed shares T text own none
 
-module _ (f : RunFacts) (t : TextsAt) (sharing : List Bool) (before k : EntryTable) (facts : AreFacts f) (listed : AreListed f t before)
+module _ (f : RunFacts Alone) (t : TextsAt) (sharing : List Bool) (before k : EntryTable) (facts : AreFacts f) (listed : AreListed f t before)
     (stand : StandAsRead f t) (has : HasCommon f sharing before k) (n : ℕ) (bytes : List ℕ) (x : File) (index : Index)
     (h : HasFile f n bytes x index) where
   abbrev raw : List RawUnit

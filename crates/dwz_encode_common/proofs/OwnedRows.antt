@@ -9,7 +9,7 @@ use Rattle.dwz_def_reading.specs.Meanings.{IfSo}
 use Rattle.dwz_def_tops.specs.Lists.{Nth}
 use Rattle.dwz_def_tops.specs.Shown.{keys, unit_keys}
 use Rattle.dwz_def_tops.proofs.Members.{each_append, each_in, each_more, nth_one}
-use Rattle.dwz_def_tops.specs.Spots.{EntryName, FileUnit, Top, Within, file_numbers, name_list, same_spot}
+use Rattle.dwz_def_tops.specs.Spots.{EntryName, FileUnit, Top, Within, name_list, same_spot}
 use Rattle.dwz_def_tops.proofs.Tops.{one_top}
 use Rattle.dwz_layout_items.specs.declared.order.Item.{Item}
 use Rattle.dwz_layout_items.specs.declared.order.ItemKind.{ItemKind}
@@ -24,7 +24,6 @@ use Rattle.dwz_def_plan.proofs.PartRows.{part_is}
 use Rattle.dwz_plan.specs.declared.plan.Partial.{Partial as PlannedPart}
 use Rattle.dwz_plan.specs.Shows.{shown_part}
 use Rattle.dwz_def_images.specs.Units.{changes, common_units, partial_unit, tree}
-use Rattle.dwz_def_images.proofs.HeldLemmas.{row_found}
 use Rattle.dwz_def_images.proofs.OldFiles.{files_old}
 use Rattle.dwz_unit.specs.Rows.{EntryRow, rows_below, rows_of, units_of as raw_units}
 use Rattle.dwz_graph.proofs.RowLemmas.{rows-length}
@@ -59,7 +58,8 @@ use Rattle.dwz_def_encoding.specs.Placing.{has_key}
 use Rattle.dwz_def_encoding.proofs.Chosen.{none_has}
 use Rattle.dwz_def_encoding.proofs.SameLemmas.{spots_same}
 use Rattle.dwz_law_layout.specs.Knows.{IsRead, Writes}
-use Rattle.dwz_law_layout.specs.Facts.{AreFacts, HasFile, RunFacts, docs, file_read, move, rule, units, units_written, written}
+use Rattle.dwz_law_layout.specs.Beside.{Alone}
+use Rattle.dwz_law_layout.specs.Facts.{AreFacts, HasFile, IsMade, RunFacts, docs, file_read, move, units, units_written, written}
 use Rattle.dwz_law_layout.specs.Listed.{AreListed, TextsAt}
 use Rattle.dwz_law_layout.specs.NamedLaws.{IsItself, entry_name}
 use Rattle.dwz_law_layout.specs.New.{IsOfNew, NewNames}
@@ -69,7 +69,7 @@ use Rattle.dwz_law_layout.proofs.FileSpaces.{new_items}
 use Rattle.dwz_law_layout.proofs.LayoutLemmas.{knows_file, owns_entry, o as here_of}
 use Rattle.dwz_law_layout.proofs.PartHomes.{ComesFrom, comes_from, common_number, common_there, is_first, tops_of_file}
 use Rattle.dwz_law_layout.proofs.PartsKnown.{common_long, parts_are}
-use Rattle.dwz_law_layout.proofs.PartUnits.{part_tops}
+use Rattle.dwz_law_layout.specs.Moving.{IsMadePart}
 use Rattle.dwz_law_layout.proofs.ReadFiles.{all_placed}
 use Rattle.dwz_law_layout.proofs.TopEntries.{labelled, top_read}
 use Rattle.dwz_law_layout.proofs.TopNames.{IsWithin, WithinOrigin, tree_within}
@@ -79,10 +79,13 @@ use Rattle.dwz_encode_common.proofs.NumberedRows.{InFile, each_both, in_got, sam
 
 -- ---- a unit of the common file
 
-module _ (f : RunFacts) (t : TextsAt) (k : EntryTable) (facts : AreFacts f) (listed : AreListed f t k) where
-  module _ (p : ℕ) (part : PartialUnit) (nth : Nth 0 (move f).parts p part) (home : part.home ≡ Common) where
+module _ (f : RunFacts Alone) (t : TextsAt) (k : EntryTable) (facts : AreFacts f) (listed : AreListed f t k) where
+  module _ (p : ℕ) (part : PartialUnit) (nth : Nth 0 (move f).parts p part) (home : part.home ≡ Common) (is_made : IsMade f part.home) where
+    made : IsMadePart (move f) (units f) p part
+    made = facts.goes.made p part nth is_made
+
     from : ComesFrom f part
-    from = comes_from f facts p part nth
+    from = comes_from f facts p part made
 
     abbrev n : ℕ
     n = from.unit.file
@@ -94,7 +97,7 @@ module _ (f : RunFacts) (t : TextsAt) (k : EntryTable) (facts : AreFacts f) (lis
     o = here_of f t k facts listed n from.read.bytes from.read.x from.read.index h
 
     of_file : (y : Top) → In y part.tops → y.file ≡ n
-    of_file y is = tops_of_file f facts n p part nth
+    of_file y is = tops_of_file f facts n p part nth is_made
         (λ v there. ap (λ (w : FileUnit EntryName). w.file) (nth_one 0 (units f) (first_unit part.tops) v from.unit there from.nth)) y is
 
     rows_are : rows_in k n ≡ rows_of (raw_units from.read.x.units)
@@ -130,7 +133,7 @@ module _ (f : RunFacts) (t : TextsAt) (k : EntryTable) (facts : AreFacts f) (lis
     top_of : (depth : ℕ) (y : Top) → In y part.tops → AllOfPart (tree_slots k depth (top_row k y.number))
     unfolding rows_below
     top_of depth y is =
-        let own = part_tops (units f) (rule f) facts.fair (file_numbers 0 (docs f)) p part nth y is in
+        let own = made.tops y is in
         let read = top_read f facts t k listed n from.read.x from.read.index o y own.there (of_file y is) in
         let slots = tree_slots k depth (top_row k y.number) in
         let within = tree_within f k n from.read.x from.read.index o rows_are depth y (labelled f facts y own.there) read in
@@ -195,7 +198,7 @@ module _ (f : RunFacts) (t : TextsAt) (k : EntryTable) (facts : AreFacts f) (lis
     in_part y is path there =
         let m = move f in
         let s = Within y.number path in
-        let own = part_tops (units f) (rule f) facts.fair (file_numbers 0 (docs f)) p part nth y is in
+        let own = made.tops y is in
         let fixed : image_in m s ≡ s = ap (λ (q : ℕ). Within q path) own.stands in
         let has = ((part_is p part).tops_are (name_list y) y).1 (is, refl) in
         let mine : In s (own_keys y) = subst (In s) (sym (top_labelled y ((files_old (docs f) (all_placed f facts)).tops_named y own.there)))
@@ -204,7 +207,7 @@ module _ (f : RunFacts) (t : TextsAt) (k : EntryTable) (facts : AreFacts f) (lis
         subst (λ (w : EntryName). In w (map (image_in m) (own_keys y))) fixed (in_map (image_in m) s (own_keys y) mine) in
         let stands : In s (keys (tree (image_in m) (part_row p part) End)) = tree_top (image_in m) (part_row p part) End (name_list y) y has s mapped in
         inr (inr (subst (λ (w : _). In s (keys (tree (image_in m) w End)))
-        (sym (row_found (rule f) (units f) (file_numbers 0 (docs f)) p part nth)) stands))
+        (sym made.row) stands))
 
     -- the owner of such a name is a unit of the common file
     owner_first : (s : EntryName) (owner : ℕ) → StandsIn (units_written f) s owner → In s (unit_keys (partial_unit (move f) p)) → is_common k owner ≡ true
@@ -280,14 +283,14 @@ module _ (f : RunFacts) (t : TextsAt) (k : EntryTable) (facts : AreFacts f) (lis
       itself : IsItself f (entry_name f q d)
       itself =
           let y = found.of_top.top in
-          let own = part_tops (units f) (rule f) facts.fair (file_numbers 0 (docs f)) p part nth y found.of_top.there in
+          let own = made.tops y found.of_top.there in
           subst (IsItself f) (sym name_is) (ap (λ (w : ℕ). Within w found.of_top.within.path) own.stands)
 
       has_name : In s (unit_keys (partial_unit (move f) p))
       has_name =
           let y = found.of_top.top in
           let path = found.of_top.within.path in
-          let own = part_tops (units f) (rule f) facts.fair (file_numbers 0 (docs f)) p part nth y found.of_top.there in
+          let own = made.tops y found.of_top.there in
           let at = own_name (docs f) (o.start + e) y.number path name_there in
           let same : at.0 ≡ y = one_top (units f) at.0 y at.1 own.there at.2 in
           in_part y found.of_top.there path (subst (λ (w : Top). In path (paths_of w.below)) same at.3)
@@ -309,7 +312,7 @@ module _ (f : RunFacts) (t : TextsAt) (k : EntryTable) (facts : AreFacts f) (lis
 
 -- ---- all of its units
 
-module _ (f : RunFacts) (t : TextsAt) (k : EntryTable) (facts : AreFacts f) (listed : AreListed f t k) (s : Settled) (settled : IsSettled f s) where
+module _ (f : RunFacts Alone) (t : TextsAt) (k : EntryTable) (facts : AreFacts f) (listed : AreListed f t k) (s : Settled) (settled : IsSettled f s) where
   abbrev files : ℕ
   files = length (docs f)
 
@@ -353,7 +356,8 @@ module _ (f : RunFacts) (t : TextsAt) (k : EntryTable) (facts : AreFacts f) (lis
       subst (λ (w : List RowOfSpace). IsPart w (map (spaces_at settled.lists) (all_tops f.indexes))
       (map (λ (y : Top). y.number) part.tops) o.items) settled.rows_are
       (subst (λ (w : List TopSpaces). IsPart s.rows.now w (map (λ (y : Top). y.number) part.tops) o.items) settled.of_tops put.items) in
-      new_items (docs f) f.indexes (rule f) (file_numbers 0 (docs f)) settled.texts settled.lists facts.indexed facts.fair spaces p part o.items nth put_so
+      new_items (docs f) f.indexes (move f) settled.texts settled.lists facts.indexed spaces p part o.items
+      (facts.goes.made p part nth tt) put_so
 
   pub are_in_common : (order : List UnitItems) → PartsPut s (length (docs f)) 0 s.plan.now.partials order → AreInCommon f k order
   are_in_common order put =
@@ -363,6 +367,6 @@ module _ (f : RunFacts) (t : TextsAt) (k : EntryTable) (facts : AreFacts f) (lis
         many = common_long f t k s facts listed settled order put;
         each = λ o o_in n bytes x index h i r d read writes. (
             let from = each_in FromPart o order all o_in in
-            in_common f t k facts listed from.p from.part from.nth from.home o (line_given s from.p) from.put.sort
+            in_common f t k facts listed from.p from.part from.nth from.home tt o (line_given s from.p) from.put.sort
             (part_new from.p from.part from.nth o from.put) n bytes x index h i r d read writes);
       }

@@ -1,12 +1,12 @@
 -- What is written of a partial unit of the common file gives what the unit says: item by item, where each entry that was read does.
-use Rattle.std.proofs.Common.{◌≡◌, ℕ, suc, ◌-◌, true, false, Bool, List, [], ◌∷◌, ◌++◌, map, Some, pos, refl, sym, ap, subst, ◌∙◌, append-nil, arith}
+use Rattle.std.proofs.Common.{◌≡◌, ℕ, suc, ◌-◌, true, false, Bool, List, [], ◌∷◌, ◌++◌, map, Some, pos, refl, sym, ap, subst, ◌∙◌, append-nil}
 use Rattle.std.specs.List.{flat_map}
 use Rattle.std.proofs.lemmas.List.Concat.{flat_map-append}
 use Rattle.dwz_def_reading.specs.Lists.{Each, In}
 use Rattle.dwz_def_reading.specs.Documents.{Attr, Node, Sec, Text, entries_map, node_map, only}
 use Rattle.dwz_def_tops.specs.Lists.{Nth}
 use Rattle.dwz_def_tops.specs.Spaces.{space_text}
-use Rattle.dwz_def_tops.specs.Spots.{EntryName, SpaceName, Top, file_numbers, name_of}
+use Rattle.dwz_def_tops.specs.Spots.{EntryName, SpaceName, Top, name_of}
 use Rattle.dwz_layout_items.specs.declared.order.Item.{Item}
 use Rattle.dwz_layout_items.specs.declared.order.ItemKind.{ItemKind}
 use Rattle.dwz_layout_items.specs.declared.order.ItemKind.TheVariants.{Import, InChain, Root, Space, Top as ATopOf, Whole}
@@ -15,10 +15,9 @@ use Rattle.dwz_layout_items.specs.declared.partial.TopSpaces.{TopSpaces}
 use Rattle.dwz_layout_items.specs.Lines.{Line, line, lines, unit_lines}
 use Rattle.dwz_layout_items.specs.Order.{Names, ShowsUnit, order_lines, what_lines}
 use Rattle.dwz_def_plan.specs.Homes.{Common}
-use Rattle.dwz_def_plan.specs.Moves.{first_unit, image_in, line_attr, line_attrs, line_in, names_path, root_in_part}
+use Rattle.dwz_def_plan.specs.Moves.{first_unit, image_in, line_attr, line_attrs, line_in, names_path}
 use Rattle.dwz_def_plan.specs.Plan.{PartialUnit}
 use Rattle.dwz_def_images.specs.Units.{partial_unit}
-use Rattle.dwz_def_images.proofs.HeldLemmas.{part_found, row_found}
 use Rattle.dwz_graph.specs.declared.file.File.{File}
 use Rattle.dwz_graph.specs.Index.{Index}
 use Rattle.dwz_layout_order.specs.Lists.{all_spaces, all_tops, rows_from, spaces_at}
@@ -38,7 +37,8 @@ use Rattle.dwz_layout.specs.Entries.{items_slots, row, tree_slots, what_slots}
 use Rattle.dwz_layout.specs.Known.{space_at, top_row}
 use Rattle.dwz_unit.specs.Rows.{EntryRow}
 use Rattle.dwz_law_layout.specs.Knows.{IsRead, name_attr}
-use Rattle.dwz_law_layout.specs.Facts.{AreFacts, HasFile, RunFacts, docs, file_read, move, rule, units}
+use Rattle.dwz_law_layout.specs.Beside.{Alone}
+use Rattle.dwz_law_layout.specs.Facts.{AreFacts, HasFile, IsMade, RunFacts, docs, file_read, move, units}
 use Rattle.dwz_law_layout.specs.Listed.{AreListed, TextsAt}
 use Rattle.dwz_law_layout.specs.Settled.{IsSettled}
 use Rattle.dwz_law_layout.proofs.LayoutLemmas.{knows_file}
@@ -53,9 +53,10 @@ use Rattle.dwz_law_layout.proofs.PartNames.{names, names_all, names_partial, top
 use Rattle.dwz_encode_common.specs.Gathered.{lines_said}
 use Rattle.dwz_encode_common.specs.Stored.{items_give, slots_give}
 use Rattle.dwz_encode_common.proofs.TreeTexts.{tree_gives}
+use Rattle.dwz_law_layout.specs.Moving.{IsMadePart}
 
 -- each entry that was read gives what it means, and each space of a chain what its name does; roots of partial units give nothing
-pub record Agree (f : RunFacts) (k : EntryTable) (give : Origin → List (List ℕ)) (said : Attr EntryName → List (List ℕ)) : Type 0 where
+pub record Agree (f : RunFacts Alone) (k : EntryTable) (give : Origin → List (List ℕ)) (said : Attr EntryName → List (List ℕ)) : Type 0 where
   pub rows : (n : ℕ) (bytes : List ℕ) (x : File) (index : Index) → HasFile f n bytes x index
       → (i : ℕ) (r : EntryRow) (d : Node ℕ) → IsRead (file_read f n bytes x) i r d
       → give (OfRow (row n i)) ≡ flat_map said (node_map (file_read f n bytes x).after d).attrs
@@ -70,7 +71,7 @@ name_same : (said name : SpaceName) → said ≡ name
     → name_attr name ∷ [] ≡ record { name = 0x03; form = said.form; raw = said.raw; value = only {P = EntryName} (Text said.text) } ∷ []
 name_same said name e = sym (ap (λ (w : SpaceName). name_attr w ∷ []) e)
 
-module _ (f : RunFacts) (t : TextsAt) (k : EntryTable) (facts : AreFacts f) (listed : AreListed f t k) (s : Settled) (settled : IsSettled f s)
+module _ (f : RunFacts Alone) (t : TextsAt) (k : EntryTable) (facts : AreFacts f) (listed : AreListed f t k) (s : Settled) (settled : IsSettled f s)
     (give : Origin → List (List ℕ)) (said : Attr EntryName → List (List ℕ)) (agree : Agree f k give said) where
   abbrev says : List (Line EntryName) → List (List ℕ)
   says ls = lines_said said ls
@@ -90,13 +91,17 @@ module _ (f : RunFacts) (t : TextsAt) (k : EntryTable) (facts : AreFacts f) (lis
     go false = refl
 
   module _ (p : ℕ) (part : PartialUnit) (nth : Nth 0 (move f).parts p part) (home : part.home ≡ Common) where
+    is_made : IsMade f part.home
+    is_made = tt
+
+    made : IsMadePart (move f) (units f) p part
+    made = facts.goes.made p part nth is_made
+
     abbrev mine : Names EntryName
     mine = names (move f) (units f) p
 
     root_none : flat_map said ((move f).roots p) ≡ []
-    root_none =
-        ap (λ (o : _). flat_map said (root_in_part (units f) o)) (part_found 0 (move f).parts p p part nth (omega arith))
-        ∙ root_attrs part home
+    root_none = ap (flat_map said) made.root ∙ root_attrs part home
 
     -- ---- items
 
@@ -104,11 +109,11 @@ module _ (f : RunFacts) (t : TextsAt) (k : EntryTable) (facts : AreFacts f) (lis
         → slots_give give (tree_slots k depth (top_row k top)) ≡ says (what_lines mine depth (ATopOf top))
     top_gives depth top is =
         let y = is.0 in
-        let there = tops_there f facts 0 p part nth y is.1 in
+        let there = tops_there f facts 0 p part nth is_made y is.1 in
         let named = top_named (move f) (units f) p y there in
-        let r = top_files f facts y there in
+        let r = top_files _ f facts y there in
         let n = y.file in
-        let tree = top_trees f t k facts listed n r.bytes r.x r.index r.has y there refl in
+        let tree = top_trees _ f t k facts listed n r.bytes r.x r.index r.has y there refl in
         let knows = knows_file f t k facts listed n r.bytes r.x r.index r.has in
         let gives = tree_gives give said k (file_read f n r.bytes r.x) knows.rows (agree.rows n r.bytes r.x r.index r.has) depth
         (top_row k y.number)
@@ -122,8 +127,8 @@ module _ (f : RunFacts) (t : TextsAt) (k : EntryTable) (facts : AreFacts f) (lis
     chain_gives depth chain space is =
         let w = space_stands (units f) (first_unit part.tops) space is in
         let n = w.unit.file in
-        let r = unit_files f facts (first_unit part.tops) w.unit w.nth in
-        let shown = space_rows_shown f t k facts listed n r.bytes r.x r.index r.has
+        let r = unit_files _ f facts (first_unit part.tops) w.unit w.nth in
+        let shown = space_rows_shown _ f t k facts listed n r.bytes r.x r.index r.has
         (first_unit part.tops) space w.unit w.node w.nth refl is w.found in
         let shows = shown.shows in
         let name = agree.names n r.bytes r.x r.index r.has chain space shows.i shows.x shows.d shown.text shows.row_is shows.read
@@ -177,15 +182,13 @@ module _ (f : RunFacts) (t : TextsAt) (k : EntryTable) (facts : AreFacts f) (lis
           (subst (λ (w : List TopSpaces). IsPart s.rows.now w (map (λ (y : Top). y.number) part.tops) o.items) settled.of_tops put)
 
       new : NewNames (units f) part o.items
-      new = new_items (docs f) f.indexes (rule f)
-          (file_numbers 0 (docs f)) settled.texts settled.lists facts.indexed facts.fair
-          spaces p part o.items nth put_so
+      new = new_items (docs f) f.indexes (move f) settled.texts settled.lists facts.indexed spaces p part o.items made put_so
 
       shows : ShowsUnit mine o.items (partial_unit (move f) p)
       shows = part_shown (units f) (rows_from 0 (all_spaces f.indexes)) settled.texts settled.lists
           (all_tops f.indexes) spaces.own spaces.numbers
-          spaces.are spaces.leads (move f) p part o.items (row_found (rule f) (units f) (file_numbers 0 (docs f)) p part nth)
-          (tops_there f facts 0 p part nth) put_so mine (names_all (move f) (units f) p) (names_partial (move f) (units f) p)
+          spaces.are spaces.leads (move f) p part o.items made.row
+          (tops_there f facts 0 p part nth is_made) put_so mine (names_all (move f) (units f) p) (names_partial (move f) (units f) p)
 
       pub part_says : items_give give k o ≡ lines_said said (unit_lines (partial_unit (move f) p))
       part_says =

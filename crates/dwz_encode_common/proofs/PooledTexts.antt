@@ -13,6 +13,7 @@ use Rattle.dwz_layout.specs.declared.known.TextAt.{TextAt}
 use Rattle.dwz_layout.specs.declared.order.UnitItems.{UnitItems}
 use Rattle.dwz_layout.specs.Known.{text_at}
 use Rattle.dwz_law_layout.specs.Knows.{is_placed, name_attr}
+use Rattle.dwz_law_layout.specs.Beside.{Alone}
 use Rattle.dwz_law_layout.specs.Facts.{AreFacts, RunFacts, run}
 use Rattle.dwz_law_layout.specs.Listed.{AreListed, TextsAt}
 use Rattle.dwz_encode_texts.specs.MovedTexts.{IsPooled}
@@ -40,7 +41,7 @@ module _ (T : List (List ℕ)) (a : Attr EntryName) (own : TextAt) where
   by_class OfTextBySlot placed among = there (among (meant a) (inl refl))
   by_class _ placed among = absurd cc
 
-module _ (f : RunFacts) (t : TextsAt) (sharing : List Bool) (before k : EntryTable) (facts : AreFacts f) (listed : AreListed f t before)
+module _ (f : RunFacts Alone) (t : TextsAt) (sharing : List Bool) (before k : EntryTable) (facts : AreFacts f) (listed : AreListed f t before)
     (has : HasCommon f sharing before k) (order : List UnitItems) (owned : AreInCommon f before order)
     (found : with_all [] (order_texts f.contents before order) ≡ texts (run f)) where
   pub pools_unit : (o : UnitItems) → In o order → PoolsUnit f k o

@@ -24,6 +24,7 @@ use Rattle.dwz_layout.specs.declared.known.EntryTable.{EntryTable}
 use Rattle.dwz_layout.specs.declared.walk.Origin.TheVariants.{Read as OfRow}
 use Rattle.dwz_layout.specs.Entries.{row}
 use Rattle.dwz_law_layout.specs.Knows.{IsRead}
+use Rattle.dwz_law_layout.specs.Beside.{Alone}
 use Rattle.dwz_law_layout.specs.Facts.{HasFile, RunFacts, file_read}
 use Rattle.dwz_encode_common.specs.Gathered.{path_said}
 use Rattle.dwz_encode_common.specs.Paths.{line_of, origin_paths, path_read, row_paths}
@@ -38,7 +39,7 @@ line_knows s tables a None u r is has there inside =
     subst (λ (w : MeaningContext ℕ). KnowsLine w a tables None) (sym is) (λ file. has r.entry a there inside file)
 line_knows s tables a (Some line) u r is has there inside = subst (λ (w : MeaningContext ℕ). KnowsLine w a tables (Some line)) (sym is) has
 
-module _ (f : RunFacts) (n : ℕ) (bytes : List ℕ) (x : File) (index : Index) (h : HasFile f n bytes x index) where
+module _ (f : RunFacts Alone) (n : ℕ) (bytes : List ℕ) (x : File) (index : Index) (h : HasFile f n bytes x index) where
   abbrev raw : List RawUnit
   raw = raw_units x.units
 
@@ -63,7 +64,7 @@ module _ (f : RunFacts) (n : ℕ) (bytes : List ℕ) (x : File) (index : Index) 
       (λ a v inside other means. path_given s a v tables line.0 (line_knows s tables a line.0 read.unit r refl has there inside) means)
       r.entry.attrs (each_of (λ a. In a r.entry.attrs) r.entry.attrs (λ a is. is)) d.attrs (node_attrs s r.entry d read.means).0
 
-pub paths_agree : (f : RunFacts) (k : EntryTable) → Agree f k (origin_paths f.files) path_said
+pub paths_agree : (f : RunFacts Alone) (k : EntryTable) → Agree f k (origin_paths f.files) path_said
 paths_agree f k = record {
   rows = λ n bytes x index h i r d read. row_says f n bytes x index h i r d read;
   names = λ n bytes x index h chain space i r d text at read is. refl;

@@ -26,6 +26,7 @@ use Rattle.dwz_layout.specs.declared.known.TextAt.{TextAt}
 use Rattle.dwz_layout.specs.Entries.{row}
 use Rattle.dwz_layout.specs.Known.{no_firsts, no_space, no_text, space_at, text_at, text_held}
 use Rattle.dwz_law_layout.specs.Knows.{EachFrom, FileRead, IsRead, IsText, firsts_at, is_placed, name_attr, texts_in}
+use Rattle.dwz_law_layout.specs.Beside.{Alone}
 use Rattle.dwz_law_layout.specs.Facts.{AreFacts, HasFile, RunFacts, file_read, run}
 use Rattle.dwz_law_layout.specs.Listed.{AreListed, AreRows, TextsAt, firsts_from, none_before, space_entries, space_rows}
 use Rattle.dwz_law_layout.proofs.Walks.{each_from, rows_at}
@@ -53,7 +54,7 @@ each_got {X} P n (y ∷ xs) h (suc j) x e =
 
 -- ---- lists
 
-pub rows_long : (f : RunFacts) (files : List File) (indexes : List Index) (starts : List ℕ) (texts : List (List TextAt)) (rows : List FileRows)
+pub rows_long : (f : RunFacts Alone) (files : List File) (indexes : List Index) (starts : List ℕ) (texts : List (List TextAt)) (rows : List FileRows)
     → AreRows f files indexes starts texts rows → length rows ≡ length files
 rows_long f [] [] [] [] [] h = refl
 rows_long f [] [] [] [] (r ∷ rows) h = absurd h
@@ -86,7 +87,7 @@ space_got (x ∷ rows) (t ∷ own) (c ∷ commons) p q (suc s) r e =
 
 -- ---- a file
 
-module _ (f : RunFacts) (t : TextsAt) (sharing : List Bool) (before k : EntryTable) (facts : AreFacts f) (listed : AreListed f t before)
+module _ (f : RunFacts Alone) (t : TextsAt) (sharing : List Bool) (before k : EntryTable) (facts : AreFacts f) (listed : AreListed f t before)
     (has : HasCommon f sharing before k) where
   pub files_many : length before.files.items ≡ length f.files
   files_many = rows_long f f.files f.indexes (starts_from 0 f.indexes) t.files before.files.items listed.rows

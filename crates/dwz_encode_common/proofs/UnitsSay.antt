@@ -5,24 +5,23 @@ use Rattle.dwz_def_reading.proofs.ListFacts.{got_below}
 use Rattle.dwz_def_reading.specs.Documents.{Attr, DwUnit}
 use Rattle.dwz_def_reading.specs.Meanings.{IfSo}
 use Rattle.dwz_def_tops.specs.Lists.{Nth}
-use Rattle.dwz_def_tops.specs.Spots.{EntryName, file_numbers}
+use Rattle.dwz_def_tops.specs.Spots.{EntryName}
 use Rattle.dwz_def_plan.specs.Homes.{Common, Home, Local, Stay, is_home, same_home}
 use Rattle.dwz_def_plan.specs.Plan.{PartialUnit, partials}
 use Rattle.dwz_def_plan.proofs.PlanLemmas.{home_true}
 use Rattle.dwz_plan.specs.declared.plan.Partial.{Partial as PlannedPart}
 use Rattle.dwz_plan.specs.Planned.{Planned, file_of_home}
 use Rattle.dwz_plan.specs.Shows.{shown_part}
-use Rattle.dwz_plan.proofs.BridgeLemmas.{file_numbers_are}
 use Rattle.dwz_def_images.specs.Units.{common_units, partial_unit, partial_units}
 use Rattle.dwz_layout_order.proofs.FileCounts.{are_many}
-use Rattle.dwz_law_layout.proofs.PartUnits.{part_is}
 use Rattle.dwz_layout_order.specs.Orders.{First}
 use Rattle.dwz_layout_order.specs.declared.orders.Settled.{Settled}
 use Rattle.dwz_layout_order.specs.Ordered.{PartPut, PartsPut, line_given}
 use Rattle.dwz_layout.specs.declared.known.EntryTable.{EntryTable}
 use Rattle.dwz_layout.specs.declared.order.UnitItems.{UnitItems}
 use Rattle.dwz_layout.specs.declared.walk.Origin.{Origin}
-use Rattle.dwz_law_layout.specs.Facts.{AreFacts, RunFacts, docs, move, rule, units}
+use Rattle.dwz_law_layout.specs.Beside.{Alone}
+use Rattle.dwz_law_layout.specs.Facts.{AreFacts, IsMade, RunFacts, docs, move}
 use Rattle.dwz_law_layout.specs.Listed.{AreListed, TextsAt}
 use Rattle.dwz_law_layout.specs.Settled.{IsSettled}
 use Rattle.dwz_law_layout.proofs.TopTrees.{top_files}
@@ -41,12 +40,12 @@ home_number files Common moves low = sym (eq-eqb files files refl)
 home_number files (Local n) moves low = sym (ne_eqb n files (let lt = low n refl in (λ e. omega arith)))
 home_number files Stay moves low = absurd cc
 
-module _ (f : RunFacts) (facts : AreFacts f) (p : ℕ) (part : PartialUnit) (nth : Nth 0 (move f).parts p part) where
+module _ (f : RunFacts Alone) (facts : AreFacts f) (p : ℕ) (part : PartialUnit) (nth : Nth 0 (move f).parts p part) (is_made : IsMade f part.home) where
   -- the file of such a unit is one that was read
   home_low : (n : ℕ) → part.home ≡ Local n → n < length (docs f)
   home_low n home =
-      let some = (part_is (units f) (rule f) (file_numbers 0 (docs f)) p part nth).some in
-      let r = top_files f facts some.0 (tops_there f facts n p part nth some.0 some.1) in
+      let some = (facts.goes.made p part nth is_made).some in
+      let r = top_files _ f facts some.0 (tops_there f facts n p part nth is_made some.0 some.1) in
       let file = top_file f facts n p part nth home some.0 some.1 in
       let low = got_below f.files some.0.file r.x r.has.file in
       let many = are_many f.contents f.files f.indexes facts.kept facts.indexed in
@@ -55,7 +54,7 @@ module _ (f : RunFacts) (facts : AreFacts f) (p : ℕ) (part : PartialUnit) (nth
 
 -- ---- units
 
-module _ (f : RunFacts) (t : TextsAt) (k : EntryTable) (facts : AreFacts f) (listed : AreListed f t k) (s : Settled) (settled : IsSettled f s)
+module _ (f : RunFacts Alone) (t : TextsAt) (k : EntryTable) (facts : AreFacts f) (listed : AreListed f t k) (s : Settled) (settled : IsSettled f s)
     (give : Origin → List (List ℕ)) (said : Attr EntryName → List (List ℕ)) (agree : Agree f k give said) where
   abbrev files : ℕ
   files = length (docs f)
@@ -86,7 +85,7 @@ module _ (f : RunFacts) (t : TextsAt) (k : EntryTable) (facts : AreFacts f) (lis
       let nth = among p part (inl (refl, refl)) in
       let later : (q : ℕ) (other : PartialUnit) → Nth (suc p) parts q other
       → Nth 0 (move f).parts q other = λ q other i. among q other (inr i) in
-      let same = home_number files part.home (home_moves f facts 0 p part nth) (home_low f facts p part nth) in
+      let same = home_number files part.home (home_moves f facts 0 p part nth) (home_low f facts p part nth tt) in
       by nth (λ order put. from (suc p) parts later order put) (same_home part.home Common) refl order
       (subst (λ (b : Bool). PutIf b p part parts order) (sym same) put) where
         by : Nth 0 (move f).parts p part
@@ -105,13 +104,12 @@ module _ (f : RunFacts) (t : TextsAt) (k : EntryTable) (facts : AreFacts f) (lis
   unfolding common_units
   units_say order put =
       let same : map (shown_part files) (move f).parts ≡ s.plan.now.partials =
-      ap (λ (w : List ℕ). map (shown_part files) (partials (rule f) (units f) w)) (file_numbers_are 0 (docs f))
-      ∙ facts.shows.partials ∙ ap (λ (w : Planned). w.partials) (sym settled.plan) in
+      facts.shows.partials ∙ ap (λ (w : Planned). w.partials) (sym settled.plan) in
       from 0 (move f).parts (λ q part i. i) order (subst (λ (w : List PlannedPart). PartsPut s files 0 w order) (sym same) put)
 
 -- ---- the first order
 
-pub order_says : (f : RunFacts) (k : EntryTable) (order : List UnitItems) → (is : IsCommonOrder f k order)
+pub order_says : (f : RunFacts Alone) (k : EntryTable) (order : List UnitItems) → (is : IsCommonOrder f k order)
     → (give : Origin → List (List ℕ)) (said : Attr EntryName → List (List ℕ))
     → Agree f k give said → order_give give k order ≡ units_said said (common_units (move f))
 order_says f k order is give said agree =

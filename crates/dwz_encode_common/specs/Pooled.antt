@@ -14,6 +14,7 @@ use Rattle.dwz_layout.specs.declared.known.EntryTable.{EntryTable}
 use Rattle.dwz_layout.specs.declared.order.UnitItems.{UnitItems}
 use Rattle.dwz_layout.specs.Known.{space_at, text_at, text_held}
 use Rattle.dwz_law_layout.specs.Knows.{EachFrom, IsRead, Writes, firsts_at, is_placed, texts_in}
+use Rattle.dwz_law_layout.specs.Beside.{Alone}
 use Rattle.dwz_law_layout.specs.Facts.{AreFacts, HasFile, RunFacts, file_read}
 use Rattle.dwz_law_layout.specs.Listed.{AreListed, TextsAt, entry_row, space_entries}
 use Rattle.dwz_law_layout.specs.Unfitted.{HasChained}
@@ -25,7 +26,7 @@ use Rattle.dwz_encode_common.specs.SharedLaws.{HasCommon}
 
 -- Each text that is written in this unit, of an entry of any file, is one of the common file; so is the name of each space in its chains,
 -- where names are stored by an offset or a slot (DWARF 5, 7.5.5, class string). A name that stands in its entry has no place.
-pub record PoolsUnit (f : RunFacts) (k : EntryTable) (o : UnitItems) : Type 0 where
+pub record PoolsUnit (f : RunFacts Alone) (k : EntryTable) (o : UnitItems) : Type 0 where
   pub entries : (n : ℕ) (bytes : List ℕ) (x : File) (index : Index) → HasFile f n bytes x index
       → (i : ℕ) (r : EntryRow) (d : Node ℕ) → IsRead (file_read f n bytes x) i r d → Writes k o (file_read f n bytes x) i
       → EachFrom (λ j a. IsPooled (text_at k n j)) (firsts_at k (file_read f n bytes x) i).text
@@ -36,19 +37,19 @@ pub record PoolsUnit (f : RunFacts) (k : EntryTable) (o : UnitItems) : Type 0 wh
       → is_placed (class_of (name_of text d).form) ≡ true → IsPooled (space_at k s).common
 
 -- so of each unit
-abbrev pub ArePooled : RunFacts → EntryTable → List UnitItems → Type 0
+abbrev pub ArePooled : RunFacts Alone → EntryTable → List UnitItems → Type 0
 ArePooled f k order = Each (PoolsUnit f k) order
 
 -- The units of the common file, written in that order, are so.
 abbrev pub PooledLaw : Type 0
 PooledLaw =
-    (f : RunFacts) (sharing : List Bool) (before k : EntryTable) (order : List UnitItems) → IsCommonOrder f before order
+    (f : RunFacts Alone) (sharing : List Bool) (before k : EntryTable) (order : List UnitItems) → IsCommonOrder f before order
     → HasCommon f sharing before k → ArePooled f k order
 
 -- of a file whose texts stood where they were read
-abbrev pub OfOwn : (RunFacts → EntryTable → EntryTable → ℕ → List ℕ → File → Type 0) → Type 0
+abbrev pub OfOwn : (RunFacts Alone → EntryTable → EntryTable → ℕ → List ℕ → File → Type 0) → Type 0
 OfOwn P =
-    (f : RunFacts) (t : TextsAt) (sharing : List Bool) (before k : EntryTable) → AreFacts f → AreListed f t before → StandAsRead f t
+    (f : RunFacts Alone) (t : TextsAt) (sharing : List Bool) (before k : EntryTable) → AreFacts f → AreListed f t before → StandAsRead f t
     → HasCommon f sharing before k
     → (n : ℕ) (bytes : List ℕ) (x : File) (index : Index) → HasFile f n bytes x index → P f before k n bytes x
 

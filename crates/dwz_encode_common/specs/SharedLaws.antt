@@ -13,6 +13,7 @@ use Rattle.dwz_layout.specs.declared.known.EntryTable.{EntryTable}
 use Rattle.dwz_layout.specs.declared.order.UnitItems.{UnitItems}
 use Rattle.dwz_layout.specs.Known.{space_at, text_at, text_held}
 use Rattle.dwz_law_layout.specs.Knows.{EachFrom, IsRead, IsText, firsts_at, name_attr, texts_in}
+use Rattle.dwz_law_layout.specs.Beside.{Alone}
 use Rattle.dwz_law_layout.specs.Facts.{AreFacts, HasFile, RunFacts, file_read, move, run}
 use Rattle.dwz_law_layout.specs.Listed.{AreListed, TextsAt, entry_row, space_entries}
 use Rattle.dwz_law_layout.specs.Unfitted.{KnowCommon}
@@ -22,19 +23,19 @@ use Rattle.dwz_encode_common.specs.Placed.{in_common_file, shares_in}
 use Rattle.dwz_encode_common.specs.WithCommon.{IsWithCommon}
 
 -- the lists have the texts and the paths of the common file of the run, which these files share
-abbrev pub HasCommon : RunFacts → List Bool → (before after : EntryTable) → Type 0
+abbrev pub HasCommon : RunFacts Alone → List Bool → (before after : EntryTable) → Type 0
 HasCommon f sharing before k = IsWithCommon f.files (texts (run f)) (paths (run f)) sharing before k
 
 -- Then what is written of the common file is known, where its units are written in that order.
 abbrev pub KnowCommonLaw : Type 0
 KnowCommonLaw =
-    (f : RunFacts) (sharing : List Bool) (before k : EntryTable) (order : List UnitItems) → IsCommonOrder f before order
+    (f : RunFacts Alone) (sharing : List Bool) (before k : EntryTable) (order : List UnitItems) → IsCommonOrder f before order
     → HasCommon f sharing before k → KnowCommon f k order (common_units (move f))
 
 -- P holds of each file that was read, and of how the values of a unit of that file are written, which shares texts as the list says
-abbrev pub OfSharing : (RunFacts → EntryTable → EntryTable → ℕ → List ℕ → File → UnitForms EntryName → Type 0) → Type 0
+abbrev pub OfSharing : (RunFacts Alone → EntryTable → EntryTable → ℕ → List ℕ → File → UnitForms EntryName → Type 0) → Type 0
 OfSharing P =
-    (f : RunFacts) (t : TextsAt) (sharing : List Bool) (before k : EntryTable) → AreFacts f → AreListed f t before
+    (f : RunFacts Alone) (t : TextsAt) (sharing : List Bool) (before k : EntryTable) → AreFacts f → AreListed f t before
     → HasCommon f sharing before k
     → (n : ℕ) (bytes : List ℕ) (x : File) (index : Index) → HasFile f n bytes x index
     → (ft : UnitForms EntryName) → (ft.holder ≡ CommonUnit → ⊥) → ft.shared ≡ shared_if (shares_in sharing n) (texts (run f))

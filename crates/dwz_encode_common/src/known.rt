@@ -1,6 +1,7 @@
 //! The lists of a layout once the common file has texts and paths.
 
 ghost use Rattle.std.specs.Prelude.{◌≡◌, length, IfOk};
+ghost use Rattle.dwz_law_layout.specs.Beside.{Alone};
 ghost use Rattle.dwz_law_layout.specs.Facts.{RunFacts};
 ghost use Rattle.dwz_law_layout.specs.Listed.{AreListed, TextsAt};
 ghost use Rattle.dwz_encode_common.specs.WithCommon.{IsWithCommon, files_with, texts_held};
@@ -66,7 +67,7 @@ pub fn with_common<'u, 'a>(
 ) -> Result<EntryTable<'u, 'a>, NoMemory>
     requires { length known.files.items ≡ length files.now }
     ensures made { IfOk result (λ k. IsWithCommon files.now texts.now paths.now sharing.now known.entry k) }
-    ensures listed { (f : RunFacts) (t : TextsAt) → AreListed f t known.entry → IfOk result (λ k. AreListed f (texts_held k) k) }
+    ensures listed { (f : RunFacts Alone) (t : TextsAt) → AreListed f t known.entry → IfOk result (λ k. AreListed f (texts_held k) k) }
 {
     let places = shared_texts(alloc, files, &known, texts, sharing)?;
     let spaces = shared_names(alloc, files, &known, texts, sharing)?;

@@ -4,6 +4,7 @@ ghost use Rattle.std.specs.Prelude.{◌≡◌, ◌<◌, Some, [], slice_get, IfO
 ghost use Rattle.std.specs.Option.{option_map, option_to_list};
 ghost use Rattle.dwz_def_readback.specs.Files.{paths};
 ghost use Rattle.dwz_def_reading.specs.Units.{entries_in};
+ghost use Rattle.dwz_law_layout.specs.Beside.{Alone};
 ghost use Rattle.dwz_law_layout.specs.Facts.{RunFacts, run};
 ghost use Rattle.dwz_forms.specs.RawValues.{raw_view};
 ghost use Rattle.dwz_layout_numbers.specs.Befores;
@@ -183,7 +184,7 @@ pub fn common_paths(
     order: &[UnitItems],
 ) -> Result<Pool, NoMemory>
     ensures said { IfOk result (λ pool. pool ≡ with_all [] (order_paths files.now known.now order.now)) }
-    ensures common { (f : RunFacts) → f.files ≡ files.now → IsCommonOrder f known.now order.now
+    ensures common { (f : RunFacts Alone) → f.files ≡ files.now → IsCommonOrder f known.now order.now
         → IfOk result (λ pool. pool ≡ paths (run f)) }
 {
     let mut pool = Pool::new(alloc);

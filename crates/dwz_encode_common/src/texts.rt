@@ -7,6 +7,7 @@ ghost use Rattle.dwz_layout.specs.Attributes.{value_read};
 ghost use Rattle.dwz_graph.specs.Resolved.{sources_view};
 ghost use Rattle.dwz_unit.specs.Rows.{EntryRow, rows_of, units_of};
 ghost use Rattle.dwz_def_readback.specs.Files.{texts};
+ghost use Rattle.dwz_law_layout.specs.Beside.{Alone};
 ghost use Rattle.dwz_law_layout.specs.Facts.{RunFacts, run};
 ghost use Rattle.dwz_encode_common.specs.CommonLaws.{IsCommonOrder};
 ghost use Rattle.dwz_encode_common.specs.Gathered.{with_all};
@@ -165,7 +166,7 @@ pub fn common_texts(
     order: &[UnitItems],
 ) -> Result<Pool, NoMemory>
     ensures said { IfOk result (λ pool. pool ≡ with_all [] (order_texts graph.now.given known.now order.now)) }
-    ensures common { (f : RunFacts) → f.contents ≡ graph.now.given → IsCommonOrder f known.now order.now
+    ensures common { (f : RunFacts Alone) → f.contents ≡ graph.now.given → IsCommonOrder f known.now order.now
         → IfOk result (λ pool. pool ≡ texts (run f)) }
 {
     let bases = bases_of_files(alloc, known.files.as_slice())?;

@@ -11,12 +11,11 @@ use Rattle.dwz_def_reading.specs.Files.{around_of, sources_of}
 use Rattle.dwz_def_reading.proofs.FileLemmas.{file_agrees}
 use Rattle.dwz_def_reading.proofs.MeaningUnits.{unit_agrees}
 use Rattle.dwz_def_tops.specs.Spots.{EntryName, FileUnit, Top, UnitOf, Within, in_file, tops_of}
-use Rattle.dwz_def_plan.specs.Homes.{Rule, moves, rep}
-use Rattle.dwz_def_plan.specs.Plan.{image, stand_in}
+use Rattle.dwz_def_plan.specs.Moves.{image_in}
 use Rattle.dwz_plan.proofs.DistinctLemmas.{get_in}
 use Rattle.dwz_def_images.specs.After.{at_file}
-use Rattle.dwz_def_readback.specs.Files.{places}
-use Rattle.dwz_def_output.specs.Contents.{operand_number_after}
+use Rattle.dwz_def_readback.specs.Files.{places_by}
+use Rattle.dwz_def_output.specs.Contents.{operand_number_after_by}
 use Rattle.dwz_def_encoding.specs.Writing.{base_place}
 use Rattle.dwz_def_encoding.specs.Meant.{led_to}
 use Rattle.dwz_unit.specs.Rows.{units_of as raw_units}
@@ -39,41 +38,38 @@ use Rattle.dwz_layout_numbers.specs.Whole.{IsFileAt}
 use Rattle.dwz_layout_numbers.proofs.OwnerLemmas.{own_name}
 use Rattle.dwz_layout_numbers.proofs.Paths.{paths_of}
 use Rattle.dwz_layout_numbers.proofs.WholeLemmas.{file_at}
-use Rattle.dwz_law_layout.specs.Facts.{AreFacts, RunFacts, docs, rule, run, units}
+use Rattle.dwz_law_layout.specs.Beside.{Beside}
+use Rattle.dwz_law_layout.specs.Facts.{AreFacts, RunFacts, common, docs, every, move, run, units}
 use Rattle.dwz_law_layout.specs.NamedLaws.{IsItself}
-use Rattle.dwz_law_layout.proofs.ImagesStand.{old, spot_cases, stands_for}
+use Rattle.dwz_law_layout.proofs.ImagesStand.{old, spot_cases}
+use Rattle.dwz_law_layout.proofs.EveryNames.{stand_every}
 use Rattle.dwz_encode_operands.specs.Operands.{AreNewNumbers, IsNewNumber}
 use Rattle.dwz_encode_operands.specs.NumberLaws.{ArePlaces, AreUnitPlaces, stands_after}
 use Rattle.dwz_encode_operands.proofs.RowEntries.{row_led}
 
--- a top that doesn't move stands for itself
-stays : (r : Rule) (us : List (FileUnit EntryName)) (t : ℕ) → moves r us t ≡ false → stand_in r us t ≡ t
-unfolding stand_in
-stays r us t e = ap (λ (b : Bool). elim b as (λ _. ℕ) [ true ↦ rep r.alike us t | false ↦ t ]) e
-
-module _ (f : RunFacts) (facts : AreFacts f) where
+module _ {beside : Beside} (f : RunFacts beside) (facts : AreFacts f) where
   abbrev img : EntryName → EntryName
-  img = image (rule f) (units f)
+  img = image_in (move f)
 
   -- what stands for the top stands for itself
   abbrev Settled : ℕ → Type 0
-  Settled t = stand_in (rule f) (units f) (stand_in (rule f) (units f) t) ≡ stand_in (rule f) (units f) t
+  Settled t = (move f).stand ((move f).stand t) ≡ (move f).stand t
 
   -- what stands for an entry stands for itself
   twice : (s : EntryName) (i : ℕ) → slice_get (all_names (docs f)) i ≡ Some s → img (img s) ≡ img s
   twice s i e = elim (spot_cases s) [
     | inl c ↦ in_top c.0 c.1 c.2
-    | inr c ↦ ap img (c.1 (rule f) (units f))
+    | inr c ↦ ap img (c.1 (move f))
   ]
     where
       in_top : (top : ℕ) (path : List ℕ) → s ≡ Within top path → img (img s) ≡ img s
-      in_top top path is = subst (λ (w : EntryName). img (img w) ≡ img w) (sym is) (ap (λ (v : ℕ). Within v path) (subst Settled own.2 (by (moves (rule f) (units f) own.0.number) refl))) where
+      in_top top path is = subst (λ (w : EntryName). img (img w) ≡ img w) (sym is) (ap (λ (v : ℕ). Within v path) (subst Settled own.2 (by ((move f).gone own.0.number) refl))) where
         own : (u : Top) × In u (tops_of (units f)) × (u.number ≡ top) × In path (paths_of u.below)
         own = own_name (docs f) i top path (e ∙ ap (λ (v : EntryName). Some v) is)
 
-        by : (b : Bool) → moves (rule f) (units f) own.0.number ≡ b → Settled own.0.number
-        by true gone = (stands_for f facts own.0 own.1 gone).twice
-        by false e = ap (stand_in (rule f) (units f)) (stays (rule f) (units f) own.0.number e)
+        by : (b : Bool) → (move f).gone own.0.number ≡ b → Settled own.0.number
+        by true gone = facts.goes.twice own.0 own.1 gone
+        by false e = ap (move f).stand (facts.goes.stays own.0.number e)
 
   -- its entries begin somewhere among all
   pub start_there : (n : ℕ) (x : File) (index : Index) → slice_get f.indexes n ≡ Some index → (start : ℕ) × (slice_get (starts_from 0 f.indexes) n ≡ Some start)
@@ -108,15 +104,15 @@ module _ (f : RunFacts) (facts : AreFacts f) where
         subst (λ (w : Starts). StandFrom (all_names (docs f)) (names_from w.unit w.top among.is.kept.read.doc.units) start) starts_same
         (subst (λ (w : Doc ℕ). StandFrom (all_names (docs f)) (names_from found.starts.unit found.starts.top w.units) start) doc_same found.stand)
 
-    pub its_file : IsFile (docs f) names index start
-    its_file = record { shows = among.is.index.names; stand = stand }
+    pub its_file : IsFile (every f) names index start
+    its_file = record { shows = among.is.index.names; stand = stand_every f names start stand }
 
     abbrev named : ℕ → EntryName
     named i = name_at index.starts among.is.kept.read.doc (place_at (raw_units x.units) i)
 
     -- ---- units
 
-    pub unit_after : (j : ℕ) → j < length raw → stands_after f n (start_of raw j) ≡ (places (run f)).place (UnitOf (index.starts.unit + j))
+    pub unit_after : (j : ℕ) → j < length raw → stands_after f n (start_of raw j) ≡ (places_by (common f) (run f)).place (UnitOf (index.starts.unit + j))
     unit_after j lt =
         let got = got_there raw j lt in
         let u = got.0 in
@@ -132,7 +128,7 @@ module _ (f : RunFacts) (facts : AreFacts f) where
         ∙ ap (name_at index.starts among.is.kept.read.doc) (start_at ∙ sym at)
         ∙ named_so
         ∙ ap UnitOf number in
-        ap (λ (w : EntryName). (places (run f)).place (img w)) name
+        ap (λ (w : EntryName). (places_by (common f) (run f)).place (img w)) name
       where
         unit_first : (k : ℕ) (u : FileUnit EntryName) → slice_get (file_units index.starts n among.is.kept.read.doc) k ≡ Some u → slice_get (file_units found.starts n found.doc) k ≡ Some u
         unit_first k u e =
@@ -175,13 +171,13 @@ module _ (f : RunFacts) (facts : AreFacts f) where
         subst (λ (w : EntryName). img (img w) ≡ img w) (sym (among.is.names (place_at raw i))) (twice (named i) (start + i) there)
 
     module _ (at : List ℕ) (are : ArePlaces f n raw at) where
-      placed : (i entry : ℕ) → i < entries_in raw → IsImage (docs f) (rule f) names i entry → slice_index at entry ≡ stands_after f n (place_at raw i)
+      placed : (i entry : ℕ) → i < entries_in raw → IsImage (every f) (move f) names i entry → slice_index at entry ≡ stands_after f n (place_at raw i)
       placed i entry lt im =
           let both : Some im.name ≡ Some (named i) = sym im.is ∙ names_entries f.contents n among.bytes x index among.is i lt in
           let same : im.name ≡ named i = cc in
           are i entry lt (im.there ∙ ap (λ (w : EntryName). Some (img w)) (same ∙ sym (among.is.names (place_at raw i))))
 
-      targets_from : (refs numbers : List ℕ) → AreEntries raw refs → AreImages (docs f) (rule f) names refs numbers
+      targets_from : (refs numbers : List ℕ) → AreEntries raw refs → AreImages (every f) (move f) names refs numbers
           → map (λ i. slice_index at i) numbers ≡ map (stands_after f n) (map (place_at raw) refs)
       targets_from [] [] low h = refl
       targets_from [] (m ∷ numbers) low h = absurd h
@@ -191,7 +187,7 @@ module _ (f : RunFacts) (facts : AreFacts f) where
           let rest = targets_from refs numbers low.1 h.1 in
           (λ j. one j ∷ rest j)
 
-      pub targets : (references : List ℕ) → ((some : List EntryName) → IsFile (docs f) some index start → AreImages (docs f) (rule f) some x.resolved.refs.items references)
+      pub targets : (references : List ℕ) → ((some : List EntryName) → IsFile (every f) some index start → AreImages (every f) (move f) some x.resolved.refs.items references)
           → map (λ i. slice_index at i) references ≡ map (stands_after f n) (map (place_at raw) x.resolved.refs.items)
       targets references h = targets_from x.resolved.refs.items references among.is.kept.read.within (h names its_file)
 
@@ -210,10 +206,10 @@ module _ (f : RunFacts) (facts : AreFacts f) where
           (stand_once among.is.kept.limits among.bytes raw among.is.kept.read.doc among.is.kept.read.means) rows among.is.kept.read.operands o there (of_file o there).at
 
       abbrev new : ListOperand → ℕ
-      new o = operand_number_after (run f) n (operand_view (raw_units x.units) o)
+      new o = operand_number_after_by (common f) (run f) n (operand_view (raw_units x.units) o)
 
       module _ (units_at : List ℕ) (of_units : AreUnitPlaces f index.starts.unit raw units_at) where
-        one_number : (o : ListOperand) (m : ℕ) → In o rows → IsNewNumber (docs f) (rule f) names at units_at o m → m ≡ new o
+        one_number : (o : ListOperand) (m : ℕ) → In o rows → IsNewNumber (every f) (move f) names at units_at o m → m ≡ new o
         one_number o m there h =
             let entry = placed o.entry h.entry (of_file o there).entry h.image in
             let low = (of_file o there).unit in
@@ -221,7 +217,7 @@ module _ (f : RunFacts) (facts : AreFacts f) where
             let place : slice_index at h.entry ≡ stands_after f n (led_to (start_of raw o.unit) (operand_view raw o).operand) = entry ∙ ap (stands_after f n) (sym (led o there)) in
             h.is ∙ (λ j. place j - base_place (unit j) o.base)
 
-        some_numbers : (os : List ListOperand) (ms : List ℕ) → ((o : ListOperand) → In o os → In o rows) → AreNewNumbers (docs f) (rule f) names at units_at os ms → ms ≡ map new os
+        some_numbers : (os : List ListOperand) (ms : List ℕ) → ((o : ListOperand) → In o os → In o rows) → AreNewNumbers (every f) (move f) names at units_at os ms → ms ≡ map new os
         some_numbers [] [] low h = refl
         some_numbers [] (m ∷ ms) low h = absurd h
         some_numbers (o ∷ os) [] low h = absurd h
@@ -230,8 +226,8 @@ module _ (f : RunFacts) (facts : AreFacts f) where
             let rest = some_numbers os ms (λ p there. low p (inr there)) h.1 in
             (λ j. one j ∷ rest j)
 
-        pub numbers_at : (numbers : List ℕ) → AreNewNumbers (docs f) (rule f) names at units_at rows numbers → numbers ≡ map new rows
+        pub numbers_at : (numbers : List ℕ) → AreNewNumbers (every f) (move f) names at units_at rows numbers → numbers ≡ map new rows
         numbers_at numbers h = some_numbers rows numbers (λ o there. there) h
 
-        pub numbers_are : (numbers : List ℕ) → ((some : List EntryName) → IsFile (docs f) some index start → AreNewNumbers (docs f) (rule f) some at units_at rows numbers) → numbers ≡ map new rows
+        pub numbers_are : (numbers : List ℕ) → ((some : List EntryName) → IsFile (every f) some index start → AreNewNumbers (every f) (move f) some at units_at rows numbers) → numbers ≡ map new rows
         numbers_are numbers h = some_numbers rows numbers (λ o there. there) (h names its_file)

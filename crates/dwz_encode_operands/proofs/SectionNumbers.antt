@@ -14,12 +14,11 @@ use Rattle.dwz_encode_sections.specs.Numbers.{spots, with_numbers}
 use Rattle.dwz_encode_sections.specs.Ranges.{AreMoved}
 use Rattle.dwz_encode_sections.proofs.ListLemmas.{all_patched}
 use Rattle.dwz_encode_sections.proofs.RangeSetLemmas.{ranges_law}
-use Rattle.dwz_def_readback.specs.Files.{Run, lists_named, name_after, places, sources}
-use Rattle.dwz_def_output.specs.Contents.{lists_after_by}
-use Rattle.dwz_def_output.specs.Contents.{lists_after, operand_number_after, ranges_after}
+use Rattle.dwz_def_readback.specs.Files.{CommonFile, Run, lists_named, name_after, places_by, sources}
+use Rattle.dwz_def_output.specs.Contents.{lists_after_by, operand_number_after_by, ranges_after_by}
 use Rattle.dwz_def_output.proofs.ListsStand.{all_stand}
 use Rattle.dwz_def_output.proofs.ListsWritten.{AllStand, number_for, number_own, one_patched, patched}
-use Rattle.dwz_def_output.proofs.SectionsMade.{gives_one, ranges_one}
+use Rattle.dwz_def_over.proofs.SectionsOver.{gives_one, ranges_one}
 
 -- the number for a place, by rows
 by_rows : (raw : List RawUnit) (new : ListOperand → ℕ) (place : ℕ) (rows : List Row)
@@ -33,7 +32,7 @@ by_rows raw new place (o ∷ rows) = by (eqb o.at place) (by_rows raw new place 
   by true e = refl
   by false e = e
 
-module _ (r : Run) (file : ℕ) (rows : List Row) (are : AreRows (lists_named r file) (map (operand_view (r.input.raw file)) rows)) (none : NoneShared (lists_named r file)) where
+module _ (cf : CommonFile) (r : Run) (file : ℕ) (rows : List Row) (are : AreRows (lists_named r file) (map (operand_view (r.input.raw file)) rows)) (none : NoneShared (lists_named r file)) where
   abbrev raw : List RawUnit
   raw = r.input.raw file
 
@@ -44,21 +43,21 @@ module _ (r : Run) (file : ℕ) (rows : List Row) (are : AreRows (lists_named r 
   all = operands_in_lists (lists_named r file)
 
   abbrev new : ListOperand → ℕ
-  new = operand_number_after r file
+  new = operand_number_after_by cf r file
 
   abbrev numbers : List ℕ
-  numbers = map (λ o. operand_number_after r file (operand_view (r.input.raw file) o)) rows
+  numbers = map (λ o. operand_number_after_by cf r file (operand_view (r.input.raw file) o)) rows
 
   stand : AllStand (lists_named r file) section
   stand = all_stand (around_of (r.input.bytes file) (r.input.raw file)) (r.input.raw file)
 
   ours : IsPatched (lists_named r file) (number_for_place (spots rows) numbers) section (with_numbers rows numbers section)
-  ours = all_patched (around_of (r.input.bytes file) (r.input.raw file)) (r.input.raw file) rows numbers are none (length-map rows (λ o. operand_number_after r file (operand_view (r.input.raw file)
+  ours = all_patched (around_of (r.input.bytes file) (r.input.raw file)) (r.input.raw file) rows numbers are none (length-map rows (λ o. operand_number_after_by cf r file (operand_view (r.input.raw file)
       o)))
 
-  theirs : IsPatched (lists_named r file) (number_for new all) section (lists_after r file)
+  theirs : IsPatched (lists_named r file) (number_for new all) section (lists_after_by cf r file)
   unfolding lists_after_by
-  theirs = patched (lists_named r file) section none stand new (gives_one r file)
+  theirs = patched (lists_named r file) section none stand new (gives_one cf r file)
 
   same : (o : ListOperand) → In o all → number_for_place (spots rows) numbers o.operand.at ≡ number_for new all o.operand.at
   same o there =
@@ -67,12 +66,12 @@ module _ (r : Run) (file : ℕ) (rows : List Row) (are : AreRows (lists_named r 
       let at : v.operand.at ≡ o.operand.at = kept.2.at in
       by_rows raw new o.operand.at rows
       ∙ ap (number_for new (map (operand_view raw) rows)) (sym at)
-      ∙ number_own (lists_named r file) section none stand new (gives_one r file) (map (operand_view raw) rows) are.from v kept.1
-      ∙ sym (number_own (lists_named r file) section none stand new (gives_one r file) all (λ p p_in. p_in) v (are.from v kept.1))
+      ∙ number_own (lists_named r file) section none stand new (gives_one cf r file) (map (operand_view raw) rows) are.from v kept.1
+      ∙ sym (number_own (lists_named r file) section none stand new (gives_one cf r file) all (λ p p_in. p_in) v (are.from v kept.1))
       ∙ ap (number_for new all) at
 
-  pub lists_are : with_numbers rows numbers section ≡ lists_after r file
-  lists_are = one_patched (lists_named r file) (number_for_place (spots rows) numbers) (number_for new all) section (with_numbers rows numbers section) (lists_after r file) same ours theirs
+  pub lists_are : with_numbers rows numbers section ≡ lists_after_by cf r file
+  lists_are = one_patched (lists_named r file) (number_for_place (spots rows) numbers) (number_for new all) section (with_numbers rows numbers section) (lists_after_by cf r file) same ours theirs
 
 -- ---- address ranges
 
@@ -87,15 +86,15 @@ in_starts (u ∷ us) m there = ⊎_elim (λ own. inl (one u.kind own)) (λ later
   one (TypeUnit signature type_offset) (inr never) = absurd never
   one PartialUnit never = absurd never
 
-module _ (r : Run) (file : ℕ) (good : HaveGoodRanges (r.input.bytes file) (r.input.raw file)) where
+module _ (cf : CommonFile) (r : Run) (file : ℕ) (good : HaveGoodRanges (r.input.bytes file) (r.input.raw file)) where
   abbrev starts : List ℕ
   starts = map (λ (u : RawUnit). u.at) (r.input.raw file)
 
   abbrev after : ℕ → ℕ
-  after p = (places r).place (name_after r file p)
+  after p = (places_by cf r).place (name_after r file p)
 
-  pub ranges_are : (out : List ℕ) → AreMoved starts (map after starts) (debug_aranges (r.input.bytes file)) out → out ≡ ranges_after r file
-  ranges_are out moved = ranges_one r file good out (record {
+  pub ranges_are : (out : List ℕ) → AreMoved starts (map after starts) (debug_aranges (r.input.bytes file)) out → out ≡ ranges_after_by cf r file
+  ranges_are out moved = ranges_one cf r file good out (record {
     sets = good.sets;
     spelled = good.spelled;
     are = ranges_law (is_place_of (r.input.raw file)) after starts (debug_aranges (r.input.bytes file)) out good.sets good.spelled

@@ -3,7 +3,7 @@
 ghost use Rattle.std.specs.Prelude.{◌≡◌, ℕ, ◌+◌, ◌<◌, ◌^◌, All, IfOk, List, length};
 ghost use Rattle.dwz_def_tops.specs.Spots.{EntryName};
 ghost use Rattle.dwz_def_reading.specs.Documents.{Doc};
-ghost use Rattle.dwz_def_plan.specs.Homes.{Rule};
+ghost use Rattle.dwz_def_plan.specs.Moves.{Move};
 ghost use Rattle.dwz_layout_numbers.specs.Images.{IsFile, IsPlanned};
 ghost use Rattle.dwz_encode_sections.specs.Numbers.{EndIn};
 ghost use Rattle.dwz_encode_operands.specs.Operands.{HasNewNumbers};
@@ -31,9 +31,9 @@ pub fn lists_section(
     requires there { All (λ o. o.entry < length index.now.steps) operands.now }
     requires few { start + length index.now.steps < 2 ^ 32 }
     requires plan { length plan.now.stand_ins ≡ length tops.now }
-    ensures { (docs : List (Doc ℕ)) (rule : Rule) (names : List EntryName) → IsPlanned docs rule plan.now tops.now
+    ensures { (docs : List (Doc ℕ)) (m : Move) (names : List EntryName) → IsPlanned docs m plan.now tops.now
         → IsFile docs names index.now start → IfOk result
-        (λ out. HasNewNumbers docs rule names places.now units_at.now operands.now section.now out.items) }
+        (λ out. HasNewNumbers docs m names places.now units_at.now operands.now section.now out.items) }
 {
     let numbers = operand_numbers(alloc, operands, index, plan, tops, start, places, units_at)?;
     lists(alloc, section, operands, numbers.as_slice())

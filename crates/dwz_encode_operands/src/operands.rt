@@ -3,7 +3,7 @@
 ghost use Rattle.std.specs.Prelude.{◌≡◌, ℕ, ◌+◌, ◌<◌, ◌^◌, All, IfOk, List, length, slice_index};
 ghost use Rattle.dwz_def_tops.specs.Spots.{EntryName};
 ghost use Rattle.dwz_def_reading.specs.Documents.{Doc};
-ghost use Rattle.dwz_def_plan.specs.Homes.{Rule};
+ghost use Rattle.dwz_def_plan.specs.Moves.{Move};
 ghost use Rattle.dwz_layout_numbers.specs.Images.{IsFile, IsPlanned};
 ghost use Rattle.dwz_def_encoding.specs.Writing.{base_place};
 ghost use Rattle.dwz_encode_operands.specs.Operands.{AreNewNumbers, new_number_by};
@@ -64,9 +64,9 @@ pub fn operand_numbers(
     requires few { start + length index.now.steps < 2 ^ 32 }
     requires plan { length plan.now.stand_ins ≡ length tops.now }
     ensures many { IfOk result (λ v. length v.items ≡ length operands.now) }
-    ensures numbers { (docs : List (Doc ℕ)) (rule : Rule) (names : List EntryName) → IsPlanned docs rule plan.now tops.now
+    ensures numbers { (docs : List (Doc ℕ)) (m : Move) (names : List EntryName) → IsPlanned docs m plan.now tops.now
         → IsFile docs names index.now start → IfOk result
-        (λ v. AreNewNumbers docs rule names places.now units_at.now operands.now v.items) }
+        (λ v. AreNewNumbers docs m names places.now units_at.now operands.now v.items) }
 {
     let mut numbers = Vec::with_capacity(alloc, operands.len())?;
     for operand in operands {

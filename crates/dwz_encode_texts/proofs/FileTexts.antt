@@ -18,6 +18,7 @@ use Rattle.dwz_layout.specs.declared.known.FileRows.{FileRows}
 use Rattle.dwz_layout.specs.declared.known.Row.{Row}
 use Rattle.dwz_layout.specs.declared.known.SpaceRow.{SpaceRow}
 use Rattle.dwz_layout.specs.declared.known.TextAt.{TextAt}
+use Rattle.dwz_law_layout.specs.Beside.{Beside}
 use Rattle.dwz_law_layout.specs.Facts.{RunFacts}
 use Rattle.dwz_law_layout.specs.Listed.{AreRows, IsListed, space_rows}
 use Rattle.dwz_encode_texts.specs.Texts.{own_text, row_texts, slots_base_at}
@@ -73,7 +74,7 @@ module _ (around : Around ℕ) (raw : List RawUnit) where
 
 -- ---- the file with a number
 
-pub record HasRows (f : RunFacts) (x : File) (index : Index) (texts : List (List TextAt)) (rows : List FileRows) (n : ℕ) : Type 0 where
+pub record HasRows {beside : Beside} (f : RunFacts beside) (x : File) (index : Index) (texts : List (List TextAt)) (rows : List FileRows) (n : ℕ) : Type 0 where
   pub start : ℕ
   pub own : List TextAt
   pub row : FileRows
@@ -81,7 +82,7 @@ pub record HasRows (f : RunFacts) (x : File) (index : Index) (texts : List (List
   pub row_is : slice_get rows n ≡ Some row
   pub listed : IsListed f x index start own row
 
-pub has_rows : (f : RunFacts) (files : List File) (indexes : List Index) (starts : List ℕ) (texts : List (List TextAt)) (rows : List FileRows) → AreRows f files indexes starts texts rows
+pub has_rows : {beside : Beside} (f : RunFacts beside) (files : List File) (indexes : List Index) (starts : List ℕ) (texts : List (List TextAt)) (rows : List FileRows) → AreRows f files indexes starts texts rows
     → (n : ℕ) (x : File) (index : Index) → slice_get files n ≡ Some x → slice_get indexes n ≡ Some index → HasRows f x index texts rows n
 has_rows f [] indexes starts texts rows h n x index p q = absurd cc
 has_rows f (y ∷ files) [] starts texts rows h n x index p q = absurd cc

@@ -31,6 +31,7 @@ use Rattle.dwz_layout.specs.declared.known.TextAt.TheVariants.{Own}
 use Rattle.dwz_layout.specs.Known.{no_firsts, no_space, no_text, space_at, text_at}
 use Rattle.dwz_law_layout.specs.Knows.{EachFrom, IsRead, IsText, firsts_at, name_attr, texts_in}
 use Rattle.dwz_law_layout.proofs.FormWays.{is_read}
+use Rattle.dwz_law_layout.specs.Beside.{Beside}
 use Rattle.dwz_law_layout.specs.Facts.{AreFacts, HasFile, RunFacts, file_read, run}
 use Rattle.dwz_law_layout.specs.Listed.{AreListed, TextsAt, entry_row, firsts_from, none_before, space_entries}
 use Rattle.dwz_encode_texts.specs.Texts.{file_texts, row_texts, slots_base, slots_base_at, str_offset}
@@ -43,7 +44,7 @@ use Rattle.dwz_encode_texts.proofs.FormTexts.{text_stands}
 use Rattle.dwz_encode_texts.proofs.SpaceNames.{has_stored_name}
 
 -- what is made of files
-pub stand_law : (f : RunFacts) (t : TextsAt) → t.files ≡ map texts_in_file f.files → HaveNames f.contents f.indexes t.spaces → StandAsRead f t
+pub stand_law : {beside : Beside} (f : RunFacts beside) (t : TextsAt) → t.files ≡ map texts_in_file f.files → HaveNames f.contents f.indexes t.spaces → StandAsRead f t
 stand_law f t files names = record {
   files = λ n bytes x index texts has own. (
       let raw = raw_units x.units in
@@ -52,7 +53,7 @@ stand_law f t files names = record {
   spaces = names;
 }
 
-module _ (f : RunFacts) (t : TextsAt) (k : EntryTable) (facts : AreFacts f) (listed : AreListed f t k) (stand : StandAsRead f t)
+module _ {beside : Beside} (f : RunFacts beside) (t : TextsAt) (k : EntryTable) (facts : AreFacts f) (listed : AreListed f t k) (stand : StandAsRead f t)
     (n : ℕ) (bytes : List ℕ) (x : File) (index : Index) (has : HasFile f n bytes x index) (keys : List EntryName) (u : DwUnit EntryName) where
   abbrev ft : UnitForms EntryName
   ft = unshared_forms f n keys u

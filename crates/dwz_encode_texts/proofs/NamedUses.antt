@@ -14,7 +14,6 @@ use Rattle.dwz_def_encoding.specs.Meant.{AttrSays, EntriesSay, Own, SaysAs, Tell
 use Rattle.dwz_def_encoding.specs.Pruned.{attr_uses, attrs_uses, units_uses}
 use Rattle.dwz_def_encoding.specs.Pruned as pruned
 use Rattle.dwz_def_readback.specs.Files.{uses_by}
-use Rattle.dwz_def_readback.specs.Files.{uses}
 use Rattle.dwz_encode_texts.specs.UseLaws.{AfterLaw, NamedLaw}
 use Rattle.dwz_encode_texts.proofs.ShownUses.{strp_class}
 

@@ -15,9 +15,10 @@ use Rattle.dwz_layout_order.specs.Across.{IsFileAmong, name_at}
 use Rattle.dwz_layout.specs.declared.known.Row.{Row}
 use Rattle.dwz_law_layout.specs.Knows.{FileRead, ShowsRow, ShowsTree}
 use Rattle.dwz_law_layout.proofs.AfterLemmas.{entries_after, node_after}
+use Rattle.dwz_law_layout.specs.Beside.{Beside}
 use Rattle.dwz_law_layout.specs.Facts.{RunFacts, move, run}
 
-module _ (f : RunFacts) (n : ℕ) (bytes : List ℕ) (x : File) (index : Index) (is : IsFileAmong f.contents n bytes x index) where
+module _ {beside : Beside} (f : RunFacts beside) (n : ℕ) (bytes : List ℕ) (x : File) (index : Index) (is : IsFileAmong f.contents n bytes x index) where
   abbrev pub name : ℕ → EntryName
   name = name_at index.starts is.kept.read.doc
 

@@ -9,38 +9,43 @@ use Rattle.dwz_def_tops.specs.Seen.{all_seen}
 use Rattle.dwz_def_tops.specs.Shown.{HaveMains}
 use Rattle.dwz_def_tops.proofs.Members.{From, in_map_from}
 use Rattle.dwz_def_tops.specs.Spots.{EntryName, UnitOf, file_numbers}
-use Rattle.dwz_def_images.specs.Units.{common_units, file_units, out_units}
+use Rattle.dwz_def_images.specs.Units.{all_units, common_units, file_units, out_units}
 use Rattle.dwz_def_encoding.specs.Meant.{all_entry_keys}
 use Rattle.dwz_def_encoding.specs.Placing.{FileOut}
-use Rattle.dwz_def_readback.specs.Files.{fitted_by, formed_by}
-use Rattle.dwz_def_readback.specs.Files.{Run, common_fitted, common_forms, common_out, file_forms, file_out, fitted, fitted_if, formed, sources, uses}
-use Rattle.dwz_def_readback.proofs.NameLemmas.{common_entries, fitted_entries}
+use Rattle.dwz_def_readback.specs.Files.{CommonFile, common_fitted_by, common_out_by, file_forms_by, file_out_by, fitted_by, fitted_if_by, formed_by, uses_by}
+use Rattle.dwz_def_readback.specs.Files.{Run, common_fitted, common_forms, sources}
+use Rattle.dwz_def_readback.proofs.NameLemmas.{common_entries, fitted_entries_by}
 use Rattle.dwz_def_readback.proofs.OutOperands.{all_with, unit_with}
 use Rattle.dwz_def_readback.specs.Fewer.{NameOnly}
 use Rattle.dwz_def_readback.proofs.SeenFitted.{fit_kinds, fit_seen, new_kinds, new_seen}
 use Rattle.dwz_def_readback.proofs.SomeFiles.{some_in}
-use Rattle.dwz_law_layout.specs.Facts.{AreFacts, RunFacts, docs, files_written, move, run, units}
-use Rattle.dwz_law_layout.specs.Laid.{written_out}
+use Rattle.dwz_law_layout.specs.Facts.{AreFacts, RunFacts, common, docs, files_written, move, run, units}
+use Rattle.dwz_law_layout.specs.Laid.{files_out, written_out}
 use Rattle.dwz_law_layout.proofs.FilesLaid.{some_written}
-use Rattle.dwz_law_layout.proofs.NoUnits.{all, among_all, no_entry}
+use Rattle.dwz_law_layout.specs.Beside.{Alone, Beside}
 
 -- ---- units as they are written, and before
 
-module _ (r : Run) where
-  fitted_seen : (file : ℕ) → all_seen (fitted r file) ≡ all_seen (out_units r.move r.units file)
+module _ (k : CommonFile) (r : Run) where
+  fitted_seen : (file : ℕ) → all_seen (fitted_by k r file) ≡ all_seen (out_units r.move r.units file)
   unfolding fitted_by formed_by
   fitted_seen file = by (r.input.prunes file) where
-    by : (b : Bool) → all_seen (fitted_if b r file) ≡ all_seen (out_units r.move r.units file)
-    by true = new_seen (new_number (sources r file).strs (uses r file)) (formed r file) ∙ fit_seen (file_forms r file) (out_units r.move r.units file)
-    by false = fit_seen (file_forms r file) (out_units r.move r.units file)
+    by : (b : Bool) → all_seen (fitted_if_by b k r file) ≡ all_seen (out_units r.move r.units file)
+    by true = new_seen (new_number (sources r file).strs (uses_by k r file)) (formed_by k r file) ∙ fit_seen (file_forms_by k r file) (out_units r.move r.units file)
+    by false = fit_seen (file_forms_by k r file) (out_units r.move r.units file)
 
-  fitted_kinds : (file : ℕ) → map (λ u. u.kind) (fitted r file) ≡ map (λ u. u.kind) (out_units r.move r.units file)
+  fitted_kinds : (file : ℕ) → map (λ u. u.kind) (fitted_by k r file) ≡ map (λ u. u.kind) (out_units r.move r.units file)
   unfolding fitted_by formed_by
   fitted_kinds file = by (r.input.prunes file) where
-    by : (b : Bool) → map (λ u. u.kind) (fitted_if b r file) ≡ map (λ u. u.kind) (out_units r.move r.units file)
-    by true = new_kinds (new_number (sources r file).strs (uses r file)) (formed r file) ∙ fit_kinds (file_forms r file) (out_units r.move r.units file)
-    by false = fit_kinds (file_forms r file) (out_units r.move r.units file)
+    by : (b : Bool) → map (λ u. u.kind) (fitted_if_by b k r file) ≡ map (λ u. u.kind) (out_units r.move r.units file)
+    by true = new_kinds (new_number (sources r file).strs (uses_by k r file)) (formed_by k r file) ∙ fit_kinds (file_forms_by k r file) (out_units r.move r.units file)
+    by false = fit_kinds (file_forms_by k r file) (out_units r.move r.units file)
 
+  pub fitted_many : (file : ℕ) → length (fitted_by k r file) ≡ length (out_units r.move r.units file)
+  fitted_many file =
+      sym (length-map (fitted_by k r file) (λ u. u.kind)) ∙ ap (λ (w : List (Kind EntryName)). length w) (fitted_kinds file) ∙ length-map (out_units r.move r.units file) (λ u. u.kind)
+
+module _ (r : Run) where
   common_seen : all_seen (common_fitted r) ≡ all_seen (common_units r.move)
   unfolding common_fitted
   common_seen = fit_seen (common_forms r) (common_units r.move)
@@ -48,10 +53,6 @@ module _ (r : Run) where
   common_kinds : map (λ u. u.kind) (common_fitted r) ≡ map (λ u. u.kind) (common_units r.move)
   unfolding common_fitted
   common_kinds = fit_kinds (common_forms r) (common_units r.move)
-
-  pub fitted_many : (file : ℕ) → length (fitted r file) ≡ length (out_units r.move r.units file)
-  fitted_many file =
-      sym (length-map (fitted r file) (λ u. u.kind)) ∙ ap (λ (w : List (Kind EntryName)). length w) (fitted_kinds file) ∙ length-map (out_units r.move r.units file) (λ u. u.kind)
 
   pub common_many : length (common_fitted r) ≡ length (common_units r.move)
   common_many = sym (length-map (common_fitted r) (λ u. u.kind)) ∙ ap (λ (w : List (Kind EntryName)). length w) common_kinds ∙ length-map (common_units r.move) (λ u. u.kind)
@@ -85,60 +86,56 @@ mains_by us outs same mains u signature main there is =
     let o : From (λ (v : DwUnit EntryName). v.kind) outs u.kind = in_map_from (λ (v : DwUnit EntryName). v.kind) u.kind outs k in
     all_with outs o.source main o.there (mains o.source o.there signature main (o.is ∙ is))
 
-module _ (f : RunFacts) (facts : AreFacts f) where
-  abbrev names : List EntryName
-  names = entries_of (written_out f)
+module _ {beside : Beside} (f : RunFacts beside) (facts : AreFacts f) where
+  file_in : (files : List ℕ) (n : ℕ) (v : DwUnit EntryName) → In n files → In v (out_units (move f) (units f) n) → In v (file_units (move f) (units f) files)
+  unfolding file_units
+  file_in [] n v there is = absurd there
+  file_in (file ∷ files) n v (inl e) is =
+      in_left v (out_units (move f) (units f) file) (file_units (move f) (units f) files) (subst (λ (w : ℕ). In v (out_units (move f) (units f) w)) (sym e) is)
+  file_in (file ∷ files) n v (inr later) is = in_right v (out_units (move f) (units f) file) (file_units (move f) (units f) files) (file_in files n v later is)
+
+  pub among_all : (n : ℕ) (v : DwUnit EntryName) → In n (file_numbers 0 (docs f)) → In v (out_units (move f) (units f) n)
+      → In v (all_units (move f) (units f) (file_numbers 0 (docs f)))
+  among_all n v there is = in_right v (common_units (move f)) (file_units (move f) (units f) (file_numbers 0 (docs f))) (file_in (file_numbers 0 (docs f)) n v there is)
 
   number_in : (n : ℕ) → In n (files_written f) → In n (file_numbers 0 (docs f))
   number_in n there = some_in (file_numbers 0 (docs f)) (files_written f) (some_written f facts) n there
 
-  all_mains : HaveMains (all f facts)
-  all_mains = facts.whole.mains
+  abbrev names : List EntryName
+  names = entries_of (written_out f)
 
-  in_common : (s : EntryName) → In s (all_entry_keys (common_fitted (run f))) → In s names
-  in_common s key = entries_in (written_out f) (common_out (run f)) s (inl refl) key
+  in_common : (s : EntryName) → In s (all_entry_keys (common_fitted_by (common f) (run f))) → In s names
+  in_common s key = entries_in (written_out f) (common_out_by (common f) (run f)) s (inl refl) key
 
-  common_only : NameOnly names (common_fitted (run f))
-  common_only = record {
-    refs = λ e a s there attr ref.
-        elim (facts.whole.common e a s (subst (In e) (common_seen (run f)) there) attr ref) [
-          | inl own ↦ in_common s own
-          | inr none ↦ absurd none
-        ];
-    mains = λ u signature main there kind. in_common main (subst (In main) (sym (common_entries (run f)))
-        (mains_by (common_fitted (run f)) (common_units (move f)) (common_kinds (run f))
-        (λ v v_in. all_mains v (in_left v (common_units (move f)) (file_units (move f) (units f) (file_numbers 0 (docs f))) v_in)) u signature main there kind));
-  }
-
-  file_only : (n : ℕ) → In n (files_written f) → NameOnly names (fitted (run f) n)
+  -- what a file that is written names stands in it, or in the common one
+  pub file_only : (n : ℕ) → In n (files_written f) → NameOnly names (fitted_by (common f) (run f) n)
   file_only n file_in =
-      let there : In (file_out (run f) n) (written_out f) = inr (in_map (file_out (run f)) n (files_written f) file_in) in
+      let k = common f in
+      let there : In (file_out_by k (run f) n) (written_out f) = inr (in_map (file_out_by k (run f)) n (files_written f) file_in) in
       record {
-        refs = λ e a s seen attr ref.
-            elim (facts.whole.closed n e a s (subst (In e) (fitted_seen (run f) n) seen) attr ref) [
-              | inl own ↦ entries_in (written_out f) (file_out (run f) n) s there own
-              | inr common ↦ in_common s common
-            ];
-        mains = λ u signature main u_in kind. entries_in (written_out f) (file_out (run f) n) main there (subst (In main) (sym (fitted_entries (run f) n))
-            (mains_by (fitted (run f) n) (out_units (move f) (units f) n) (fitted_kinds (run f) n)
-            (λ v v_in. all_mains v (among_all f facts n v (number_in n file_in) v_in)) u signature main u_in kind));
+        refs = λ e a s seen attr ref. elim (facts.whole.closed n e a s (subst (In e) (fitted_seen k (run f) n) seen) attr ref) [
+          | inl own ↦ entries_in (written_out f) (file_out_by k (run f) n) s there own
+          | inr shared ↦ in_common s shared
+        ];
+        mains = λ u signature main u_in kind. entries_in (written_out f) (file_out_by k (run f) n) main there (subst (In main) (sym (fitted_entries_by k (run f) n))
+            (mains_by (fitted_by k (run f) n) (out_units (move f) (units f) n) (fitted_kinds k (run f) n)
+            (λ v v_in. facts.whole.mains v (among_all n v (number_in n file_in) v_in)) u signature main u_in kind));
       }
 
-  pub files_only : (x : FileOut EntryName) → In x (written_out f) → NameOnly names x.units
-  files_only x (inl e) = subst (λ (y : FileOut EntryName). NameOnly names y.units) e common_only
-  files_only x (inr there) =
-      let o = in_map_from (file_out (run f)) x (files_written f) there in
+  pub files_only : (x : FileOut EntryName) → In x (files_out f) → NameOnly names x.units
+  files_only x there =
+      let o = in_map_from (file_out_by (common f) (run f)) x (files_written f) there in
       subst (λ (y : FileOut EntryName). NameOnly names y.units) o.is (file_only o.source o.there)
 
-  common_no : (s : EntryName) → In s (all_entry_keys (common_fitted (run f))) → s ≡ UnitOf 0 → ⊥
+  common_no : (s : EntryName) → In s (all_entry_keys (common_fitted_by (common f) (run f))) → s ≡ UnitOf 0 → ⊥
   common_no s key e =
-      let o = unit_with (common_units (move f)) s (subst (In s) (common_entries (run f)) key) in
-      no_entry f facts o.0 s (in_left o.0 (common_units (move f)) (file_units (move f) (units f) (file_numbers 0 (docs f))) o.1) o.2 e
+      let o = unit_with (common_units (move f)) s (subst (In s) facts.whole.shared key) in
+      facts.whole.entries o.0 s (in_left o.0 (common_units (move f)) (file_units (move f) (units f) (file_numbers 0 (docs f))) o.1) o.2 e
 
-  file_no : (n : ℕ) → In n (files_written f) → (s : EntryName) → In s (all_entry_keys (fitted (run f) n)) → s ≡ UnitOf 0 → ⊥
+  file_no : (n : ℕ) → In n (files_written f) → (s : EntryName) → In s (all_entry_keys (fitted_by (common f) (run f) n)) → s ≡ UnitOf 0 → ⊥
   file_no n there s key e =
-      let o = unit_with (out_units (move f) (units f) n) s (subst (In s) (fitted_entries (run f) n) key) in
-      no_entry f facts o.0 s (among_all f facts n o.0 (number_in n there) o.1) o.2 e
+      let o = unit_with (out_units (move f) (units f) n) s (subst (In s) (fitted_entries_by (common f) (run f) n) key) in
+      facts.whole.entries o.0 s (among_all n o.0 (number_in n there) o.1) o.2 e
 
   -- no entry that they have is a unit
   pub entries_no : (s : EntryName) → In s names → s ≡ UnitOf 0 → ⊥
@@ -146,5 +143,21 @@ module _ (f : RunFacts) (facts : AreFacts f) where
     by : (x : FileOut EntryName) → In x (written_out f) → In s (all_entry_keys x.units) → ⊥
     by x (inl q) has = common_no s (subst (λ (y : FileOut EntryName). In s (all_entry_keys y.units)) (sym q) has) e
     by x (inr there) has =
-        (let o = in_map_from (file_out (run f)) x (files_written f) there in
+        (let o = in_map_from (file_out_by (common f) (run f)) x (files_written f) there in
         file_no o.source o.there s (subst (λ (y : FileOut EntryName). In s (all_entry_keys y.units)) (sym o.is) has) e)
+
+-- a common file that is made names its own entries
+common_only : (f : RunFacts Alone) → AreFacts f → NameOnly (entries_of (written_out f)) (common_fitted_by (common f) (run f))
+common_only f facts = record {
+  refs = λ e a s seen attr ref. elim (facts.whole.common e a s (subst (In e) (common_seen (run f)) seen) attr ref) [
+    | inl own ↦ in_common f facts s own
+    | inr none ↦ absurd none
+  ];
+  mains = λ u signature main u_in kind. in_common f facts main (subst (In main) (sym (common_entries (run f)))
+      (mains_by (common_fitted (run f)) (common_units (move f)) (common_kinds (run f))
+      (λ v v_in. facts.whole.mains v (in_left v (common_units (move f)) (file_units (move f) (units f) (file_numbers 0 (docs f))) v_in)) u signature main u_in kind));
+}
+
+pub all_only : (f : RunFacts Alone) → AreFacts f → (x : FileOut EntryName) → In x (written_out f) → NameOnly (entries_of (written_out f)) x.units
+all_only f facts x (inl e) = subst (λ (y : FileOut EntryName). NameOnly (entries_of (written_out f)) y.units) e (common_only f facts)
+all_only f facts x (inr there) = files_only f facts x there

@@ -19,43 +19,44 @@ use Rattle.dwz_def_encoding.specs.Writing.{Numbering, written_header_size, writt
 use Rattle.dwz_def_encoding.proofs.Places.{numbering_stands}
 use Rattle.dwz_def_encoding.proofs.SameLemmas.{spots_same}
 use Rattle.dwz_def_readback.specs.Files.{fitted_by, formed_by}
-use Rattle.dwz_def_readback.specs.Files.{file_forms, file_out, files_out, fitted, fitted_if, formed, places, sources, uses}
-use Rattle.dwz_def_readback.proofs.NameLemmas.{common_names, fitted_fixed, fitted_names, run_once}
+use Rattle.dwz_def_readback.specs.Files.{file_forms_by, file_out, file_out_by, files_out as all_out, fitted_if_by, sources, uses_by}
+use Rattle.dwz_def_readback.proofs.NameLemmas.{common_names, fitted_fixed, fitted_names_by, run_once}
 use Rattle.dwz_def_readback.proofs.WithinLemmas.{kept_to}
 use Rattle.dwz_layout_numbers.specs.Names.{all_names}
 use Rattle.dwz_layout.specs.Entries.{row}
 use Rattle.dwz_layout.specs.Known.{number_of, owner_of}
 use Rattle.dwz_law_layout.proofs.HeldNames.{each_of_map}
 use Rattle.dwz_law_layout.proofs.RowsWritten.{row_written}
-use Rattle.dwz_law_layout.specs.Facts.{AreFacts, RunFacts, docs, files_written, move, run, units, units_written}
+use Rattle.dwz_law_layout.specs.Facts.{AreFacts, RunFacts, common, docs, every, files_written, move, run, units, units_written}
+use Rattle.dwz_law_layout.specs.Beside.{Alone, Beside}
 use Rattle.dwz_law_layout.specs.Named.{keys}
 use Rattle.dwz_law_layout.specs.NamedLaws.{entry_name}
-use Rattle.dwz_law_layout.proofs.FileEntries.{below, here, named, named_all, number_is}
+use Rattle.dwz_law_layout.proofs.FileEntries.{below, here, named, named_every, number_is}
 use Rattle.dwz_law_layout.proofs.ImagesStand.{in_units, old}
 use Rattle.dwz_law_layout.proofs.LayoutLemmas.{names_entry, owns_entry}
-use Rattle.dwz_law_layout.specs.Laid.{RunRootsLaw, RunSelfLaw, written_out}
+use Rattle.dwz_law_layout.specs.Laid.{RunRootsLaw, RunSelfLaw, files_out, places_of, written_out}
 use Rattle.dwz_law_layout.proofs.FilesLaid.{all_once, run_places}
 use Rattle.dwz_law_layout.proofs.NamesApart.{entries_many, rows_apart}
 use Rattle.dwz_law_layout.proofs.WrittenUnits.{written_units}
 
 -- ---- names of what is written
 
-module _ (f : RunFacts) where
-  out_keys : (files : List ℕ) → files_keys (map (file_out (run f)) files) ≡ units_keys (file_units (move f) (units f) files)
+module _ {beside : Beside} (f : RunFacts beside) where
+  out_keys : (files : List ℕ) → files_keys (map (file_out_by (common f) (run f)) files) ≡ units_keys (file_units (move f) (units f) files)
   unfolding files_keys file_units units_keys
   out_keys [] = refl
   out_keys (n ∷ files) =
-      ap (λ (w : List EntryName). w ++ files_keys (map (file_out (run f)) files)) (fitted_names (run f) n)
+      ap (λ (w : List EntryName). w ++ files_keys (map (file_out_by (common f) (run f)) files)) (fitted_names_by (common f) (run f) n)
       ∙ ap (λ (w : List EntryName). units_keys (out_units (move f) (units f) n) ++ w) (out_keys files)
       ∙ sym (keys_joined (out_units (move f) (units f) n) (file_units (move f) (units f) files))
 
-  written_keys : files_keys (written_out f) ≡ units_keys (units_written f)
-  unfolding files_keys
-  written_keys =
-      ap (λ (w : List EntryName). w ++ files_keys (map (file_out (run f)) (files_written f))) (common_names (run f))
-      ∙ ap (λ (w : List EntryName). units_keys (common_units (move f)) ++ w) (out_keys (files_written f))
-      ∙ sym (keys_joined (common_units (move f)) (file_units (move f) (units f) (files_written f)))
-      ∙ ap (λ (w : List (DwUnit EntryName)). units_keys w) (sym (written_units f))
+written_keys : (f : RunFacts Alone) → files_keys (written_out f) ≡ units_keys (units_written f)
+unfolding files_keys
+written_keys f =
+    ap (λ (w : List EntryName). w ++ files_keys (files_out f)) (common_names (run f))
+    ∙ ap (λ (w : List EntryName). units_keys (common_units (move f)) ++ w) (out_keys f (files_written f))
+    ∙ sym (keys_joined (common_units (move f)) (file_units (move f) (units f) (files_written f)))
+    ∙ ap (λ (w : List (DwUnit EntryName)). units_keys w) (sym (written_units f))
 
 pub run_self : RunSelfLaw
 run_self f t k orders facts listed order n bytes x index h changed i r d read itself =
@@ -64,7 +65,7 @@ run_self f t k orders facts listed order n bytes x index h changed i r d read it
     let name = names_entry f t k facts listed n bytes x index h i r d read in
     let own = owns_entry f t k facts listed n bytes x index h changed i r d read itself in
     let many = entries_many f t k facts listed in
-    let low = got_below (all_names (docs f)) (o.start + i) (named f k n x index o i) (named_all f k n x index o i (below f k n x index o bytes i r d read)) in
+    let low = got_below (all_names (every f)) (o.start + i) (named f k n x index o i) (named_every f k n x index o i (below f k n x index o bytes i r d read)) in
     let at = number_is f k n x index o i in
     let counted : number < length k.owners.items = omega (arith, low, many, at) in
     let there : In (entry_name f n d) (units_keys (units_written f)) =
@@ -72,7 +73,7 @@ run_self f t k orders facts listed order n bytes x index h changed i r d read it
     let key : In ((keys f).row number) (files_keys (written_out f)) =
     subst (In ((keys f).row number)) (sym (written_keys f)) (subst (λ (s : EntryName). In s (units_keys (units_written f))) (sym name) there) in
     let written = row_written (keys f) k orders (written_out f) (rows_apart f facts k many orders) number counted order.shows key in
-    run_places f k orders facts order number counted written ∙ ap (places (run f)).place name
+    run_places f k orders facts order number counted written ∙ ap (places_of f).place name
 
 -- ---- units and their roots
 
@@ -97,17 +98,17 @@ same_size g Compile = refl
 same_size g (OfType signature main) = refl
 same_size g Partial = refl
 
-module _ (f : RunFacts) (facts : AreFacts f) where
-  formed_begin : (n : ℕ) → Each (Begins (places (run f))) (fitted (run f) n) → Each (Begins (places (run f))) (formed (run f) n)
+module _ {beside : Beside} (f : RunFacts beside) (facts : AreFacts f) where
+  formed_begin : (n : ℕ) → Each (Begins (places_of f)) (fitted_by (common f) (run f) n) → Each (Begins (places_of f)) (formed_by (common f) (run f) n)
   unfolding fitted_by
   formed_begin n = by (f.input.prunes n) where
-    by : (b : Bool) → Each (Begins (places (run f))) (fitted_if b (run f) n) → Each (Begins (places (run f))) (formed (run f) n)
-    by true begins = before_numbers (places (run f)) (new_number (sources (run f) n).strs (uses (run f) n)) (formed (run f) n) begins
+    by : (b : Bool) → Each (Begins (places_of f)) (fitted_if_by b (common f) (run f) n) → Each (Begins (places_of f)) (formed_by (common f) (run f) n)
+    by true begins = before_numbers (places_of f) (new_number (sources (run f) n).strs (uses_by (common f) (run f) n)) (formed_by (common f) (run f) n) begins
     by false begins = begins
 
-  out_begin : (n : ℕ) → Each (Begins (places (run f))) (formed (run f) n) → Each (Begins (places (run f))) (out_units (move f) (units f) n)
+  out_begin : (n : ℕ) → Each (Begins (places_of f)) (formed_by (common f) (run f) n) → Each (Begins (places_of f)) (out_units (move f) (units f) n)
   unfolding formed_by
-  out_begin n begins = before_forms (places (run f)) (file_forms (run f) n) (out_units (move f) (units f) n) begins
+  out_begin n begins = before_forms (places_of f) (file_forms_by (common f) (run f) n) (out_units (move f) (units f) n) begins
 
   kept_in : (i : ℕ) (u : FileUnit EntryName) → Nth 0 (units f) i u → In (kept_unit (move f) (units f) i u) (out_units (move f) (units f) u.file)
   unfolding out_units
@@ -115,15 +116,20 @@ module _ (f : RunFacts) (facts : AreFacts f) where
       in_right (kept_unit (move f) (units f) i u) (partial_units (move f) (Local u.file) 0 (move f).parts) (kept_units (move f) (units f) u.file 0 (units f))
       (kept_to (move f) (units f) u.file 0 (units f) i u nth refl)
 
+-- the units of a file stand one behind the other
+files_stand : (f : RunFacts Alone) → AreFacts f → (file : ℕ) → In file (file_numbers 0 (docs f)) → UnitsStand (places_of f) (fitted_by (common f) (run f) file) 0
+files_stand f facts file there =
+    numbering_stands same_spot spots_same (all_out (run f)) (run_once (run f) (all_once f facts)) (file_out (run f) file)
+    (inr (in_map (file_out (run f)) file (file_numbers 0 (docs f)) there)) (fitted_fixed (run f) file)
+
 pub run_roots : RunRootsLaw
 run_roots f facts i u nth =
-    let there = in_map (file_out (run f)) u.file (file_numbers 0 (docs f)) (files_are (docs f) i u nth) in
-    let stand = numbering_stands same_spot spots_same (files_out (run f)) (run_once (run f) (all_once f facts)) (file_out (run f) u.file) (inr there) (fitted_fixed (run f) u.file) in
-    let begins = out_begin f facts u.file (formed_begin f facts u.file (begin (places (run f)) (fitted (run f) u.file) 0 stand)) in
-    let own = each_in (Begins (places (run f))) (kept_unit (move f) (units f) i u) (out_units (move f) (units f) u.file) begins (kept_in f facts i u nth) in
+    let stand = files_stand f facts u.file (files_are (docs f) i u nth) in
+    let begins = out_begin f facts u.file (formed_begin f facts u.file (begin (places_of f) (fitted_by (common f) (run f) u.file) 0 stand)) in
+    let own = each_in (Begins (places_of f)) (kept_unit (move f) (units f) i u) (out_units (move f) (units f) u.file) begins (kept_in f facts i u nth) in
     let named = (old f facts).units_named i u nth in
     let root : image_in (move f) u.unit.root.at ≡ RootOf i = ap (image_in (move f)) named.root in
-    ap (places (run f)).place (sym root)
+    ap (places_of f).place (sym root)
     ∙ own
-    ∙ ap (λ (s : EntryName). (places (run f)).place s + written_header_size (kind_map (image_in (move f)) u.unit.kind)) named.unit
-    ∙ ap (λ (q : ℕ). (places (run f)).place (UnitOf i) + q) (same_size (image_in (move f)) u.unit.kind)
+    ∙ ap (λ (s : EntryName). (places_of f).place s + written_header_size (kind_map (image_in (move f)) u.unit.kind)) named.unit
+    ∙ ap (λ (q : ℕ). (places_of f).place (UnitOf i) + q) (same_size (image_in (move f)) u.unit.kind)

@@ -1,5 +1,5 @@
 -- What is written of an entry that was read is what the definition of forms says of what it means: value by value.
-use Rattle.std.proofs.Common.{◌≡◌, ℕ, Bool, true, false, List, [], ◌∷◌, ◌++◌, map, Ok, Option, Some, None, slice_get, refl, sym, ap, subst, ◌∙◌, cond, eqb, eqb-true, eq-eqb}
+use Rattle.std.proofs.Common.{◌≡◌, ℕ, ◌+◌, Bool, true, false, List, [], ◌∷◌, ◌++◌, map, Ok, Option, Some, None, slice_get, refl, sym, ap, subst, ◌∙◌, cond, eqb, eqb-true, eq-eqb}
 use Rattle.std.specs.Option.{option_map_or}
 use Rattle.std.proofs.lemmas.Bool.{eqb-false}
 use Rattle.std.proofs.lemmas.List.{map-append}

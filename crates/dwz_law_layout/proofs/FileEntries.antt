@@ -11,7 +11,7 @@ use Rattle.dwz_def_reading.specs.Files.{around_of}
 use Rattle.dwz_def_reading.specs.Meanings.{scope_of}
 use Rattle.dwz_def_reading.proofs.MeaningUnits.{node_agrees}
 use Rattle.dwz_def_tops.specs.Spots.{EntryName, no_name}
-use Rattle.dwz_def_plan.specs.Plan.{image}
+use Rattle.dwz_def_plan.specs.Moves.{image_in}
 use Rattle.dwz_def_images.specs.After.{at_file}
 use Rattle.dwz_def_readback.specs.Files.{name_after}
 use Rattle.dwz_unit.specs.Rows.{EntryRow, rows_of, units_of as raw_units}
@@ -40,13 +40,15 @@ use Rattle.dwz_layout.specs.declared.known.TextAt.{TextAt}
 use Rattle.dwz_layout.specs.Entries.{row}
 use Rattle.dwz_layout.specs.Known.{no_firsts, number_of, reference_at}
 use Rattle.dwz_law_layout.specs.Knows.{EachFrom, IsNamed, IsRead, firsts_at}
-use Rattle.dwz_law_layout.specs.Facts.{AreFacts, RunFacts, docs, file_read, rule, run, units}
+use Rattle.dwz_law_layout.specs.Beside.{Beside}
+use Rattle.dwz_law_layout.specs.Facts.{AreFacts, RunFacts, docs, every, file_read, move, run}
 use Rattle.dwz_law_layout.specs.Listed.{AreListed, IsListed, TextsAt, firsts_from, none_before}
 use Rattle.dwz_law_layout.specs.Named.{keys}
+use Rattle.dwz_law_layout.proofs.EveryNames.{stand_every, to_every}
 use Rattle.dwz_law_layout.proofs.Walks.{before_at, each_from, rows_at}
 
 -- The file with that number, with its index: where its entries begin among all, and what the lists have of it.
-pub record IsHere (f : RunFacts) (k : EntryTable) (n : ℕ) (x : File) (index : Index) : Type 0 where
+pub record IsHere {beside : Beside} (f : RunFacts beside) (k : EntryTable) (n : ℕ) (x : File) (index : Index) : Type 0 where
   pub file_is : slice_get f.files n ≡ Some x
   pub index_is : slice_get f.indexes n ≡ Some index
   pub bytes : List ℕ
@@ -61,7 +63,7 @@ pub record IsHere (f : RunFacts) (k : EntryTable) (n : ℕ) (x : File) (index : 
   pub doc_same : found.doc ≡ among.kept.read.doc
   pub starts_same : found.starts ≡ index.starts
 
-pub here : (f : RunFacts) (t : TextsAt) (k : EntryTable) → AreFacts f → AreListed f t k → (n : ℕ) (x : File) (index : Index) → slice_get f.files n ≡ Some x → slice_get f.indexes n ≡ Some index
+pub here : {beside : Beside} (f : RunFacts beside) (t : TextsAt) (k : EntryTable) → AreFacts f → AreListed f t k → (n : ℕ) (x : File) (index : Index) → slice_get f.files n ≡ Some x → slice_get f.indexes n ≡ Some index
     → IsHere f k n x index
 here f t k facts listed n x index e g =
     let a = is_among f.contents f.files f.indexes n x index facts.kept facts.indexed e g in
@@ -85,7 +87,7 @@ here f t k facts listed n x index e g =
 
 -- ---- of such a file
 
-module _ (f : RunFacts) (k : EntryTable) (n : ℕ) (x : File) (index : Index) (o : IsHere f k n x index) where
+module _ {beside : Beside} (f : RunFacts beside) (k : EntryTable) (n : ℕ) (x : File) (index : Index) (o : IsHere f k n x index) where
   abbrev pub raw : List RawUnit
   raw = raw_units x.units
 
@@ -104,8 +106,8 @@ module _ (f : RunFacts) (k : EntryTable) (n : ℕ) (x : File) (index : Index) (o
       subst (λ (w : Starts). StandFrom (all_names (docs f)) (names_from w.unit w.top o.among.kept.read.doc.units) o.start) o.starts_same
       (subst (λ (w : Doc ℕ). StandFrom (all_names (docs f)) (names_from o.found.starts.unit o.found.starts.top w.units) o.start) o.doc_same o.found.stand)
 
-  is_file : IsFile (docs f) names index o.start
-  is_file = record { shows = o.among.index.names; stand = stand }
+  is_file : IsFile (every f) names index o.start
+  is_file = record { shows = o.among.index.names; stand = stand_every f names o.start stand }
 
   pub name_there : (i : ℕ) → i < entries_in raw → slice_get names i ≡ Some (named i)
   name_there i lt = names_entries f.contents n o.bytes x index o.among i lt
@@ -116,11 +118,14 @@ module _ (f : RunFacts) (k : EntryTable) (n : ℕ) (x : File) (index : Index) (o
   pub named_all : (i : ℕ) → i < entries_in raw → slice_get (all_names (docs f)) (o.start + i) ≡ Some (named i)
   named_all i lt = among_all i (named i) (name_there i lt)
 
+  pub named_every : (i : ℕ) → i < entries_in raw → slice_get (all_names (every f)) (o.start + i) ≡ Some (named i)
+  named_every i lt = to_every f (o.start + i) (named i) (named_all i lt)
+
   pub number_is : (i : ℕ) → number_of k (row n i) ≡ o.start + i
   number_is i = ap (λ (w : Option FileRows). option_map_or (λ (r : FileRows). r.start) w 0 + i) o.rows_are ∙ ap (λ (w : ℕ). w + i) o.listed.start_is
 
-  pub key_is : (number : ℕ) (s : EntryName) → slice_get (all_names (docs f)) number ≡ Some s → (keys f).row number ≡ s
-  key_is number s e = get_or_from_slice_get (all_names (docs f)) number s no_name e
+  pub key_is : (number : ℕ) (s : EntryName) → slice_get (all_names (every f)) number ≡ Some s → (keys f).row number ≡ s
+  key_is number s e = get_or_from_slice_get (all_names (every f)) number s no_name e
 
   pub entry_below : (i : ℕ) (r : EntryRow) → slice_get (rows_of raw) i ≡ Some r → i < entries_in raw
   entry_below i r e = (let lt = got_below (rows_of raw) i r e in let long = rows-length raw in omega arith)
@@ -144,7 +149,7 @@ module _ (f : RunFacts) (k : EntryTable) (n : ℕ) (x : File) (index : Index) (o
     read_name = run_name d.at ∙ ap (name_at index.starts doc) read_place
 
     pub entry_named : (keys f).row (number_of k (row n i)) ≡ (run f).name (at_file n d.at)
-    entry_named = ap (λ (w : ℕ). (keys f).row w) (number_is i) ∙ key_is (o.start + i) (named i) (named_all i below) ∙ sym read_name
+    entry_named = ap (λ (w : ℕ). (keys f).row w) (number_is i) ∙ key_is (o.start + i) (named i) (named_every i below) ∙ sym read_name
 
     -- ---- its references
 
@@ -168,7 +173,7 @@ module _ (f : RunFacts) (k : EntryTable) (n : ℕ) (x : File) (index : Index) (o
 
       -- the number of what stands for the target of a reference after, and the target's own in its file
       pub record LeadsTo (j p : ℕ) : Type 0 where
-        pub there : slice_get (all_names (docs f)) (reference_at k n (from + j)) ≡ Some (image (rule f) (units f) (name_at index.starts doc p))
+        pub there : slice_get (all_names (every f)) (reference_at k n (from + j)) ≡ Some (image_in (move f) (name_at index.starts doc p))
         pub target : ℕ
         pub low : target < entries_in raw
         pub place : place_at raw target ≡ p
@@ -184,9 +189,9 @@ module _ (f : RunFacts) (k : EntryTable) (n : ℕ) (x : File) (index : Index) (o
           let w = target_of (drop from x.resolved.refs.items) (node_refs d) targets j p e in
           let number : reference_at k n (from + j) ≡ slice_index o.rows.references.items (from + j) =
           ap (λ (w : Option FileRows). option_map_or (λ (u : FileRows). slice_index u.references.items (from + j)) w 0) o.rows_are in
-          let named_so = reference_named (docs f) (rule f) names (name_at index.starts doc) raw x.resolved.refs.items o.rows.references.items (node_refs d) from
+          let named_so = reference_named (every f) (move f) names (name_at index.starts doc) raw x.resolved.refs.items o.rows.references.items (node_refs d) from
           (o.listed.references names is_file) (λ m lt. name_there m lt) targets j p e in
-          record { there = ap (slice_get (all_names (docs f))) number ∙ named_so; target = w.0; low = w.1; place = w.2 }
+          record { there = ap (slice_get (all_names (every f))) number ∙ named_so; target = w.0; low = w.1; place = w.2 }
 
       -- what holds of each of them
       pub each_reference : (P : ℕ → ℕ → Type 0) → ((j p : ℕ) → LeadsTo j p → P (from + j) p) → EachFrom P (firsts_at k (file_read f n bytes x) i).reference (node_refs d)
@@ -194,4 +199,4 @@ module _ (f : RunFacts) (k : EntryTable) (n : ℕ) (x : File) (index : Index) (o
 
       pub references_named : EachFrom (λ m p. IsNamed (keys f) k (file_read f n bytes x) m (name_after (run f) n p)) (firsts_at k (file_read f n bytes x) i).reference (node_refs d)
       references_named = each_reference (λ m p. IsNamed (keys f) k (file_read f n bytes x) m (name_after (run f) n p))
-          (λ j p w. key_is (reference_at k n (from + j)) (image (rule f) (units f) (name_at index.starts doc p)) w.there ∙ ap (image (rule f) (units f)) (sym (run_name p)))
+          (λ j p w. key_is (reference_at k n (from + j)) (image_in (move f) (name_at index.starts doc p)) w.there ∙ ap (image_in (move f)) (sym (run_name p)))

@@ -5,10 +5,9 @@ use Rattle.dwz_def_reading.specs.Documents.{Doc}
 use Rattle.dwz_def_reading.specs.Files.{around_of}
 use Rattle.dwz_def_reading.proofs.FileLemmas.{file_agrees}
 use Rattle.dwz_def_tops.specs.Spots.{file_numbers}
-use Rattle.dwz_def_plan.specs.Plan.{imports, partials}
+use Rattle.dwz_def_plan.specs.Plan.{imports}
 use Rattle.dwz_plan.specs.Planned.{Planned}
 use Rattle.dwz_plan.specs.Shows.{import_row}
-use Rattle.dwz_plan.proofs.BridgeLemmas.{file_numbers_are}
 use Rattle.dwz_def_images.specs.Units.{changes}
 use Rattle.dwz_unit.specs.Rows.{units_of as raw_units}
 use Rattle.dwz_graph.specs.declared.file.File.{File}
@@ -28,7 +27,8 @@ use Rattle.dwz_law_layout.specs.Old.{EachOld, OldNames}
 use Rattle.dwz_law_layout.proofs.OldItems.{old_items}
 use Rattle.dwz_layout.specs.declared.known.EntryTable.{EntryTable}
 use Rattle.dwz_layout.specs.declared.order.UnitItems.{UnitItems}
-use Rattle.dwz_law_layout.specs.Facts.{AreFacts, HasFile, RunFacts, docs, move, rule, units, written}
+use Rattle.dwz_law_layout.specs.Beside.{Beside}
+use Rattle.dwz_law_layout.specs.Facts.{AreFacts, HasFile, RunFacts, docs, move, units, written}
 use Rattle.dwz_law_layout.specs.Listed.{AreListed, TextsAt}
 use Rattle.dwz_law_layout.specs.Settled.{IsSettled}
 use Rattle.dwz_law_layout.specs.Roots.{UnitShown}
@@ -46,20 +46,19 @@ flag_of g s (doc ∷ said) zero e = (let same : s ≡ s + 0 = omega arith in sub
 flag_of g s (doc ∷ said) (suc n) e = (let same : suc s + n ≡ s + suc n = omega arith in subst (λ (w : ℕ). g w ≡ true) same (flag_of g (suc s) said n e))
 
 -- something moves of a file that is written
-pub file_changes : (f : RunFacts) (n : ℕ) → slice_index_or (written f) n false ≡ true → changes (move f) (units f) n ≡ true
+pub file_changes : {beside : Beside} (f : RunFacts beside) (n : ℕ) → slice_index_or (written f) n false ≡ true → changes (move f) (units f) n ≡ true
 file_changes f n e =
     let same : 0 + n ≡ n = omega arith in
     subst (λ (w : ℕ). changes (move f) (units f) w ≡ true) same (flag_of (changes (move f) (units f)) 0 (docs f) n e)
 
-imports_shown : (f : RunFacts) → AreFacts f → (plan : Planned) → plan ≡ f.planned → ShowsImports (move f) (units f) (imports_at plan)
+imports_shown : {beside : Beside} (f : RunFacts beside) → AreFacts f → (plan : Planned) → plan ≡ f.planned → ShowsImports (move f) (units f) (imports_at plan)
 imports_shown f facts plan same i lt =
-    ap (λ (w : List ℕ). imports i 0 (partials (rule f) (units f) w)) (file_numbers_are 0 (docs f))
-    ∙ facts.shows.imports i lt
+    facts.shows.imports i lt
     ∙ ap (λ (w : Planned). import_row i (imports_at w i)) (sym same)
 
 -- ---- a file
 
-module _ (f : RunFacts) (facts : AreFacts f) (n : ℕ) (bytes : List ℕ) (x : File) (index : Index) (h : HasFile f n bytes x index) where
+module _ {beside : Beside} (f : RunFacts beside) (facts : AreFacts f) (n : ℕ) (bytes : List ℕ) (x : File) (index : Index) (h : HasFile f n bytes x index) where
   abbrev among : IsFileAmong f.contents n bytes x index
   among = among_of f facts n bytes x index h
 
@@ -79,7 +78,7 @@ module _ (f : RunFacts) (facts : AreFacts f) (n : ℕ) (bytes : List ℕ) (x : F
         before = is.units.front;
         after = is.units.back;
         units_are = is.units.all_are;
-        others = others f facts n bytes x index h is;
+        others = others _ f facts n bytes x index h is;
         number = sym is.units.many;
         next_is = next_behind f facts n bytes x index h is;
         means = (((file_agrees is.kept.limits bytes).ok (raw_units x.units, doc)).0 is.kept.read.means).means;
@@ -109,4 +108,4 @@ module _ (f : RunFacts) (facts : AreFacts f) (n : ℕ) (bytes : List ℕ) (x : F
 
     pub are_shown : slice_get (starts_from 0 f.indexes) n ≡ Some start → EachOld (λ i u o. UnitShown f n bytes x u.unit o.sort) n 0 (units f) order
     are_shown at =
-        units_shown f t k facts listed n bytes x index h start at s.marks (imports_at s.plan.now) (from_index n start index) (next_index index) order refl refl refl kept
+        units_shown _ f t k facts listed n bytes x index h start at s.marks (imports_at s.plan.now) (from_index n start index) (next_index index) order refl refl refl kept

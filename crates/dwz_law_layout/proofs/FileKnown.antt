@@ -18,6 +18,7 @@ use Rattle.dwz_layout.specs.declared.order.UnitItems.{UnitItems}
 use Rattle.dwz_encode.specs.Shown.{Keys}
 use Rattle.dwz_law_layout.specs.Fitted.{KnowUnits}
 use Rattle.dwz_law_layout.specs.Knows.{NewNumbers}
+use Rattle.dwz_law_layout.specs.Beside.{Beside}
 use Rattle.dwz_law_layout.specs.Facts.{AreFacts, HasFile, RunFacts, move, units, units_written, written}
 use Rattle.dwz_law_layout.specs.Listed.{AreListed, TextsAt}
 use Rattle.dwz_law_layout.specs.Named.{keys}
@@ -51,14 +52,14 @@ know_count names k ff rn here [] (u ∷ us) known = absurd known
 know_count names k ff rn here (x ∷ xs) [] known = absurd known
 know_count names k ff rn here (x ∷ xs) (u ∷ us) known = ap suc (know_count names k ff rn (suc here) xs us known.1)
 
-texts_split : (f : RunFacts) (k : EntryTable) (rn : NewNumbers) (n : ℕ) (xs ys : List UnitItems) (us vs : List (DwUnit EntryName)) → length xs ≡ length us → KnowTexts f k rn n (xs ++ ys) (us ++ vs)
+texts_split : {beside : Beside} (f : RunFacts beside) (k : EntryTable) (rn : NewNumbers) (n : ℕ) (xs ys : List UnitItems) (us vs : List (DwUnit EntryName)) → length xs ≡ length us → KnowTexts f k rn n (xs ++ ys) (us ++ vs)
     → KnowTexts f k rn n xs us × KnowTexts f k rn n ys vs
 texts_split f k rn n [] ys [] vs long texts = (tt, texts)
 texts_split f k rn n [] ys (u ∷ us) vs long texts = absurd (omega (arith, long))
 texts_split f k rn n (x ∷ xs) ys [] vs long texts = absurd (omega (arith, long))
 texts_split f k rn n (x ∷ xs) ys (u ∷ us) vs long texts = (let o = texts_split f k rn n xs ys us vs (omega (arith, long)) texts.1 in ((texts.0, o.0), o.1))
 
-module _ (f : RunFacts) (t : TextsAt) (k : EntryTable) (facts : AreFacts f) (listed : AreListed f t k) (s : Settled) (settled : IsSettled f s) where
+module _ {beside : Beside} (f : RunFacts beside) (t : TextsAt) (k : EntryTable) (facts : AreFacts f) (listed : AreListed f t k) (s : Settled) (settled : IsSettled f s) where
   pub file_known : (n : ℕ) (bytes : List ℕ) (x : File) (index : Index) → HasFile f n bytes x index → slice_index_or (written f) n false ≡ true
       → (start : ℕ) → slice_get (starts_from 0 f.indexes) n ≡ Some start → (rn : NewNumbers) (here : ℕ) (order : List UnitItems)
       → FilePut s (raw_units x.units) (from_index n start index) (next_index index) order → AreWrittenFrom f here (out_units (move f) (units f) n)
@@ -69,8 +70,8 @@ module _ (f : RunFacts) (t : TextsAt) (k : EntryTable) (facts : AreFacts f) (lis
       let os = olds_after f n in
       let long : length put.parts ≡ length ps = local_long f t k s facts listed settled n (file_changed f n w).1 put.parts put.parts_put in
       let split = texts_split f k rn n put.parts put.olds ps os long (subst (λ (v : List UnitItems). KnowTexts f k rn n v (ps ++ os)) put.order_is texts) in
-      let first = parts_known f t k s facts listed settled n w rn here put.parts put.parts_put (λ j u e. there j u (get_first ps os j u e)) split.0 in
-      let later = kept_known f t k s facts listed settled n bytes x index h w start at rn (here + length put.parts) put.olds put.olds_kept
+      let first = parts_known _ f t k s facts listed settled n w rn here put.parts put.parts_put (λ j u e. there j u (get_first ps os j u e)) split.0 in
+      let later = kept_known _ f t k s facts listed settled n bytes x index h w start at rn (here + length put.parts) put.olds put.olds_kept
       (λ j u e. (let far : here + (length ps + j) ≡ (here + length put.parts) + j = omega (arith, long) in
       subst (λ (q : ℕ). slice_get (units_written f) q ≡ Some u) far (there (length ps + j) u (get_later ps os j u e)))) split.1 in
       subst (λ (v : List UnitItems). KnowUnits (keys f) k (file_keyed_forms f n) rn here v (ps ++ os)) (sym put.order_is) (know_append (keys f) k (file_keyed_forms f n) rn here put.parts put.olds ps os first later)

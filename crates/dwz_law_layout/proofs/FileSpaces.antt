@@ -30,7 +30,6 @@ use Rattle.dwz_law_layout.specs.Items.{IsOfPart}
 use Rattle.dwz_law_layout.specs.New.{IsOfNew, NewItemsLaw, WaysLaw, rows_of_spaces, spaces_of_tops}
 use Rattle.dwz_law_layout.specs.Old.{IsSpaceIn}
 use Rattle.dwz_law_layout.proofs.PartItems.{part_items}
-use Rattle.dwz_law_layout.proofs.PartUnits.{part_tops}
 use Rattle.dwz_law_layout.proofs.SpaceWays.{IsWay, file_ways, spaces_long}
 
 -- ---- file by file
@@ -121,7 +120,7 @@ of_new units part ups space (InChain chain s) h = space h.0 s h.1 h.2
 of_new units part ups space (Import n) h = h
 
 pub new_items : NewItemsLaw
-new_items docs indexes rule files texts lists are fair known n part items nth is =
+new_items docs indexes m texts lists are known n part items made is =
     let rows = rows_of_spaces indexes in
     let units = units_of docs in
     let tops = all_tops indexes in
@@ -132,7 +131,7 @@ new_items docs indexes rule files texts lists are fair known n part items nth is
     let up : (j : ℕ) → In j numbers → Up rows (inner_at of_tops j) (ups j) = λ j i. (
     let o = in_map_from (λ (t : Top). t.number) j part.tops i in
     let t = o.source in
-    let own = part_tops units rule fair files n part nth t o.there in
+    let own = made.tops t o.there in
     let a = at_top rows said 0 tops (tops_of units) known.leads (tops_numbers units) t own.there in
     let number : t.number ≡ a.k = a.number ∙ omega arith in
     let inner : inner_at of_tops t.number ≡ a.x.inner = ap (inner_at of_tops) number ∙ inner_found lists tops a.k a.x a.found in
@@ -142,7 +141,7 @@ new_items docs indexes rule files texts lists are fair known n part items nth is
     let space : (j s : ℕ) → In j numbers → In s (ups j) → IsSpaceIn units (first_unit part.tops) s = λ j s i at. (
     let o = in_map_from (λ (t : Top). t.number) j part.tops i in
     let t = o.source in
-    let own = part_tops units rule fair files n part nth t o.there in
+    let own = made.tops t o.there in
     let each = ways docs indexes lists are t own.there (ups t.number) (up t.number (subst (λ (w : ℕ). In w numbers) (sym o.is) i)) in
     subst (λ (w : ℕ). IsSpaceIn units w s) own.unit (each_in (IsSpaceIn units t.unit) s (ups t.number) each (subst (λ (w : ℕ). In s (ups w)) (sym o.is) at))
     ) in

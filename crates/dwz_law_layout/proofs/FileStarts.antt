@@ -15,6 +15,7 @@ use Rattle.dwz_layout_order.specs.Shown.{IsNext, named_units, tops_in}
 use Rattle.dwz_layout_order.specs.Spaces.{spaces_of}
 use Rattle.dwz_layout_order.proofs.UnitRows.{spaces_append, tops_append}
 use Rattle.dwz_layout_order.specs.Ordered.{next_index}
+use Rattle.dwz_law_layout.specs.Beside.{Beside}
 use Rattle.dwz_law_layout.specs.Facts.{AreFacts, HasFile, RunFacts, docs, units}
 use Rattle.dwz_law_layout.proofs.FileSpaces.{file_long}
 
@@ -68,7 +69,7 @@ begins all file s end (doc ∷ said) (y ∷ indexes) before h is unit top space 
     let space_next : next.space ≡ length (spaces_of (before ++ mine)) = omega (arith, space, joined, two, many, spaces_are) in
     begins all (suc file) next end said indexes (before ++ mine) h.1 more unit_next top_next space_next k x e
 
-pub next_behind : (f : RunFacts) → AreFacts f → (n : ℕ) (bytes : List ℕ) (x : File) (index : Index) → HasFile f n bytes x index → (is : IsFileAmong f.contents n bytes x index)
+pub next_behind : {beside : Beside} (f : RunFacts beside) → AreFacts f → (n : ℕ) (bytes : List ℕ) (x : File) (index : Index) → HasFile f n bytes x index → (is : IsFileAmong f.contents n bytes x index)
     → IsNext is.units.front (next_index index)
 unfolding tops_in spaces_of
 next_behind f facts n bytes x index h is =

@@ -22,6 +22,7 @@ use Rattle.dwz_layout_order.proofs.FileWalk.{is_among}
 use Rattle.dwz_layout_order.proofs.TopRows.{units_long}
 use Rattle.dwz_layout_numbers.proofs.NumberingLemmas.{nth_get}
 use Rattle.dwz_layout_order.specs.Shown.{IsOther}
+use Rattle.dwz_law_layout.specs.Beside.{Beside}
 use Rattle.dwz_law_layout.specs.Facts.{AreFacts, HasFile, RunFacts, docs, units}
 use Rattle.dwz_law_layout.specs.Roots.{OthersLaw, UnitFilesLaw}
 use Rattle.dwz_law_layout.specs.Trees.{IsReadFile}
@@ -33,7 +34,7 @@ bytes_there l [] i m b raw doc h = absurd h
 bytes_there l (x ∷ contents) zero m b raw doc h = ap (λ (w : List ℕ). Some w) h.1
 bytes_there l (x ∷ contents) (suc i) m b raw doc h = bytes_there (limits_after l x h.0) contents i m b raw doc h.3
 
-module _ (f : RunFacts) (facts : AreFacts f) where
+module _ {beside : Beside} (f : RunFacts beside) (facts : AreFacts f) where
   -- a number has one file
   pub one_file : (n : ℕ) (bytes bytes' : List ℕ) (x x' : File) (index index' : Index) → HasFile f n bytes x index → HasFile f n bytes' x' index' → (bytes ≡ bytes') × (x ≡ x')
   one_file n bytes bytes' x x' index index' h k = (
@@ -118,7 +119,7 @@ unit_at m s end (d ∷ docs) (z ∷ indexes) h i u e =
           }
     ]
 
-module _ (f : RunFacts) (facts : AreFacts f) where
+module _ {beside : Beside} (f : RunFacts beside) (facts : AreFacts f) where
   pub found_unit : (i : ℕ) (u : FileUnit EntryName) → slice_get (units f) i ≡ Some u → OfFileAt 0 (docs f) f.indexes i u
   found_unit i u e =
       let r = unit_at 0 first_starts facts.indexed.end (docs f) f.indexes facts.indexed.are i u e in
@@ -126,7 +127,7 @@ module _ (f : RunFacts) (facts : AreFacts f) where
       subst (λ (w : ℕ). OfFileAt 0 (docs f) f.indexes w u) same r
 
 pub unit_files : UnitFilesLaw
-unit_files f facts i u nth =
+unit_files beside f facts i u nth =
     let g = nth_get 0 (units f) i u nth in
     let r = found_unit f facts g.0 u g.2 in
     let file : 0 + r.k ≡ r.k = omega arith in
@@ -143,7 +144,7 @@ each_got P [] h = tt
 each_got P (x ∷ xs) h = (h 0 x refl, each_got P xs (λ j y e. h (suc j) y e))
 
 -- a unit of the file stands among those of the file
-here : (f : RunFacts) (facts : AreFacts f) (n : ℕ) (bytes : List ℕ) (x : File) (index : Index) → slice_get f.indexes n ≡ Some index → (is : IsFileAmong f.contents n bytes x index)
+here : {beside : Beside} (f : RunFacts beside) (facts : AreFacts f) (n : ℕ) (bytes : List ℕ) (x : File) (index : Index) → slice_get f.indexes n ≡ Some index → (is : IsFileAmong f.contents n bytes x index)
     → (i : ℕ) (u : FileUnit EntryName) → slice_get (units f) i ≡ Some u → u.file ≡ n → (index.starts.unit ≤ i) × (i < index.starts.unit + length is.kept.read.doc.units)
 here f facts n bytes x index g is i u e of =
     let r = found_unit f facts i u e in
@@ -158,7 +159,7 @@ here f facts n bytes x index g is i u e of =
     (omega arith, omega arith)
 
 pub others : OthersLaw
-others f facts n bytes x index h is =
+others beside f facts n bytes x index h is =
     let front = is.units.front in
     let back = is.units.back in
     let part = file_units index.starts n is.kept.read.doc in

@@ -29,13 +29,14 @@ use Rattle.dwz_layout.specs.declared.known.TextAt.{TextAt}
 use Rattle.dwz_layout.specs.declared.order.UnitItems.{UnitItems}
 use Rattle.dwz_law_layout.specs.Fitted.{KnowFiles}
 use Rattle.dwz_law_layout.specs.Knows.{NewNumbers}
+use Rattle.dwz_law_layout.specs.Beside.{Beside}
 use Rattle.dwz_law_layout.specs.Facts.{AreFacts, HasFile, RunFacts, docs, files_written, move, units, units_written, written}
 use Rattle.dwz_law_layout.specs.Listed.{AreListed, AreRows, TextsAt}
 use Rattle.dwz_law_layout.specs.Named.{keys}
 use Rattle.dwz_law_layout.specs.Settled.{IsSettled}
-use Rattle.dwz_law_layout.specs.Unfitted.{KnowCommon, before_forms, common_keyed_forms, file_keyed_forms, unfitted_file}
+use Rattle.dwz_law_layout.specs.Unfitted.{KnowCommon, before_files, before_forms, common_keyed_forms, file_keyed_forms, unfitted_file}
 use Rattle.dwz_law_layout.specs.ShownKept.{AreWrittenFrom}
-use Rattle.dwz_law_layout.specs.Laid.{FilesTexts, NoneKnownLaw, RunKnownLaw, TextsKnown}
+use Rattle.dwz_law_layout.specs.Laid.{FilesKnownLaw, FilesTexts, NoneKnownLaw, RunKnownLaw, TextsKnown}
 use Rattle.dwz_law_layout.proofs.FileKnown.{file_known, know_count}
 use Rattle.dwz_law_layout.proofs.PartsKnown.{common_known, common_long}
 use Rattle.dwz_law_layout.proofs.WrittenUnits.{written_units}
@@ -92,7 +93,7 @@ indexed_long s [] (x ∷ is) end are = absurd are
 indexed_long s (doc ∷ said) [] end are = absurd are
 indexed_long s (doc ∷ said) (x ∷ is) end are = ap suc (indexed_long (starts_behind s doc x) said is end are.1)
 
-module _ (f : RunFacts) (t : TextsAt) (k : EntryTable) (facts : AreFacts f) (listed : AreListed f t k) (s : Settled) (settled : IsSettled f s) (numbers : ℕ → NewNumbers) where
+module _ {beside : Beside} (f : RunFacts beside) (t : TextsAt) (k : EntryTable) (facts : AreFacts f) (listed : AreListed f t k) (s : Settled) (settled : IsSettled f s) (numbers : ℕ → NewNumbers) where
   abbrev some_of : ℕ → List (Doc ℕ) → List ℕ
   some_of n said = filter (changes (move f) (units f)) (file_numbers n said)
 
@@ -159,7 +160,7 @@ module _ (f : RunFacts) (t : TextsAt) (k : EntryTable) (facts : AreFacts f) (lis
 
 -- ---- as many files as were read
 
-rows_long : (f : RunFacts) (xs : List File) (is : List Index) (starts : List ℕ) (texts : List (List TextAt)) (rows : List FileRows) → AreRows f xs is starts texts rows → length xs ≡ length is
+rows_long : {beside : Beside} (f : RunFacts beside) (xs : List File) (is : List Index) (starts : List ℕ) (texts : List (List TextAt)) (rows : List FileRows) → AreRows f xs is starts texts rows → length xs ≡ length is
 rows_long f [] [] starts texts rows h = refl
 rows_long f [] (index ∷ is) starts texts rows h = absurd h
 rows_long f (x ∷ xs) [] starts texts rows h = absurd h
@@ -168,7 +169,7 @@ rows_long f (x ∷ xs) (index ∷ is) (c ∷ starts) [] rows h = absurd h
 rows_long f (x ∷ xs) (index ∷ is) (c ∷ starts) (t ∷ texts) [] h = absurd h
 rows_long f (x ∷ xs) (index ∷ is) (c ∷ starts) (t ∷ texts) (r ∷ rows) h = ap suc (rows_long f xs is starts texts rows h.1)
 
-module _ (f : RunFacts) (t : TextsAt) (k : EntryTable) (facts : AreFacts f) (listed : AreListed f t k) where
+module _ {beside : Beside} (f : RunFacts beside) (t : TextsAt) (k : EntryTable) (facts : AreFacts f) (listed : AreListed f t k) where
   indexes_long : length (docs f) ≡ length f.indexes
   indexes_long = indexed_long first_starts (docs f) f.indexes facts.indexed.end facts.indexed.are
 
@@ -185,24 +186,29 @@ module _ (f : RunFacts) (t : TextsAt) (k : EntryTable) (facts : AreFacts f) (lis
 
 -- ---- all that is written
 
-pub run_known : RunKnownLaw
-run_known f t k s facts listed settled orders put numbers texts =
+pub all_files_known : FilesKnownLaw
+all_files_known beside f t k s facts listed settled files kept orders put numbers texts =
     let first : (n : ℕ) → 0 + n ≡ n = λ n. omega arith in
-    let told = subst (TextsKnown f k numbers) put.orders_are texts in
-    let common = common_known f t k s facts listed settled put.common (common_put f t k facts listed s orders put) told.0 in
     let units_common = common_units (move f) in
     let units_others = file_units (move f) (units f) (files_written f) in
-    let long = know_count (keys f) k (common_keyed_forms f) None 0 put.common units_common common in
-    let others = known_from f t k facts listed s settled numbers 0 0 (0 + length put.common) (docs f) f.files f.indexes put.others (indexes_long f t k facts listed)
+    known_from f t k facts listed s settled numbers 0 0 (length units_common) (docs f) f.files f.indexes orders (indexes_long f t k facts listed)
     (λ j x index e g. (let o = is_among f.contents f.files f.indexes j x index facts.kept facts.indexed e g in
     (o.bytes, subst (λ (q : ℕ). HasFile f q o.bytes x index) (sym (first j)) (record { file = e; index_is = g; read = o.is.kept }))))
     (λ j c e. ap (slice_get (starts_from 0 f.indexes)) (first j) ∙ e)
     (λ j lt. ap (λ (q : ℕ). slice_index_or (written f) q false) (first j) ∙ flag_is (changes (move f) (units f)) 0 (docs f) j lt)
-    (files_put s no_files_before 0 0 f.contents f.files put.files facts.kept.end put.kept.end facts.kept.are put.kept.are f.indexes put.others put.files_put)
-    (λ j u e. (let behind : (0 + length put.common) + j ≡ length units_common + j = omega (arith, long) in
-    ap (slice_get (units_written f)) behind ∙ ap (λ (w : List (DwUnit EntryName)). slice_get w (length units_common + j)) (written_units f) ∙ get_later units_common units_others j u e))
-    told.1 in
-    subst (λ (w : List (List UnitItems)). KnowFiles (keys f) k 0 w (before_forms f numbers)) (sym put.orders_are) (common, others)
+    (files_put s no_files_before 0 0 f.contents f.files files facts.kept.end kept.end facts.kept.are kept.are f.indexes orders put)
+    (λ j u e. ap (λ (w : List (DwUnit EntryName)). slice_get w (length units_common + j)) (written_units f) ∙ get_later units_common units_others j u e)
+    texts
+
+pub run_known : RunKnownLaw
+run_known f t k s facts listed settled orders put numbers texts =
+    let told = subst (TextsKnown f k numbers) put.orders_are texts in
+    let common = common_known f t k s facts listed settled put.common (common_put f t k facts listed s orders put) told.0 in
+    let long = know_count (keys f) k (common_keyed_forms f) None 0 put.common (common_units (move f)) common in
+    let others = all_files_known _ f t k s facts listed settled put.files put.kept put.others put.files_put numbers told.1 in
+    let at : length (common_units (move f)) ≡ 0 + length put.common = omega (arith, long) in
+    subst (λ (w : List (List UnitItems)). KnowFiles (keys f) k 0 w (before_forms f numbers)) (sym put.orders_are)
+    (common, subst (λ (n : ℕ). KnowFiles (keys f) k n put.others (before_files f numbers)) at others)
 
 -- ---- nothing in the common file
 
@@ -211,7 +217,7 @@ no_orders [] e = refl
 no_orders (o ∷ order) e = absurd (omega (arith, e))
 
 pub none_known : NoneKnownLaw
-none_known f t k s facts listed settled none common others put =
+none_known beside f t k s facts listed settled none common others put =
     let long = common_long f t k s facts listed settled put.common (common_put f t k facts listed s (common ∷ others) put) in
     let no = no_orders put.common (long ∙ ap (λ (w : List (DwUnit EntryName)). length w) none) in
     let both : common ∷ others ≡ put.common ∷ put.others = put.orders_are in

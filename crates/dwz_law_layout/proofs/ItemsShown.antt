@@ -1,19 +1,18 @@
 -- The items of an old unit, one by one: each shows what stands for it after, and that stays.
-use Rattle.std.proofs.Common.{◌≡◌, ◌⊎◌, ℕ, true, false, List, [], ◌∷◌, Option, Some, slice_get, refl, sym, ap, subst, ◌∙◌, inl, inr}
+use Rattle.std.proofs.Common.{◌≡◌, ◌⊎◌, ℕ, true, false, List, [], ◌∷◌, Option, Some, slice_get, refl, sym, ap, subst, ◌∙◌, inl, inr, length, arith, ◌<◌}
 use Rattle.std.specs.Prelude.{pos}
 use Rattle.dwz_def_reading.specs.Lists.{Each, In}
 use Rattle.dwz_def_reading.specs.Documents.{Attr, Compile, DwUnit, Kind, Node, OfType, Partial, entries_map, node_map, ref}
 use Rattle.dwz_def_tops.specs.Lists.{Nth}
 use Rattle.dwz_def_tops.proofs.Members.{each_append, each_more, nth_one}
-use Rattle.dwz_def_tops.specs.Spots.{EntryName, FileUnit, Import as ImportSpot, PartialRoot, Top, Within, file_numbers, tops_of}
-use Rattle.dwz_def_tops.proofs.TopNumbers.{top_there}
+use Rattle.dwz_def_tops.specs.Spots.{EntryName, FileUnit, Import as ImportSpot, PartialRoot, Top, Within, tops_of}
+use Rattle.dwz_def_tops.proofs.TopNumbers.{number_below, top_there, tops_numbers}
 use Rattle.dwz_layout_items.specs.declared.order.Item.{Item}
 use Rattle.dwz_layout_items.specs.declared.order.ItemKind.{ItemKind}
 use Rattle.dwz_layout_items.specs.declared.order.ItemKind.TheVariants.{Import, InChain, Root, Space, Top as TopItem, Whole}
 use Rattle.dwz_layout_items.specs.Order.{Names}
 use Rattle.dwz_def_plan.specs.Homes.{Common, Local}
 use Rattle.dwz_def_plan.specs.Moves.{Move, image_in}
-use Rattle.dwz_def_plan.proofs.UserLemmas.{stay_fixed}
 use Rattle.dwz_def_images.specs.Units.{changes, kept_unit, out_units}
 use Rattle.dwz_def_encoding.specs.Placing.{UnitForms}
 use Rattle.dwz_graph.specs.declared.file.File.{File}
@@ -22,7 +21,6 @@ use Rattle.dwz_layout_order.specs.Spaces.{spaces_below}
 use Rattle.dwz_law_layout.specs.Items.{item}
 use Rattle.dwz_law_layout.specs.Old.{IsOfOld, IsSpaceIn, IsUsedBy, OldNames, StaysHere}
 use Rattle.dwz_law_layout.proofs.PartUnits.{of_unit}
-use Rattle.dwz_law_layout.proofs.Places.{used_homes}
 use Rattle.dwz_law_layout.proofs.SpaceStands.{space_stands}
 use Rattle.dwz_layout.specs.declared.known.EntryTable.{EntryTable}
 use Rattle.dwz_layout.specs.declared.known.Row.{Row}
@@ -31,7 +29,8 @@ use Rattle.dwz_layout.specs.declared.order.Sort.TheVariants.{Compile as CompileS
 use Rattle.dwz_layout.specs.Entries.{items_slots, root_of, slot, tree_slots, what_slots, whole_slots}
 use Rattle.dwz_layout.specs.Known.{space_at, top_row, unit_of_part}
 use Rattle.dwz_law_layout.specs.Knows.{FileRead, KnowsFile, NewNumbers, ShowsImport, ShowsRoot, ShowsRow, ShowsTree, ShowsWhat, ShowsWhole}
-use Rattle.dwz_law_layout.specs.Facts.{AreFacts, HasFile, RunFacts, docs, file_read, move, rule, units, units_written}
+use Rattle.dwz_law_layout.specs.Beside.{Beside}
+use Rattle.dwz_law_layout.specs.Facts.{AreFacts, HasFile, RunFacts, file_read, move, units, units_written}
 use Rattle.dwz_law_layout.specs.Listed.{AreListed, TextsAt}
 use Rattle.dwz_law_layout.specs.Named.{keys, old_number, root_name, unit_name}
 use Rattle.dwz_law_layout.specs.Unfitted.{file_unit_forms}
@@ -41,13 +40,17 @@ use Rattle.dwz_law_layout.proofs.UnitsReach.{own_part, part_number}
 use Rattle.dwz_law_layout.specs.Roots.{UnitShown}
 use Rattle.dwz_law_layout.proofs.SpaceRows.{space_rows_shown}
 use Rattle.dwz_law_layout.proofs.TopTrees.{top_trees}
-use Rattle.dwz_law_layout.proofs.StayingTrees.{AreStaying, IsStaying, OriginStays, SlotsStay, labelled_stay, row_stays, tree_stays}
+use Rattle.dwz_law_layout.proofs.StayingTrees.{AreStaying, IsStaying, OriginStays, SlotsStay, StaysIn, labelled_stay, row_stays, tree_stays}
 use Rattle.dwz_law_layout.proofs.UnitNames.{kept_names, space_node, top_below, top_node}
 use Rattle.dwz_law_layout.proofs.WrittenNames.{root_stays, space_stays, whole_stays}
 
-module _ (f : RunFacts) (t : TextsAt) (k : EntryTable) (facts : AreFacts f) (listed : AreListed f t k) (n : ℕ) (bytes : List ℕ) (x : File) (index : Index) (h : HasFile f n bytes x index) where
+module _ {beside : Beside} (f : RunFacts beside) (t : TextsAt) (k : EntryTable) (facts : AreFacts f) (listed : AreListed f t k) (n : ℕ) (bytes : List ℕ) (x : File) (index : Index) (h : HasFile f n bytes x index) where
   abbrev m : Move
   m = move f
+
+  -- the tops that don't leave their units
+  abbrev P : ℕ → Type 0
+  P = StaysIn (move f) (units f)
 
   abbrev image : EntryName → EntryName
   image = image_in (move f)
@@ -81,40 +84,42 @@ module _ (f : RunFacts) (t : TextsAt) (k : EntryTable) (facts : AreFacts f) (lis
 
     top_shown : (top : ℕ) → StaysHere (move f) (units f) i top → ShowsTree F (top_row k top) (names.top top) (names.below top)
     top_shown top s =
-        let tree = top_trees f t k facts listed n bytes x index h s.top s.there (top_file top s) in
+        let tree = top_trees _ f t k facts listed n bytes x index h s.top s.there (top_file top s) in
         let here : ShowsTree F (top_row k top) (node_map image s.top.node) (entries_map image s.top.below) =
         subst (λ (w : ℕ). ShowsTree F (top_row k w) (node_map image s.top.node) (entries_map image s.top.below)) s.number tree in
         subst (λ (o : Option Top). ShowsTree F (top_row k top) (top_node image u.unit.root o) (top_below image o)) (sym (top_is top s)) here
 
-    top_image : (top : ℕ) (s : StaysHere (move f) (units f) i top) (path : List ℕ) → IsStaying m (image (Within s.top.number path))
+    top_image : (top : ℕ) (s : StaysHere (move f) (units f) i top) (path : List ℕ) → IsStaying P (image (Within s.top.number path))
     top_image top s path =
         let stays : m.gone s.top.number ≡ false = ap m.gone s.number ∙ s.stays in
-        subst (λ (w : ℕ). m.gone w ≡ false) (sym (stay_fixed (units f) (rule f) s.top.number stays)) stays
+        let lt = number_below 0 (tops_of (units f)) s.top (tops_numbers (units f)) s.there in
+        let own : s.top.number < length (tops_of (units f)) = omega (arith, lt) in
+        subst P (sym (facts.goes.stays s.top.number stays)) (stays, own)
 
-    top_slots : (depth top : ℕ) (sort : Sort) → StaysHere (move f) (units f) i top → SlotsStay m F (what_slots k sort depth (TopItem top))
+    top_slots : (depth top : ℕ) (sort : Sort) → StaysHere (move f) (units f) i top → SlotsStay P F (what_slots k sort depth (TopItem top))
     top_slots depth top sort s =
         let labels = (old f facts).tops_named s.top s.there in
-        let node : IsStaying m (names.top top).at =
-        subst (λ (o : Option Top). IsStaying m (top_node image u.unit.root o).at) (sym (top_is top s))
-        (subst (λ (w : EntryName). IsStaying m (image w)) (sym labels.0) (top_image top s [])) in
-        let below : AreStaying m (names.below top) =
-        subst (λ (o : Option Top). AreStaying m (top_below image o)) (sym (top_is top s)) (labelled_stay m (Within s.top.number) (top_image top s) [] 0 s.top.below labels.1) in
-        tree_stays m F k file depth (top_row k top) (names.top top) (names.below top) (top_shown top s) node below
+        let node : IsStaying P (names.top top).at =
+        subst (λ (o : Option Top). IsStaying P (top_node image u.unit.root o).at) (sym (top_is top s))
+        (subst (λ (w : EntryName). IsStaying P (image w)) (sym labels.0) (top_image top s [])) in
+        let below : AreStaying P (names.below top) =
+        subst (λ (o : Option Top). AreStaying P (top_below image o)) (sym (top_is top s)) (labelled_stay m P (Within s.top.number) (top_image top s) [] 0 s.top.below labels.1) in
+        tree_stays P F k file depth (top_row k top) (names.top top) (names.below top) (top_shown top s) node below
 
     -- ---- spaces
 
     space_shown : (s : ℕ) → IsSpaceIn (units f) i s → ShowsRow F (space_at k s).row (names.space s)
     space_shown s is =
         let o = space_stands (units f) i s is in
-        let w = space_rows_shown f t k facts listed n bytes x index h i s u o.node nth own is o.found in
+        let w = space_rows_shown _ f t k facts listed n bytes x index h i s u o.node nth own is o.found in
         subst (λ (q : Option (Node EntryName)). ShowsRow F (space_at k s).row (space_node image u.unit.root q)) (sym o.found) w.shows
 
-    space_named : (s : ℕ) → IsSpaceIn (units f) i s → IsStaying m (names.space s).at
+    space_named : (s : ℕ) → IsSpaceIn (units f) i s → IsStaying P (names.space s).at
     space_named s is =
         let o = space_stands (units f) i s is in
         let same : o.unit ≡ u = nth_one 0 (units f) i o.unit u o.nth nth in
         let there : In o.node (spaces_below u.unit.kind u.unit.below) = subst (λ (w : FileUnit EntryName). In o.node (spaces_below w.unit.kind w.unit.below)) same o.below in
-        subst (λ (q : Option (Node EntryName)). IsStaying m (space_node image u.unit.root q).at) (sym o.found) (space_stays m (units f) (old f facts) i u nth o.node there)
+        subst (λ (q : Option (Node EntryName)). IsStaying P (space_node image u.unit.root q).at) (sym o.found) (space_stays P m (units f) (old f facts) i u nth o.node there)
 
     -- ---- where the unit has that number among all that are written
 
@@ -124,7 +129,7 @@ module _ (f : RunFacts) (t : TextsAt) (k : EntryTable) (facts : AreFacts f) (lis
 
       import_shown : (part : ℕ) → IsUsedBy (move f).parts i part → ShowsImport (keys f) k here ft part (names.import part)
       import_shown part w =
-          let home = used_homes (rule f) (units f) (file_numbers 0 (docs f)) part w.part w.nth i u nth w.user in
+          let home = facts.goes.used part w.part w.nth i u nth w.user in
           let root : (keys f).root (unit_of_part k part) ≡ PartialRoot part = ap root_name (part_number f t k facts listed part w.part w.nth) in
           let mine : (w.part.home ≡ Common) ⊎ (w.part.home ≡ Local n) = subst (λ (q : ℕ). (w.part.home ≡ Common) ⊎ (w.part.home ≡ Local q)) own home in
           let reach = own_part f t k facts listed n changed here kept at is part w.part w.nth mine in
@@ -162,51 +167,51 @@ module _ (f : RunFacts) (t : TextsAt) (k : EntryTable) (facts : AreFacts f) (lis
 
         -- ---- what is written of them stays
 
-        root_slots : (o : Sort) → ShowsRoot (keys f) (F ∷ []) here o (node_map image u.unit.root) → SlotsStay m F (slot 1 (root_of o) ∷ [])
-        root_slots (CompileSort root) (inl w) = (row_stays m F root (node_map image u.unit.root) w (root_stays m (units f) (old f facts) i u nth), tt)
+        root_slots : (o : Sort) → ShowsRoot (keys f) (F ∷ []) here o (node_map image u.unit.root) → SlotsStay P F (slot 1 (root_of o) ∷ [])
+        root_slots (CompileSort root) (inl w) = (row_stays P F root (node_map image u.unit.root) w (root_stays P m (units f) (old f facts) i u nth), tt)
         root_slots (CompileSort root) (inr w) = absurd w
-        root_slots (TypeSort root signature main) (inl w) = (row_stays m F root (node_map image u.unit.root) w (root_stays m (units f) (old f facts) i u nth), tt)
+        root_slots (TypeSort root signature main) (inl w) = (row_stays P F root (node_map image u.unit.root) w (root_stays P m (units f) (old f facts) i u nth), tt)
         root_slots (TypeSort root signature main) (inr w) = absurd w
         root_slots (PartialSort place) w = (tt, tt)
 
-        all_of : (root : Row) → (u.unit.kind ≡ Compile → ⊥) → ShowsTree F root (node_map image u.unit.root) (entries_map image u.unit.below) → SlotsStay m F (tree_slots k 1 root)
+        all_of : (root : Row) → (u.unit.kind ≡ Compile → ⊥) → ShowsTree F root (node_map image u.unit.root) (entries_map image u.unit.below) → SlotsStay P F (tree_slots k 1 root)
         all_of root other w =
-            let first = root_stays m (units f) (old f facts) i u nth in
-            let others = whole_stays m (units f) (old f facts) i u nth other in
-            tree_stays m F k file 1 root (node_map image u.unit.root) (entries_map image u.unit.below) w first others
+            let first = root_stays P m (units f) (old f facts) i u nth in
+            let others = whole_stays P m (units f) (old f facts) i u nth other in
+            tree_stays P F k file 1 root (node_map image u.unit.root) (entries_map image u.unit.below) w first others
 
-        whole_tree : (o : Sort) → (u.unit.kind ≡ Compile → ⊥) → ShowsWhole (F ∷ []) o (node_map image u.unit.root) (entries_map image u.unit.below) → SlotsStay m F (whole_slots k 1 o)
+        whole_tree : (o : Sort) → (u.unit.kind ≡ Compile → ⊥) → ShowsWhole (F ∷ []) o (node_map image u.unit.root) (entries_map image u.unit.below) → SlotsStay P F (whole_slots k 1 o)
         whole_tree (CompileSort root) other (inl w) = all_of root other w
         whole_tree (CompileSort root) other (inr w) = absurd w
         whole_tree (TypeSort root signature main) other (inl w) = all_of root other w
         whole_tree (TypeSort root signature main) other (inr w) = absurd w
         whole_tree (PartialSort place) other w = absurd w
 
-        what_stays : (depth : ℕ) (what : ItemKind) → IsOfOld (move f) (units f) i what → SlotsStay m F (what_slots k sort depth what)
+        what_stays : (depth : ℕ) (what : ItemKind) → IsOfOld (move f) (units f) i what → SlotsStay P F (what_slots k sort depth what)
         what_stays depth Root w = absurd w
         what_stays depth Whole w = absurd w
         what_stays depth (TopItem top) w = top_slots depth top sort w
-        what_stays depth (Space s) w = (row_stays m F (space_at k s).row (names.space s) (space_shown s w) (space_named s w), tt)
+        what_stays depth (Space s) w = (row_stays P F (space_at k s).row (names.space s) (space_shown s w) (space_named s w), tt)
         what_stays depth (InChain chain s) w = absurd w
         what_stays depth (Import part) w = (tt, tt)
 
-        others_stay : (items : List Item) → Each (λ y. IsOfOld (move f) (units f) i y.what) items → SlotsStay m F (items_slots k sort items)
+        others_stay : (items : List Item) → Each (λ y. IsOfOld (move f) (units f) i y.what) items → SlotsStay P F (items_slots k sort items)
         unfolding items_slots
         others_stay [] all = tt
         others_stay (y ∷ items) all =
-            each_append (λ s. OriginStays m F s.origin) (what_slots k sort y.depth y.what) (items_slots k sort items) (what_stays y.depth y.what all.0) (others_stay items all.1)
+            each_append (λ s. OriginStays P F s.origin) (what_slots k sort y.depth y.what) (items_slots k sort items) (what_stays y.depth y.what all.0) (others_stay items all.1)
 
-        all_of_it : (kind : Kind EntryName) → u.unit.kind ≡ kind → (kind ≡ Compile → ⊥) → (items : List Item) → items ≡ item 1 Whole ∷ [] → SlotsStay m F (items_slots k sort items)
+        all_of_it : (kind : Kind EntryName) → u.unit.kind ≡ kind → (kind ≡ Compile → ⊥) → (items : List Item) → items ≡ item 1 Whole ∷ [] → SlotsStay P F (items_slots k sort items)
         unfolding items_slots
         all_of_it kind is other items w =
-            subst (λ (q : List Item). SlotsStay m F (items_slots k sort q)) (sym w)
-            (each_append (λ s. OriginStays m F s.origin) (whole_slots k 1 sort) [] (whole_tree sort (λ e. other (sym is ∙ e)) shown.whole) tt)
+            subst (λ (q : List Item). SlotsStay P F (items_slots k sort q)) (sym w)
+            (each_append (λ s. OriginStays P F s.origin) (whole_slots k 1 sort) [] (whole_tree sort (λ e. other (sym is ∙ e)) shown.whole) tt)
 
         pub items_stay : (kind : Kind EntryName) → u.unit.kind ≡ kind → (items : List Item) → OldNames (move f) (units f) i kind items
-            → SlotsStay (move f) (file_read f n bytes x) (items_slots k sort items)
+            → SlotsStay (StaysIn (move f) (units f)) (file_read f n bytes x) (items_slots k sort items)
         unfolding items_slots
         items_stay Compile is items w =
-            subst (λ (q : List Item). SlotsStay m F (items_slots k sort q)) (sym w.items_are)
-            (each_append (λ s. OriginStays m F s.origin) (slot 1 (root_of sort) ∷ []) (items_slots k sort w.others) (root_slots sort (shown.root here)) (others_stay w.others w.each))
+            subst (λ (q : List Item). SlotsStay P F (items_slots k sort q)) (sym w.items_are)
+            (each_append (λ s. OriginStays P F s.origin) (slot 1 (root_of sort) ∷ []) (items_slots k sort w.others) (root_slots sort (shown.root here)) (others_stay w.others w.each))
         items_stay (OfType signature main) is items w = all_of_it (OfType signature main) is (λ e. cc) items w
         items_stay Partial is items w = all_of_it Partial is (λ e. cc) items w

@@ -5,7 +5,7 @@ use Rattle.dwz_def_reading.specs.Lists.{In}
 use Rattle.dwz_def_reading.specs.Documents.{DwUnit, Node}
 use Rattle.dwz_def_tops.specs.Shown.{unit_keys, units_keys}
 use Rattle.dwz_def_tops.specs.Spots.{EntryName, same_spot}
-use Rattle.dwz_def_plan.specs.Plan.{image}
+use Rattle.dwz_def_plan.specs.Moves.{image_in}
 use Rattle.dwz_def_images.specs.Units.{changes, common_units, out_units}
 use Rattle.dwz_def_encoding.specs.Placing.{has_key}
 use Rattle.dwz_unit.specs.Rows.{EntryRow, Source, rows_of, units_of as raw_units}
@@ -19,7 +19,8 @@ use Rattle.dwz_layout.specs.declared.order.UnitItems.{UnitItems}
 use Rattle.dwz_layout.specs.Entries.{row}
 use Rattle.dwz_layout.specs.Known.{number_of, owner_of, reference_at}
 use Rattle.dwz_law_layout.specs.Knows.{IsReached, IsRead, KnowsFile, KnowsOwners, KnowsReferences}
-use Rattle.dwz_law_layout.specs.Facts.{AreFacts, HasFile, RunFacts, file_read, move, rule, units, units_written}
+use Rattle.dwz_law_layout.specs.Beside.{Beside}
+use Rattle.dwz_law_layout.specs.Facts.{AreFacts, HasFile, RunFacts, file_read, move, units, units_written}
 use Rattle.dwz_law_layout.specs.Listed.{AreListed, TextsAt}
 use Rattle.dwz_law_layout.specs.Named.{keys}
 use Rattle.dwz_law_layout.specs.NamedLaws.{IsItself, entry_name}
@@ -30,7 +31,7 @@ use Rattle.dwz_law_layout.proofs.OwnedEntries.{entry_owned}
 use Rattle.dwz_law_layout.proofs.ReadFiles.{all_stored}
 use Rattle.dwz_law_layout.proofs.UnitsReach.{common_told, file_told, own_told}
 
-module _ (f : RunFacts) (t : TextsAt) (k : EntryTable) (facts : AreFacts f) (listed : AreListed f t k) (n : ℕ) (bytes : List ℕ) (x : File) (index : Index) (h : HasFile f n bytes x index) where
+module _ {beside : Beside} (f : RunFacts beside) (t : TextsAt) (k : EntryTable) (facts : AreFacts f) (listed : AreListed f t k) (n : ℕ) (bytes : List ℕ) (x : File) (index : Index) (h : HasFile f n bytes x index) where
   pub o : IsHere f k n x index
   o = here f t k facts listed n x index h.file h.index_is
 
@@ -56,7 +57,7 @@ module _ (f : RunFacts) (t : TextsAt) (k : EntryTable) (facts : AreFacts f) (lis
   owns_entry changed i r d read itself =
       let s = read_name f k n x index o bytes i r d read in
       let name = named f k n x index o i in
-      let fixed : image (rule f) (units f) name ≡ name = ap (image (rule f) (units f)) (sym s) ∙ itself ∙ s in
+      let fixed : image_in (move f) name ≡ name = ap (image_in (move f)) (sym s) ∙ itself ∙ s in
       let stands = entry_owned f t k facts listed n x index o changed i r name read.found (name_there f k n x index o i (below f k n x index o bytes i r d read)) fixed in
       subst (λ (w : ℕ). StandsIn (units_written f) (entry_name f n d) (owner_of k w)) (sym (number_is f k n x index o i))
       (subst (λ (w : EntryName). StandsIn (units_written f) w (owner_of k (o.start + i))) (sym s) stands)
@@ -72,12 +73,12 @@ module _ (f : RunFacts) (t : TextsAt) (k : EntryTable) (facts : AreFacts f) (lis
 
     -- the name of what a reference leads to
     abbrev name_of : ℕ → EntryName
-    name_of p = image (rule f) (units f) (name_at index.starts o.among.kept.read.doc p)
+    name_of p = image_in (move f) (name_at index.starts o.among.kept.read.doc p)
 
     leads_reach : (j p : ℕ) → Leads j p → Reaches f t k facts listed n (name_of p) (number j)
     leads_reach j p w =
         let own = reached f t k facts listed n x index o changed w.target w.low (number j) in
-        let same : image (rule f) (units f) (named f k n x index o w.target) ≡ name_of p = ap (λ (q : ℕ). name_of q) w.place in
+        let same : image_in (move f) (named f k n x index o w.target) ≡ name_of p = ap (λ (q : ℕ). name_of q) w.place in
         subst (λ (s : EntryName). Reaches f t k facts listed n s (number j)) same (own (w.there ∙ ap (λ (s : EntryName). Some s) (sym same)))
 
     leads_key : (j p : ℕ) → Leads j p → (keys f).row (number j) ≡ name_of p

@@ -11,9 +11,11 @@ pub mod FileFits
 pub mod AfterLemmas
 pub mod RowsStored
 pub mod Walks
+pub mod EveryNames
 pub mod ReadFiles
 pub mod FileEntries
 pub mod FairLemmas
+pub mod NoUnits
 pub mod WholeRuns
 pub mod OwnedEntries
 pub mod ImagesStand
@@ -27,6 +29,7 @@ pub mod OldItems
 pub mod PartItems
 pub mod PartUnits
 pub mod Places
+pub mod RuleMoves
 pub mod SpaceStands
 pub mod SpaceWays
 pub mod Telling
@@ -65,7 +68,6 @@ pub mod FilesFitted
 pub mod FilesLaid
 pub mod EntryNames
 pub mod WrittenUnits
-pub mod NoUnits
 pub mod EntriesNamed
 pub mod SectionsLaid
 pub mod NamesCounted

@@ -18,7 +18,8 @@ use Rattle.dwz_encode.specs.Shown.{HeldLine, ShowFiles, ShowUnits, ShowsUnit, So
 use Rattle.dwz_def_readback.specs.Fewer.{NameOnly}
 use Rattle.dwz_law_layout.specs.Refers.{ContentCounted, FilesCounted, IsEntryNumber, SlotCounted, SortCounted, UnitCounted, UnitsCounted}
 use Rattle.dwz_law_layout.proofs.HeldNames.{AttrIn, LineIn, held_refs, unit_in}
-use Rattle.dwz_law_layout.specs.Facts.{RunFacts, docs, units_written}
+use Rattle.dwz_law_layout.specs.Beside.{Beside}
+use Rattle.dwz_law_layout.specs.Facts.{RunFacts, every, units_written}
 use Rattle.dwz_law_layout.specs.Named.{keys, root_name}
 
 pub got_or : {X : Type 0} (xs : List X) (n : ℕ) (d : X) → (n < length xs) ⊎ (get_or xs n d ≡ d)
@@ -26,10 +27,10 @@ got_or [] n d = inr refl
 got_or (x ∷ xs) zero d = inl (omega arith)
 got_or (x ∷ xs) (suc n) d = elim (got_or xs n d) [ inl lt ↦ inl (omega (arith, lt)) | inr e ↦ inr e ]
 
-module _ (f : RunFacts) (k : EntryTable) (many : length k.owners.items ≡ length (all_names (docs f))) (names : List EntryName) (entries : (s : EntryName) → In s names → s ≡ UnitOf 0 → ⊥) (total : ℕ)
+module _ {beside : Beside} (f : RunFacts beside) (k : EntryTable) (many : length k.owners.items ≡ length (all_names (every f))) (names : List EntryName) (entries : (s : EntryName) → In s names → s ≡ UnitOf 0 → ⊥) (total : ℕ)
     (units_many : length (units_written f) ≡ total) where
   row_counted : (n : ℕ) → In ((keys f).row n) names → IsEntryNumber k n
-  row_counted n there = elim (got_or (all_names (docs f)) n (UnitOf 0)) [
+  row_counted n there = elim (got_or (all_names (every f)) n (UnitOf 0)) [
     | inl lt ↦ omega (arith, lt, many)
     | inr e ↦ absurd (entries ((keys f).row n) there e)
   ]

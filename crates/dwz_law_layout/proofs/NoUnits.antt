@@ -1,25 +1,26 @@
 -- No entry of a unit after has the name of the first unit: that is another unit's, and no name stands twice.
 use Rattle.std.proofs.Common.{◌≡◌, ℕ, List, [], ◌∷◌, refl, sym, ap, subst, ◌∙◌, inl, inr}
-use Rattle.dwz_def_reading.specs.Lists.{In}
+use Rattle.dwz_def_reading.specs.Lists.{Each, In}
 use Rattle.dwz_def_reading.proofs.ListFacts.{in_cases, in_left, in_right}
-use Rattle.dwz_def_reading.specs.Documents.{DwUnit}
+use Rattle.dwz_def_reading.specs.Documents.{Doc, DwUnit}
 use Rattle.dwz_def_tops.specs.Lists.{NoneTwice, Nth}
 use Rattle.dwz_def_tops.specs.Shown.{unit_keys, units_keys}
 use Rattle.dwz_def_tops.proofs.Members.{each_in, nth_in}
 use Rattle.dwz_def_tops.proofs.OnceLemmas.{none_both, none_right}
-use Rattle.dwz_def_tops.specs.Spots.{EntryName, FileUnit, UnitOf, file_numbers}
+use Rattle.dwz_def_tops.specs.Spots.{EntryName, FileUnit, UnitOf, file_numbers, units_of}
 use Rattle.dwz_def_tops.proofs.Tops.{unit_of}
-use Rattle.dwz_def_plan.specs.Homes.{Common, Home, Local}
+use Rattle.dwz_def_plan.specs.Homes.{Common, Home, Local, Rule}
+use Rattle.dwz_def_plan.specs.Moves.{Move, plan}
 use Rattle.dwz_def_plan.specs.IsPlan.{IsPart}
 use Rattle.dwz_def_plan.proofs.PlanLemmas.{are_parts}
 use Rattle.dwz_def_images.specs.Units.{all_units, common_units, file_units, kept_unit, kept_units, out_units, partial_units}
-use Rattle.dwz_def_images.proofs.FileLemmas.{files_are}
+use Rattle.dwz_def_images.specs.After.{AreOld, ArePlaced}
+use Rattle.dwz_def_images.proofs.ApartUnits.{all_apart}
+use Rattle.dwz_def_images.proofs.FileLemmas.{files_are, numbers_rise}
+use Rattle.dwz_def_images.proofs.OldFiles.{files_old}
 use Rattle.dwz_def_encoding.specs.Meant.{entry_keys}
 use Rattle.dwz_def_readback.proofs.HomeLemmas.{kept_from, parts_from}
 use Rattle.dwz_def_readback.proofs.WithinLemmas.{kept_to}
-use Rattle.dwz_law_layout.specs.Facts.{AreFacts, RunFacts, docs, move, rule, units}
-use Rattle.dwz_law_layout.proofs.ImagesStand.{old}
-use Rattle.dwz_law_layout.proofs.FilesLaid.{all_once}
 
 -- ---- names of units and of entries
 
@@ -35,7 +36,7 @@ entry_there [] v s there key = absurd there
 entry_there (x ∷ us) v s (inl e) key = in_left s (unit_keys x) (units_keys us) (inr (subst (λ (w : DwUnit EntryName). In s (entry_keys w)) (sym e) key))
 entry_there (x ∷ us) v s (inr later) key = in_right s (unit_keys x) (units_keys us) (entry_there us v s later key)
 
-apart : (us : List (DwUnit EntryName)) (w v : DwUnit EntryName) → NoneTwice (units_keys us) → In w us → In v us → In w.at (entry_keys v) → ⊥
+pub apart : (us : List (DwUnit EntryName)) (w v : DwUnit EntryName) → NoneTwice (units_keys us) → In w us → In v us → In w.at (entry_keys v) → ⊥
 unfolding units_keys unit_keys
 apart [] w v once w_in v_in key = absurd w_in
 apart (x ∷ us) w v once (inl e) (inl d) key =
@@ -51,65 +52,77 @@ first_of : {X : Type 0} (xs : List X) (i : ℕ) (x : X) → Nth 0 xs i x → (y 
 first_of [] i x nth = absurd nth
 first_of (y ∷ xs) i x nth = (y, inl (refl, refl))
 
-module _ (f : RunFacts) (facts : AreFacts f) where
-  abbrev pub all : List (DwUnit EntryName)
-  all = all_units (move f) (units f) (file_numbers 0 (docs f))
+module _ (docs : List (Doc ℕ)) (rule : Rule) (placed : Each (λ doc. ArePlaced doc.units) docs) where
+  abbrev us : List (FileUnit EntryName)
+  us = units_of docs
 
-  pub out_in : (files : List ℕ) (n : ℕ) (v : DwUnit EntryName) → In n files → In v (out_units (move f) (units f) n) → In v (file_units (move f) (units f) files)
+  abbrev m : Move
+  m = plan rule (units_of docs) (file_numbers 0 docs)
+
+  old : AreOld (units_of docs)
+  old = files_old docs placed
+
+  once : NoneTwice (units_keys (all_units m us (file_numbers 0 docs)))
+  once = all_apart us rule old (file_numbers 0 docs) (numbers_rise 0 docs)
+
+  abbrev all : List (DwUnit EntryName)
+  all = all_units m us (file_numbers 0 docs)
+
+  out_in : (files : List ℕ) (n : ℕ) (v : DwUnit EntryName) → In n files → In v (out_units m us n) → In v (file_units m us files)
   unfolding file_units
   out_in [] n v there is = absurd there
   out_in (file ∷ files) n v (inl e) is =
-      in_left v (out_units (move f) (units f) file) (file_units (move f) (units f) files) (subst (λ (w : ℕ). In v (out_units (move f) (units f) w)) (sym e) is)
-  out_in (file ∷ files) n v (inr later) is = in_right v (out_units (move f) (units f) file) (file_units (move f) (units f) files) (out_in files n v later is)
+      in_left v (out_units m us file) (file_units m us files) (subst (λ (w : ℕ). In v (out_units m us w)) (sym e) is)
+  out_in (file ∷ files) n v (inr later) is = in_right v (out_units m us file) (file_units m us files) (out_in files n v later is)
 
-  pub among_all : (n : ℕ) (v : DwUnit EntryName) → In n (file_numbers 0 (docs f)) → In v (out_units (move f) (units f) n) → In v all
-  among_all n v there is = in_right v (common_units (move f)) (file_units (move f) (units f) (file_numbers 0 (docs f))) (out_in (file_numbers 0 (docs f)) n v there is)
+  among_all : (n : ℕ) (v : DwUnit EntryName) → In n (file_numbers 0 docs) → In v (out_units m us n) → In v all
+  among_all n v there is = in_right v (common_units m) (file_units m us (file_numbers 0 docs)) (out_in (file_numbers 0 docs) n v there is)
 
   -- ---- there is a first unit
 
   abbrev HasUnit : Type 0
-  HasUnit = (u : FileUnit EntryName) × Nth 0 (units f) 0 u
+  HasUnit = (u : FileUnit EntryName) × Nth 0 us 0 u
 
-  part_some : (h : Home) (v : DwUnit EntryName) → In v (partial_units (move f) h 0 (move f).parts) → HasUnit
+  part_some : (h : Home) (v : DwUnit EntryName) → In v (partial_units m h 0 m.parts) → HasUnit
   part_some h v is =
-      let o = parts_from (move f) h 0 (move f).parts v is in
-      let p = each_in (IsPart (rule f) (units f)) o.part (move f).parts (are_parts (rule f) (units f) (file_numbers 0 (docs f))) (nth_in 0 (move f).parts o.number o.part o.nth) in
+      let o = parts_from m h 0 m.parts v is in
+      let p = each_in (IsPart rule us) o.part m.parts (are_parts rule us (file_numbers 0 docs)) (nth_in 0 m.parts o.number o.part o.nth) in
       let t = p.some.0 in
       let there = ((p.tops t).0 p.some.1).there in
-      let u = unit_of (units f) t there in
-      first_of (units f) t.unit u.unit u.nth
+      let u = unit_of us t there in
+      first_of us t.unit u.unit u.nth
 
-  out_some : (n : ℕ) (v : DwUnit EntryName) → In v (out_units (move f) (units f) n) → HasUnit
+  out_some : (n : ℕ) (v : DwUnit EntryName) → In v (out_units m us n) → HasUnit
   unfolding out_units
-  out_some n v is = elim (in_cases v (partial_units (move f) (Local n) 0 (move f).parts) (kept_units (move f) (units f) n 0 (units f)) is) [
+  out_some n v is = elim (in_cases v (partial_units m (Local n) 0 m.parts) (kept_units m us n 0 us) is) [
     | inl a ↦ part_some (Local n) v a
-    | inr b ↦ (let o = kept_from (move f) (units f) n 0 (units f) v b in first_of (units f) o.number o.unit o.nth)
+    | inr b ↦ (let o = kept_from m us n 0 us v b in first_of us o.number o.unit o.nth)
   ]
 
-  files_some : (files : List ℕ) (v : DwUnit EntryName) → In v (file_units (move f) (units f) files) → HasUnit
+  files_some : (files : List ℕ) (v : DwUnit EntryName) → In v (file_units m us files) → HasUnit
   unfolding file_units
   files_some [] v is = absurd is
-  files_some (n ∷ files) v is = elim (in_cases v (out_units (move f) (units f) n) (file_units (move f) (units f) files) is) [
+  files_some (n ∷ files) v is = elim (in_cases v (out_units m us n) (file_units m us files) is) [
     | inl a ↦ out_some n v a
     | inr b ↦ files_some files v b
   ]
 
   all_some : (v : DwUnit EntryName) → In v all → HasUnit
   unfolding common_units
-  all_some v is = elim (in_cases v (partial_units (move f) Common 0 (move f).parts) (file_units (move f) (units f) (file_numbers 0 (docs f))) is) [
+  all_some v is = elim (in_cases v (partial_units m Common 0 m.parts) (file_units m us (file_numbers 0 docs)) is) [
     | inl a ↦ part_some Common v a
-    | inr b ↦ files_some (file_numbers 0 (docs f)) v b
+    | inr b ↦ files_some (file_numbers 0 docs) v b
   ]
 
-  first_kept : (u : FileUnit EntryName) → Nth 0 (units f) 0 u → In (kept_unit (move f) (units f) 0 u) all
+  first_kept : (u : FileUnit EntryName) → Nth 0 us 0 u → In (kept_unit m us 0 u) all
   unfolding out_units
   first_kept u nth =
-      among_all u.file (kept_unit (move f) (units f) 0 u) (files_are (docs f) 0 u nth)
-      (in_right (kept_unit (move f) (units f) 0 u) (partial_units (move f) (Local u.file) 0 (move f).parts) (kept_units (move f) (units f) u.file 0 (units f))
-      (kept_to (move f) (units f) u.file 0 (units f) 0 u nth refl))
+      among_all u.file (kept_unit m us 0 u) (files_are docs 0 u nth)
+      (in_right (kept_unit m us 0 u) (partial_units m (Local u.file) 0 m.parts) (kept_units m us u.file 0 us)
+      (kept_to m us u.file 0 us 0 u nth refl))
 
   pub no_entry : (v : DwUnit EntryName) (s : EntryName) → In v all → In s (entry_keys v) → s ≡ UnitOf 0 → ⊥
   no_entry v s is key e =
       let u = all_some v is in
-      let at : u.0.unit.at ≡ UnitOf 0 = ((old f facts).units_named 0 u.0 u.1).unit in
-      apart all (kept_unit (move f) (units f) 0 u.0) v (all_once f facts) (first_kept u.0 u.1) is (subst (λ (w : EntryName). In w (entry_keys v)) (e ∙ sym at) key)
+      let at : u.0.unit.at ≡ UnitOf 0 = (old.units_named 0 u.0 u.1).unit in
+      apart all (kept_unit m us 0 u.0) v once (first_kept u.0 u.1) is (subst (λ (w : EntryName). In w (entry_keys v)) (e ∙ sym at) key)

@@ -29,6 +29,7 @@ use Rattle.dwz_layout_order.specs.Sorts.{SortOf}
 use Rattle.dwz_law_layout.specs.Old.{EachOld}
 use Rattle.dwz_layout.specs.declared.known.EntryTable.{EntryTable}
 use Rattle.dwz_layout.specs.declared.order.UnitItems.{UnitItems}
+use Rattle.dwz_law_layout.specs.Beside.{Beside}
 use Rattle.dwz_law_layout.specs.Facts.{AreFacts, RunFacts, units}
 use Rattle.dwz_law_layout.proofs.FileEntries.{IsHere, here}
 use Rattle.dwz_law_layout.specs.Roots.{UnitShown, UnitsShownLaw}
@@ -43,7 +44,7 @@ EachHere P i _ _ = ⊥
 
 -- ---- the units of the file
 
-module _ (f : RunFacts) (n : ℕ) (bytes : List ℕ) (x : File) (index : Index) (is : IsFileAmong f.contents n bytes x index) (k : EntryTable) (facts : AreFacts f) (o : IsHere f k n x index) where
+module _ {beside : Beside} (f : RunFacts beside) (n : ℕ) (bytes : List ℕ) (x : File) (index : Index) (is : IsFileAmong f.contents n bytes x index) (k : EntryTable) (facts : AreFacts f) (o : IsHere f k n x index) where
   abbrev Shown : ℕ → FileUnit EntryName → UnitItems → Type 0
   Shown i u items = UnitShown f n bytes x u.unit items.sort
 
@@ -110,7 +111,7 @@ module _ (P : ℕ → FileUnit EntryName → UnitItems → Type 0) (file : ℕ) 
       take_one (in_file file u) (P i (in_file file u) o × EachOld P file (suc i) rest order) (EachOld P file (suc i) rest (o ∷ order)) refl (h.0, mine (suc i) own after order h.1 other)
 
 pub units_shown : UnitsShownLaw
-units_shown f t k facts listed n bytes x index h start at marks imports from next order file begins first kept =
+units_shown beside f t k facts listed n bytes x index h start at marks imports from next order file begins first kept =
     let is = among_of f facts n bytes x index h in
     let o = here f t k facts listed n x index h.file h.index_is in
     let doc = is.kept.read.doc in
@@ -128,7 +129,7 @@ units_shown f t k facts listed n bytes x index h start at marks imports from nex
     nth_at (units f) (length front + q) (in_file n (unit_map (called f n bytes x index is) v)) (ap (λ (w : List (FileUnit EntryName)). slice_get w (length front + q)) is.units.all_are ∙ got)) in
     let each : EachHere P (length front) own order =
     each_shown f n bytes x index is k facts o marks imports from next (raw_units x.units) doc.units order 0 0 (length front) means whole refl refl file from_start first there kept in
-    let other = others f facts n bytes x index h is in
+    let other = others _ f facts n bytes x index h is in
     let none : length front ≡ 0 + length front = omega arith in
     subst (λ (w : List (FileUnit EntryName)). EachOld P n 0 w order) (sym is.units.all_are)
     (skip P n 0 front (own ++ back) order other.0

@@ -12,7 +12,7 @@ use Rattle.dwz_def_reading.specs.Lists.{Each}
 use Rattle.dwz_def_tops.specs.Seen.{IsPartial}
 use Rattle.dwz_def_tops.proofs.Members.{each_in, each_of}
 use Rattle.dwz_def_tops.specs.Spots.{EntryName, in_file, spot_in, spots_from}
-use Rattle.dwz_def_plan.specs.Plan.{image}
+use Rattle.dwz_def_plan.specs.Moves.{image_in}
 use Rattle.dwz_def_images.specs.After.{ArePlaced}
 use Rattle.dwz_def_images.specs.Units.{changes}
 use Rattle.dwz_unit.specs.Rows.{EntryRow, rows_of, units_of as raw_units}
@@ -22,18 +22,23 @@ use Rattle.dwz_graph.specs.Index.{Index}
 use Rattle.dwz_graph.specs.Names.{names_from}
 use Rattle.dwz_graph.proofs.TopNameLemmas.{means_units}
 use Rattle.dwz_graph.specs.Indexed.{first_starts}
+use Rattle.dwz_layout_numbers.specs.OwnerLaws.{AreMoved}
 use Rattle.dwz_layout_numbers.specs.Owners.{IsFileWritten, StandsIn}
 use Rattle.dwz_layout_numbers.proofs.OwnerLemmas.{owned}
 use Rattle.dwz_layout_numbers.proofs.UnitNames.{IsOfUnit, of_unit}
 use Rattle.dwz_layout.specs.declared.known.EntryTable.{EntryTable}
 use Rattle.dwz_layout.specs.Known.{owner_of}
-use Rattle.dwz_law_layout.specs.Facts.{AreFacts, RunFacts, docs, move, rule, units, units_written, written}
+use Rattle.dwz_law_layout.specs.Beside.{Beside}
+use Rattle.dwz_law_layout.specs.Facts.{AreFacts, RunFacts, docs, move, units, units_written, written}
 use Rattle.dwz_law_layout.specs.Listed.{AreListed, TextsAt}
 use Rattle.dwz_law_layout.proofs.FileEntries.{IsHere, names}
 use Rattle.dwz_law_layout.proofs.ReadFiles.{all_placed}
 use Rattle.dwz_law_layout.proofs.Walks.{owners_at}
 
-module _ (f : RunFacts) (t : TextsAt) (k : EntryTable) (facts : AreFacts f) (listed : AreListed f t k) (n : ℕ) (x : File) (index : Index) (o : IsHere f k n x index) where
+pub are_moved : {beside : Beside} (f : RunFacts beside) → AreFacts f → AreMoved (docs f) (move f) f.planned (written f) f.commons f.parts f.olds
+are_moved f facts = record { placed = all_placed f facts; holds = facts.holds; shows = facts.shows; numbers = facts.numbers }
+
+module _ {beside : Beside} (f : RunFacts beside) (t : TextsAt) (k : EntryTable) (facts : AreFacts f) (listed : AreListed f t k) (n : ℕ) (x : File) (index : Index) (o : IsHere f k n x index) where
   abbrev raw : List RawUnit
   raw = raw_units x.units
 
@@ -89,7 +94,7 @@ module _ (f : RunFacts) (t : TextsAt) (k : EntryTable) (facts : AreFacts f) (lis
   -- ---- its owner
 
   pub entry_owned : changes (move f) (units f) n ≡ true → (i : ℕ) (r : EntryRow) (s : EntryName) → slice_get (rows_of raw) i ≡ Some r → slice_get (names f k n x index o) i ≡ Some s
-      → image (rule f) (units f) s ≡ s → StandsIn (units_written f) s (owner_of k (o.start + i))
+      → image_in (move f) s ≡ s → StandsIn (units_written f) s (owner_of k (o.start + i))
   entry_owned changed i r s row_is name_is fixed =
       let is_written : IsFileWritten (written f) n = facts.numbers.changed n changed in
       let name_found : slice_get found_names i ≡ Some s = ap (λ (w : List EntryName). slice_get w i) names_same ∙ name_is in
@@ -103,7 +108,7 @@ module _ (f : RunFacts) (t : TextsAt) (k : EntryTable) (facts : AreFacts f) (lis
       let number = u.is_number in
       let same : index.starts.unit + r.unit ≡ u.number = ap (λ (v : Starts). v.unit + r.unit) (sym o.starts_same) ∙ sym number in
       let is = w.is kept.0 (ap (slice_get f.olds) same ∙ kept.1) in
-      let stands = owned (docs f) (rule f) f.planned (written f) f.commons f.parts f.olds facts.moved
+      let stands = owned (docs f) (move f) f.planned (written f) f.commons f.parts f.olds (are_moved f facts)
       n index o.start o.found is_written (around_of o.bytes raw) raw means i r s row_is name_found fixed
       kept.0 (ap (slice_get f.olds) (sym number) ∙ kept.1) in
       subst (StandsIn (units_written f) s) (sym (owner ∙ is)) stands

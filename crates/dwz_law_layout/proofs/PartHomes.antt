@@ -10,12 +10,11 @@ use Rattle.dwz_def_tops.specs.Lists.{Nth}
 use Rattle.dwz_def_tops.proofs.Members.{any_from, any_true, nth_one}
 use Rattle.dwz_def_tops.specs.Spots.{EntryName, FileUnit, PartialOf, Top, file_numbers, tops_of}
 use Rattle.dwz_def_plan.specs.Homes.{Common, Home, Local, Stay, is_home, same_home}
-use Rattle.dwz_def_plan.specs.Moves.{first_unit, line_attr, line_attrs, line_in, line_of, names_path, root_in_part, root_of}
+use Rattle.dwz_def_plan.specs.Moves.{first_unit, line_attr, line_attrs, line_in, line_of, names_path, root_of}
 use Rattle.dwz_def_plan.specs.Plan.{PartialUnit}
 use Rattle.dwz_plan.specs.Planned.{file_of_home}
 use Rattle.dwz_def_images.specs.Units.{changes, common_units, kept_units, out_units, partial_unit, partial_units}
 use Rattle.dwz_def_images.proofs.FileLemmas.{files_are}
-use Rattle.dwz_def_images.proofs.HeldLemmas.{part_found}
 use Rattle.dwz_def_readback.proofs.HomeLemmas.{parts_from}
 use Rattle.dwz_def_readback.proofs.WithinLemmas.{parts_to}
 use Rattle.dwz_def_readback.proofs.SameLemmas.{numbers_in}
@@ -24,11 +23,12 @@ use Rattle.dwz_layout.specs.declared.known.EntryTable.{EntryTable}
 use Rattle.dwz_layout.specs.declared.order.Sort.TheVariants.{Partial}
 use Rattle.dwz_layout.specs.Attributes.{is_common}
 use Rattle.dwz_layout_order.specs.Orders.{ShowsLine as HasLine}
+use Rattle.dwz_law_layout.specs.Beside.{Alone, Beside, IsMadeAt, Over}
 use Rattle.dwz_law_layout.specs.Knows.{ShowsLine}
-use Rattle.dwz_law_layout.specs.Facts.{AreFacts, RunFacts, docs, move, rule, units, units_written, written}
+use Rattle.dwz_law_layout.specs.Facts.{AreFacts, IsMade, RunFacts, docs, move, units, units_written, written}
 use Rattle.dwz_law_layout.specs.Listed.{AreListed, TextsAt}
-use Rattle.dwz_law_layout.proofs.Places.{used_homes}
-use Rattle.dwz_law_layout.proofs.PartUnits.{first_uses, of_unit, part_is, part_tops}
+use Rattle.dwz_law_layout.specs.Moving.{IsMadePart}
+use Rattle.dwz_law_layout.proofs.PartUnits.{of_unit}
 use Rattle.dwz_law_layout.specs.Trees.{IsReadFile}
 use Rattle.dwz_law_layout.proofs.TopTrees.{top_files}
 
@@ -40,45 +40,50 @@ flag_found g s [] n e = absurd cc
 flag_found g s (d ∷ said) zero e = (ap g (let z : s + 0 ≡ s = omega arith in z) ∙ e, omega arith)
 flag_found g s (d ∷ said) (suc n) e = (let r = flag_found g (suc s) said n e in (ap g (let z : s + suc n ≡ suc s + n = omega arith in z) ∙ r.0, let lt = r.1 in omega arith))
 
-pub file_changed : (f : RunFacts) (n : ℕ) → slice_index_or (written f) n false ≡ true → (changes (move f) (units f) n ≡ true) × (n < length (docs f))
+pub file_changed : {beside : Beside} (f : RunFacts beside) (n : ℕ) → slice_index_or (written f) n false ≡ true → (changes (move f) (units f) n ≡ true) × (n < length (docs f))
 file_changed f n e =
     let r = flag_found (changes (move f) (units f)) 0 (docs f) n e in
     let none : 0 + n ≡ n = omega arith in
     (subst (λ (w : ℕ). changes (move f) (units f) w ≡ true) none r.0, r.1)
 
-pub file_read_there : (f : RunFacts) → AreFacts f → (n : ℕ) → changes (move f) (units f) n ≡ true → IsReadFile f n
+pub file_read_there : {beside : Beside} (f : RunFacts beside) → AreFacts f → (n : ℕ) → changes (move f) (units f) n ≡ true → IsReadFile f n
 unfolding changes
 file_read_there f facts n e =
     let p = any_from _ (tops_of (units f)) e in
-    subst (IsReadFile f) (eqb-true p.one.file n (and_left (p.one.file == n) ((move f).gone p.one.number) p.passes)) (top_files f facts p.one p.there)
+    subst (IsReadFile f) (eqb-true p.one.file n (and_left (p.one.file == n) ((move f).gone p.one.number) p.passes)) (top_files _ f facts p.one p.there)
 
 -- ---- the file of a partial unit
 
 -- its tops are all of this unit, whose file was read, and something of that file moves
-pub record ComesFrom (f : RunFacts) (part : PartialUnit) : Type 0 where
+pub record ComesFrom {beside : Beside} (f : RunFacts beside) (part : PartialUnit) : Type 0 where
   pub unit : FileUnit EntryName
   pub nth : Nth 0 (units f) (first_unit part.tops) unit
   pub read : IsReadFile f unit.file
   pub changed : changes (move f) (units f) unit.file ≡ true
   pub below : unit.file < length (docs f)
 
-pub comes_from : (f : RunFacts) → AreFacts f → (p : ℕ) (part : PartialUnit) → Nth 0 (move f).parts p part → ComesFrom f part
+pub comes_from : {beside : Beside} (f : RunFacts beside) → AreFacts f → (p : ℕ) (part : PartialUnit) → IsMadePart (move f) (units f) p part → ComesFrom f part
 unfolding changes
-comes_from f facts p part nth =
-    let some = (part_is (units f) (rule f) (file_numbers 0 (docs f)) p part nth).some in
-    let own = part_tops (units f) (rule f) facts.fair (file_numbers 0 (docs f)) p part nth some.0 some.1 in
+comes_from f facts p part made =
+    let some = made.some in
+    let own = made.tops some.0 some.1 in
     let u = of_unit (units f) some.0 own.there in
     let at = subst (λ (i : ℕ). Nth 0 (units f) i u.unit) own.unit u.nth in
     let same = eq-eqb some.0.file u.unit.file u.file in
     record {
       unit = u.unit;
       nth = at;
-      read = subst (IsReadFile f) u.file (top_files f facts some.0 own.there);
+      read = subst (IsReadFile f) u.file (top_files _ f facts some.0 own.there);
       changed = any_true (λ (t : Top). t.file == u.unit.file && (move f).gone t.number) some.0 (tops_of (units f)) own.there (λ i. same i && own.moves i);
       below = (let lt = numbers_in 0 (docs f) u.unit.file (files_are (docs f) (first_unit part.tops) u.unit at) in omega (arith, lt));
     }
 
 -- ---- homes
+
+-- a partial unit of a file is made
+made_local : (b : Beside) (h : Home) (n : ℕ) → h ≡ Local n → IsMadeAt b h
+made_local Alone h n e = tt
+made_local (Over s) h n e = (n, e)
 
 -- the number that a plan has for a home is that of the file just where the home is the file's
 pub home_number : (files n : ℕ) (h : Home) → is_home h ≡ true → n < files → same_home h (Local n) ≡ (file_of_home files h == n)
@@ -86,31 +91,34 @@ home_number files n Common moves lt = sym (ne_eqb files n (λ e. omega arith))
 home_number files n (Local file) moves lt = refl
 home_number files n Stay moves lt = absurd cc
 
-module _ (f : RunFacts) (facts : AreFacts f) (n : ℕ) (p : ℕ) (part : PartialUnit) (nth : Nth 0 (move f).parts p part) where
+module _ {beside : Beside} (f : RunFacts beside) (facts : AreFacts f) (n : ℕ) (p : ℕ) (part : PartialUnit) (nth : Nth 0 (move f).parts p part) where
   pub home_moves : is_home part.home ≡ true
-  home_moves = (part_is (units f) (rule f) (file_numbers 0 (docs f)) p part nth).moves
+  home_moves = facts.goes.homes p part nth
 
-  pub tops_there : (t : Top) → In t part.tops → In t (tops_of (units f))
-  tops_there t is = (part_tops (units f) (rule f) facts.fair (file_numbers 0 (docs f)) p part nth t is).there
+  pub tops_there : IsMade f part.home → (t : Top) → In t part.tops → In t (tops_of (units f))
+  tops_there is_made t is = ((facts.goes.made p part nth is_made).tops t is).there
 
   -- the unit that they are of is one of the file, so they are
-  pub tops_of_file : ((u : FileUnit EntryName) → Nth 0 (units f) (first_unit part.tops) u → u.file ≡ n) → (t : Top) → In t part.tops → t.file ≡ n
-  tops_of_file first t is =
-      let own = part_tops (units f) (rule f) facts.fair (file_numbers 0 (docs f)) p part nth t is in
+  pub tops_of_file : IsMade f part.home → ((u : FileUnit EntryName) → Nth 0 (units f) (first_unit part.tops) u → u.file ≡ n) → (t : Top) → In t part.tops → t.file ≡ n
+  tops_of_file is_made first t is =
+      let own = (facts.goes.made p part nth is_made).tops t is in
       let u = of_unit (units f) t own.there in
       u.file ∙ first u.unit (subst (λ (i : ℕ). Nth 0 (units f) i u.unit) own.unit u.nth)
 
   module _ (home : part.home ≡ Local n) where
+    -- it is made
+    pub local_made : IsMade f part.home
+    local_made = made_local beside part.home n home
+
     pub first_file : (u : FileUnit EntryName) → Nth 0 (units f) (first_unit part.tops) u → u.file ≡ n
     first_file u at =
-        elim (used_homes (rule f) (units f) (file_numbers 0 (docs f)) p part nth (first_unit part.tops) u at
-        (first_uses (units f) (rule f) facts.fair (file_numbers 0 (docs f)) p part nth)) [
+        elim (facts.goes.used p part nth (first_unit part.tops) u at (facts.goes.made p part nth local_made).user) [
           | inl e ↦ absurd (let w : Common ≡ Local n = sym e ∙ home in cc)
           | inr e ↦ (let w : Local u.file ≡ Local n = sym e ∙ home in cc)
         ]
 
     pub top_file : (t : Top) → In t part.tops → t.file ≡ n
-    top_file t is = tops_of_file first_file t is
+    top_file t is = tops_of_file local_made first_file t is
 
     -- ---- units
 
@@ -143,25 +151,25 @@ module _ (f : RunFacts) (facts : AreFacts f) (n : ℕ) (p : ℕ) (part : Partial
 -- ---- the common file
 
 -- a partial unit of that home is one of its units
-pub common_there : (f : RunFacts) (p : ℕ) (part : PartialUnit) → Nth 0 (move f).parts p part → part.home ≡ Common → In (partial_unit (move f) p) (common_units (move f))
+pub common_there : {beside : Beside} (f : RunFacts beside) (p : ℕ) (part : PartialUnit) → Nth 0 (move f).parts p part → part.home ≡ Common → In (partial_unit (move f) p) (common_units (move f))
 unfolding common_units
 common_there f p part nth home = parts_to (move f) Common 0 (move f).parts p part nth home
 
 -- its number in a plan is that of the files
-pub common_number : (f : RunFacts) → AreFacts f → (p : ℕ) (part : PartialUnit) → Nth 0 (move f).parts p part
+pub common_number : {beside : Beside} (f : RunFacts beside) → AreFacts f → (p : ℕ) (part : PartialUnit) → Nth 0 (move f).parts p part
     → same_home part.home Common ≡ (file_of_home (length (docs f)) part.home == length (docs f))
 common_number f facts p part nth = by part.home refl (home_moves f facts 0 p part nth) where
   by : (h : Home) → part.home ≡ h → is_home h ≡ true → same_home h Common ≡ (file_of_home (length (docs f)) h == length (docs f))
   by Common e moves = sym (eq-eqb (length (docs f)) (length (docs f)) refl)
   by (Local n) e moves =
-      let c = comes_from f facts p part nth in
+      let c = comes_from f facts p part (facts.goes.made p part nth (local_made f facts n p part nth e)) in
       let same = first_file f facts n p part nth e c.unit c.nth in
       let lt = c.below in
       sym (ne_eqb n (length (docs f)) (λ q. omega (arith, q, lt, same)))
   by Stay e moves = absurd cc
 
 -- its units are the first of all that are written
-pub is_first : (f : RunFacts) → AreFacts f → (t : TextsAt) (k : EntryTable) → AreListed f t k → (here : ℕ) (u : DwUnit EntryName) → slice_get (common_units (move f)) here ≡ Some u
+pub is_first : {beside : Beside} (f : RunFacts beside) → AreFacts f → (t : TextsAt) (k : EntryTable) → AreListed f t k → (here : ℕ) (u : DwUnit EntryName) → slice_get (common_units (move f)) here ≡ Some u
     → is_common k here ≡ true
 is_first f facts t k listed here u at =
     let lt = got_below (common_units (move f)) here u at in
@@ -201,7 +209,7 @@ line_from (Some place) attrs (inr s) h =
     let raw : s.raw ≡ pos place = ap (λ (a : Attr EntryName). a.raw) one ∙ h.4 in
     (s.plain, s.is ∙ ap (λ (r : ℤ). line_attr r s.plain ∷ []) raw)
 
-pub line_known : (f : RunFacts) (p : ℕ) (part : PartialUnit) → Nth 0 (move f).parts p part → (place : Option ℕ) → HasLine (Partial place) ((move f).roots p) → ShowsLine place ((move f).roots p)
-line_known f p part nth place h =
-    let is : (move f).roots p ≡ line_attrs (units f) part = ap (root_in_part (units f)) (part_found 0 (move f).parts p p part nth (omega arith)) in
+pub line_known : {beside : Beside} (f : RunFacts beside) (p : ℕ) (part : PartialUnit) → IsMadePart (move f) (units f) p part → (place : Option ℕ) → HasLine (Partial place) ((move f).roots p) → ShowsLine place ((move f).roots p)
+line_known f p part made place h =
+    let is : (move f).roots p ≡ line_attrs (units f) part = made.root in
     line_from place ((move f).roots p) (subst (λ (w : List (Attr EntryName)). (w ≡ []) ⊎ HasLineOf w) (sym is) (part_shape (units f) part)) h

@@ -4,7 +4,7 @@ use Rattle.dwz_def_reading.specs.Lists.{Each, In}
 use Rattle.dwz_def_reading.specs.Documents.{DwUnit, Entries, Node, Partial as PartialKind, Text, entries_map, only}
 use Rattle.dwz_def_tops.specs.Lists.{Nth}
 use Rattle.dwz_def_tops.proofs.Members.{each_in, each_of}
-use Rattle.dwz_def_tops.specs.Spots.{EntryName, FileUnit, InChain as ChainSpot, SpaceName, Top, file_numbers}
+use Rattle.dwz_def_tops.specs.Spots.{EntryName, FileUnit, InChain as ChainSpot, SpaceName, Top}
 use Rattle.dwz_layout_items.specs.declared.order.Item.{Item}
 use Rattle.dwz_layout_items.specs.declared.order.ItemKind.{ItemKind}
 use Rattle.dwz_layout_items.specs.declared.order.ItemKind.TheVariants.{Import, InChain, Root, Space, Top as ATopOf, Whole}
@@ -14,7 +14,6 @@ use Rattle.dwz_layout_items.specs.Order.{Names}
 use Rattle.dwz_def_plan.specs.Moves.{first_unit, image_in}
 use Rattle.dwz_def_plan.specs.Plan.{PartialUnit}
 use Rattle.dwz_def_images.specs.Units.{partial_unit}
-use Rattle.dwz_def_images.proofs.HeldLemmas.{row_found}
 use Rattle.dwz_def_encoding.specs.Placing.{KeyedForms, UnitForms, unit_forms}
 use Rattle.dwz_graph.specs.declared.file.File.{File}
 use Rattle.dwz_graph.specs.Index.{Index}
@@ -34,12 +33,14 @@ use Rattle.dwz_layout.specs.Known.{space_at, top_row}
 use Rattle.dwz_encode.specs.Shown.{SortShows}
 use Rattle.dwz_law_layout.specs.Fitted.{KnowsShown}
 use Rattle.dwz_law_layout.specs.Knows.{FileRead, KnowsFiles, KnowsIn, KnowsOwners, NewNumbers, ShowsChained, ShowsLine, ShowsTree, ShowsWhat, name_attr}
-use Rattle.dwz_law_layout.specs.Facts.{AreFacts, HasFile, RunFacts, docs, file_read, move, rule, units, units_written}
+use Rattle.dwz_law_layout.specs.Beside.{Beside}
+use Rattle.dwz_law_layout.specs.Facts.{AreFacts, HasFile, IsMade, RunFacts, docs, file_read, move, units, units_written}
 use Rattle.dwz_law_layout.specs.Listed.{AreListed, TextsAt}
 use Rattle.dwz_law_layout.specs.Named.{keys, part_number, root_name, unit_name}
 use Rattle.dwz_law_layout.specs.Settled.{IsSettled}
 use Rattle.dwz_law_layout.specs.Unfitted.{HasChained, KnowsTextsOf, NamesChained}
 use Rattle.dwz_law_layout.proofs.LayoutLemmas.{knows_file, knows_references}
+use Rattle.dwz_law_layout.specs.Moving.{IsMadePart}
 use Rattle.dwz_law_layout.specs.New.{IsOfNew, NewNames}
 use Rattle.dwz_law_layout.proofs.FileSpaces.{new_items}
 use Rattle.dwz_law_layout.proofs.SpaceStands.{space_stands}
@@ -53,14 +54,17 @@ use Rattle.dwz_law_layout.proofs.PartsWritten.{part_names}
 name_same : (said name : SpaceName) → said ≡ name → record { name = 0x03; form = said.form; raw = said.raw; value = only {P = EntryName} (Text said.text) } ∷ [] ≡ name_attr name ∷ []
 name_same said name e = ap (λ (w : SpaceName). name_attr w ∷ []) e
 
-module _ (f : RunFacts) (t : TextsAt) (k : EntryTable) (facts : AreFacts f) (listed : AreListed f t k) (s : Settled) (settled : IsSettled f s)
+module _ {beside : Beside} (f : RunFacts beside) (t : TextsAt) (k : EntryTable) (facts : AreFacts f) (listed : AreListed f t k) (s : Settled) (settled : IsSettled f s)
     (n : ℕ) (bytes : List ℕ) (x : File) (index : Index) (h : HasFile f n bytes x index) (ff : KeyedForms EntryName) (numbers : NewNumbers) where
   abbrev F : FileRead
   F = file_read f n bytes x
 
   -- the unit that its tops are of is one of the file
-  module _ (p : ℕ) (part : PartialUnit) (nth : Nth 0 (move f).parts p part) (first : (v : FileUnit EntryName) → Nth 0 (units f) (first_unit part.tops) v → v.file ≡ n) (o : UnitItems) (here : ℕ)
+  module _ (p : ℕ) (part : PartialUnit) (nth : Nth 0 (move f).parts p part) (is_made : IsMade f part.home) (first : (v : FileUnit EntryName) → Nth 0 (units f) (first_unit part.tops) v → v.file ≡ n) (o : UnitItems) (here : ℕ)
       (at : slice_get (units_written f) here ≡ Some (partial_unit (move f) p)) (texts : KnowsTextsOf f k (unit_forms ff (partial_unit (move f) p)) numbers n o) where
+    made : IsMadePart (move f) (units f) p part
+    made = facts.goes.made p part nth is_made
+
     abbrev u : DwUnit EntryName
     u = partial_unit (move f) p
 
@@ -75,9 +79,9 @@ module _ (f : RunFacts) (t : TextsAt) (k : EntryTable) (facts : AreFacts f) (lis
     top_shown : (top : ℕ) → (y : Top) × In y part.tops × (y.number ≡ top) → ShowsTree F (top_row k top) (mine.top top) (mine.below top)
     top_shown top is =
         let y = is.0 in
-        let there = tops_there f facts n p part nth y is.1 in
+        let there = tops_there f facts n p part nth is_made y is.1 in
         let named = top_named (move f) (units f) p y there in
-        let tree = top_trees f t k facts listed n bytes x index h y there (tops_of_file f facts n p part nth first y is.1) in
+        let tree = top_trees _ f t k facts listed n bytes x index h y there (tops_of_file f facts n p part nth is_made first y is.1) in
         let one = subst (λ (w : Node EntryName). ShowsTree F (top_row k y.number) w (entries_map (image_in (move f)) y.below)) (sym named.node) tree in
         let two = subst (λ (w : Entries EntryName). ShowsTree F (top_row k y.number) (mine.top y.number) w) (sym named.below) one in
         subst (λ (q : ℕ). ShowsTree F (top_row k q) (mine.top q) (mine.below q)) is.2 two
@@ -86,7 +90,7 @@ module _ (f : RunFacts) (t : TextsAt) (k : EntryTable) (facts : AreFacts f) (lis
         → ShowsChained (keys f) (F ∷ []) ft numbers ((keys f).chained here chain depth) (space_at k space) (mine.in_chain chain depth space)
     chain_shown chain depth space is has =
         let w = space_stands (units f) (first_unit part.tops) space is in
-        let row = space_rows_shown f t k facts listed n bytes x index h (first_unit part.tops) space w.unit w.node w.nth (first w.unit w.nth) is w.found in
+        let row = space_rows_shown _ f t k facts listed n bytes x index h (first_unit part.tops) space w.unit w.node w.nth (first w.unit w.nth) is w.found in
         let shows = row.shows in
         record {
           at = ap (λ (v : Option (DwUnit EntryName)). ChainSpot (part_number (unit_name v)) chain depth) at;
@@ -131,7 +135,7 @@ module _ (f : RunFacts) (t : TextsAt) (k : EntryTable) (facts : AreFacts f) (lis
           (subst (λ (w : List TopSpaces). IsPart s.rows.now w (map (λ (y : Top). y.number) part.tops) o.items) settled.of_tops put)
 
       new : NewNames (units f) part o.items
-      new = new_items (docs f) f.indexes (rule f) (file_numbers 0 (docs f)) settled.texts settled.lists facts.indexed facts.fair spaces p part o.items nth put_so
+      new = new_items (docs f) f.indexes (move f) settled.texts settled.lists facts.indexed spaces p part o.items made put_so
 
       known_in : KnowsOwners (keys f) k F here o ft → KnowsFiles k F o ft → KnowsIn (keys f) k here o ft numbers F
       known_in owners files = record {
@@ -140,12 +144,12 @@ module _ (f : RunFacts) (t : TextsAt) (k : EntryTable) (facts : AreFacts f) (lis
         owners = owners;
         texts = texts.entries bytes x index h;
         files = files;
-        names = part_names f t k facts listed n bytes x index h p part nth (tops_of_file f facts n p part nth first) o (line_given s p) sort new;
+        names = part_names f t k facts listed n bytes x index h p part made (tops_of_file f facts n p part nth is_made first) o (line_given s p) sort new;
       }
 
       pub part_known : KnowsOwners (keys f) k F here o ft → KnowsFiles k F o ft → is_common k here ≡ ff.is_common → KnowsShown (keys f) k ff numbers here o u
       part_known owners files common =
-          let line = line_known f p part nth (line_given s p) (settled.lines p part nth) in
+          let line = line_known f p part made (line_given s p) (settled.lines p part nth is_made) in
           let items = items_shown (line_given s p) line new in
           record {
             files = F ∷ [];
@@ -158,5 +162,5 @@ module _ (f : RunFacts) (t : TextsAt) (k : EntryTable) (facts : AreFacts f) (lis
             sort = subst (λ (w : Sort). SortShows (keys f) w PartialKind) (sym sort) tt;
             root = ap root_name at;
             order = part_shown (units f) (rows_from 0 (all_spaces f.indexes)) settled.texts settled.lists (all_tops f.indexes) spaces.own spaces.numbers spaces.are spaces.leads (move f) p part o.items
-                (row_found (rule f) (units f) (file_numbers 0 (docs f)) p part nth) (tops_there f facts n p part nth) put_so mine (names_all (move f) (units f) p) (names_partial (move f) (units f) p);
+                made.row (tops_there f facts n p part nth is_made) put_so mine (names_all (move f) (units f) p) (names_partial (move f) (units f) p);
           }

@@ -8,13 +8,14 @@ use Rattle.dwz_def_tops.proofs.Tops.{tops_rise, unit_of}
 use Rattle.dwz_def_tops.proofs.TopOrder.{units_rise}
 use Rattle.dwz_def_plan.specs.Homes.{Rule, is_home, moves, rep, users}
 use Rattle.dwz_def_plan.specs.IsPlan.{IsPart}
-use Rattle.dwz_def_plan.specs.Moves.{first_unit}
+use Rattle.dwz_def_plan.specs.Moves.{first_unit, plan}
 use Rattle.dwz_def_plan.specs.Plan.{PartialUnit, partials}
 use Rattle.dwz_def_plan.proofs.PlanLemmas.{are_parts}
 use Rattle.dwz_def_plan.proofs.UserLemmas.{Fair as IsFair, move_stand, moves_self, rep_is, used, used_by}
 use Rattle.dwz_def_readback.proofs.OriginLemmas.{first_there, ordered}
 use Rattle.dwz_law_layout.specs.Fair.{Fair}
-use Rattle.dwz_law_layout.specs.New.{MovesFrom, TopUnitLaw}
+use Rattle.dwz_law_layout.specs.Moving.{MovesFrom}
+use Rattle.dwz_law_layout.specs.New.{TopUnitLaw}
 use Rattle.dwz_law_layout.proofs.FairLemmas.{is_fair}
 
 -- ---- the tops of a partial unit
@@ -43,7 +44,7 @@ module _ (units : List (FileUnit EntryName)) (rule : Rule) (is : Fair units rule
       let user = used rule.alike units b.number b hb.there (moves_self units rule fair b.number moves_b) in
       first_user a ha.there (ap is_home ha.home ∙ p.moves) ha.rep b.unit (subst (In b.unit) (hb.users ∙ sym ha.users) user)
 
-  pub part_tops : (n : ℕ) (part : PartialUnit) → Nth 0 (partials rule units files) n part → (t : Top) → In t part.tops → MovesFrom rule units (first_unit part.tops) t
+  pub part_tops : (n : ℕ) (part : PartialUnit) → Nth 0 (partials rule units files) n part → (t : Top) → In t part.tops → MovesFrom (plan rule units files) units (first_unit part.tops) t
   part_tops n part nth t there =
       let p = part_is units rule files n part nth in
       let own = (p.tops t).0 there in

@@ -13,7 +13,6 @@ use Rattle.dwz_def_plan.proofs.PlanLemmas.{home_true}
 use Rattle.dwz_plan.specs.declared.plan.Partial.{Partial as PlannedPart}
 use Rattle.dwz_plan.specs.Planned.{Planned, file_of_home}
 use Rattle.dwz_plan.specs.Shows.{shown_part}
-use Rattle.dwz_plan.proofs.BridgeLemmas.{file_numbers_are}
 use Rattle.dwz_def_images.specs.Units.{changes, common_units, partial_unit, partial_units}
 use Rattle.dwz_layout_numbers.specs.Owners.{files_written}
 use Rattle.dwz_def_encoding.specs.Placing.{KeyedForms}
@@ -24,18 +23,19 @@ use Rattle.dwz_layout.specs.declared.known.EntryTable.{EntryTable}
 use Rattle.dwz_layout.specs.declared.order.UnitItems.{UnitItems}
 use Rattle.dwz_law_layout.specs.Fitted.{KnowUnits, KnowsShown}
 use Rattle.dwz_law_layout.specs.Knows.{NewNumbers}
-use Rattle.dwz_law_layout.specs.Facts.{AreFacts, RunFacts, docs, move, rule, units, units_written, written}
+use Rattle.dwz_law_layout.specs.Beside.{Alone, Beside}
+use Rattle.dwz_law_layout.specs.Facts.{AreFacts, RunFacts, docs, move, units, units_written, written}
 use Rattle.dwz_law_layout.specs.Listed.{AreListed, TextsAt}
 use Rattle.dwz_law_layout.specs.Named.{keys}
 use Rattle.dwz_law_layout.specs.Settled.{IsSettled}
 use Rattle.dwz_law_layout.specs.Unfitted.{KnowCommon, KnowTexts, KnowsCommonUnit, KnowsUnitTexts, common_keyed_forms, file_keyed_forms}
 use Rattle.dwz_law_layout.specs.ShownParts.{CommonKnownLaw, PartsKnownLaw}
 use Rattle.dwz_law_layout.proofs.LayoutLemmas.{common_owners, file_owners}
-use Rattle.dwz_law_layout.proofs.PartHomes.{comes_from, common_number, common_there, file_changed, file_read_there, first_file, home_moves, home_number, is_first, not_first, part_there}
+use Rattle.dwz_law_layout.proofs.PartHomes.{comes_from, common_number, common_there, file_changed, file_read_there, first_file, home_moves, home_number, is_first, local_made, not_first, part_there}
 use Rattle.dwz_law_layout.proofs.PartKnown.{part_known}
 
 -- the plan has this number for just those of this home
-module _ (f : RunFacts) (s : Settled) (h : Home) (number : ℕ)
+module _ {beside : Beside} (f : RunFacts beside) (s : Settled) (h : Home) (number : ℕ)
     (is_number : (p : ℕ) (part : PartialUnit) → Nth 0 (move f).parts p part → same_home part.home h ≡ (file_of_home (length (docs f)) part.home == number)) where
   abbrev shown : PartialUnit → PlannedPart
   shown part = shown_part (length (docs f)) part
@@ -111,13 +111,11 @@ module _ (f : RunFacts) (s : Settled) (h : Home) (number : ℕ)
 
 -- ---- as the plan has them
 
-pub parts_are : (f : RunFacts) (t : TextsAt) (k : EntryTable) → AreFacts f → AreListed f t k → (s : Settled) → IsSettled f s → map (shown_part (length (docs f))) (move f).parts ≡ s.plan.now.partials
+pub parts_are : {beside : Beside} (f : RunFacts beside) (t : TextsAt) (k : EntryTable) → AreFacts f → AreListed f t k → (s : Settled) → IsSettled f s → map (shown_part (length (docs f))) (move f).parts ≡ s.plan.now.partials
 parts_are f t k facts listed s settled =
-    ap (λ (w : List ℕ). map (shown_part (length (docs f))) (partials (rule f) (units f) w)) (file_numbers_are 0 (docs f))
-    ∙ facts.shows.partials
-    ∙ ap (λ (w : Planned). w.partials) (sym settled.plan)
+    facts.shows.partials ∙ ap (λ (w : Planned). w.partials) (sym settled.plan)
 
-module _ (f : RunFacts) (t : TextsAt) (k : EntryTable) (s : Settled) (facts : AreFacts f) (listed : AreListed f t k) (settled : IsSettled f s) where
+module _ {beside : Beside} (f : RunFacts beside) (t : TextsAt) (k : EntryTable) (s : Settled) (facts : AreFacts f) (listed : AreListed f t k) (settled : IsSettled f s) where
   -- the parts of a plan are put so
   parts_put : (number : ℕ) (order : List UnitItems) → PartsPut s number 0 s.plan.now.partials order → PartsPut s number 0 (map (shown_part (length (docs f))) (move f).parts) order
   parts_put number order put = subst (λ (w : List PlannedPart). PartsPut s number 0 w order) (sym (parts_are f t k facts listed s settled)) put
@@ -136,7 +134,7 @@ module _ (f : RunFacts) (t : TextsAt) (k : EntryTable) (s : Settled) (facts : Ar
         → PartPut s p (shown_part (length (docs f)) part) o → KnowsShown (keys f) k (file_keyed_forms f n) numbers here o (partial_unit (move f) p)
     local_known changed numbers p part nth home o here at texts put =
         let r = file_read_there f facts n changed in
-        part_known f t k facts listed s settled n r.bytes r.x r.index r.has (file_keyed_forms f n) numbers p part nth (first_file f facts n p part nth home) o here at texts put.items put.sort
+        part_known f t k facts listed s settled n r.bytes r.x r.index r.has (file_keyed_forms f n) numbers p part nth (local_made f facts n p part nth home) (first_file f facts n p part nth home) o here at texts put.items put.sort
         (file_owners f t k facts listed n r.bytes r.x r.index r.has changed here (partial_unit (move f) p) at (part_there f facts n p part nth home) o)
         (record { are = λ i q d read writes common. absurd cc })
         (not_first f facts n p part nth home t k listed here at)
@@ -147,24 +145,25 @@ module _ (f : RunFacts) (t : TextsAt) (k : EntryTable) (s : Settled) (facts : Ar
   unfolding common_units
   common_long order put = parts_long f s Common (length (docs f)) (common_number f facts) 0 (move f).parts (λ q part i. i) order (parts_put (length (docs f)) order put)
 
+module _ (f : RunFacts Alone) (t : TextsAt) (k : EntryTable) (s : Settled) (facts : AreFacts f) (listed : AreListed f t k) (settled : IsSettled f s) where
   one_common : (p : ℕ) (part : PartialUnit) → Nth 0 (move f).parts p part → part.home ≡ Common → (o : UnitItems) (here : ℕ)
       → slice_get (common_units (move f)) here ≡ Some (partial_unit (move f) p) → KnowsCommonUnit f k o (partial_unit (move f) p)
       → PartPut s p (shown_part (length (docs f)) part) o → KnowsShown (keys f) k (common_keyed_forms f) None here o (partial_unit (move f) p)
   one_common p part nth home o here at told put =
-      let c = comes_from f facts p part nth in
+      let c = comes_from f facts p part (facts.goes.made p part nth tt) in
       let n = c.unit.file in
       let r = c.read in
       let first : (v : FileUnit EntryName) → Nth 0 (units f) (first_unit part.tops) v → v.file ≡ n =
       λ v there. ap (λ (w : FileUnit EntryName). w.file) (nth_one 0 (units f) (first_unit part.tops) v c.unit there c.nth) in
       let written_at : slice_get (units_written f) here ≡ Some (partial_unit (move f) p) =
       get_first (common_units (move f)) (files_written (move f) (units f) 0 (written f)) here (partial_unit (move f) p) at in
-      part_known f t k facts listed s settled n r.bytes r.x r.index r.has (common_keyed_forms f) None p part nth first o here written_at (told.texts n) put.items put.sort
+      part_known f t k facts listed s settled n r.bytes r.x r.index r.has (common_keyed_forms f) None p part nth tt first o here written_at (told.texts n) put.items put.sort
       (common_owners f t k facts listed n r.bytes r.x r.index r.has c.changed here (partial_unit (move f) p) written_at (common_there f p part nth home) o)
       (told.files n r.bytes r.x r.index r.has)
       (is_first f facts t k listed here (partial_unit (move f) p) at)
 
 pub parts_known : PartsKnownLaw
-parts_known f t k s facts listed settled n is numbers here order put there texts =
+parts_known beside f t k s facts listed settled n is numbers here order put there texts =
     let c = file_changed f n is in
     all_known f s (Local n) n (local_number f t k s facts listed settled n c.1) k (file_keyed_forms f n) numbers (KnowsUnitTexts f k numbers n) (KnowTexts f k numbers n)
     (λ o some u us both. both) (λ m u. slice_get (units_written f) m ≡ Some u) (local_known f t k s facts listed settled n c.1 c.0 numbers)

@@ -2,9 +2,8 @@
 use Rattle.std.proofs.Common.{◌≡◌, ℕ, List, [], ◌∷◌, Option, inl, inr, sym, ap, subst, ◌∙◌, arith}
 use Rattle.dwz_def_reading.specs.Documents.{Node}
 use Rattle.dwz_def_reading.specs.Lists.{Each, In}
-use Rattle.dwz_def_tops.specs.Lists.{Nth}
 use Rattle.dwz_def_tops.proofs.Members.{each_append, each_more}
-use Rattle.dwz_def_tops.specs.Spots.{Top, Within, file_numbers}
+use Rattle.dwz_def_tops.specs.Spots.{Top, Within}
 use Rattle.dwz_layout_items.specs.declared.order.Item.{Item}
 use Rattle.dwz_layout_items.specs.declared.order.ItemKind.{ItemKind}
 use Rattle.dwz_layout_items.specs.declared.order.ItemKind.TheVariants.{Import, InChain, Root, Space, Top as ATopOf, Whole}
@@ -24,18 +23,19 @@ use Rattle.dwz_layout.specs.Entries.{items_slots, row, tree_slots, what_slots}
 use Rattle.dwz_layout.specs.Known.{number_of, top_row}
 use Rattle.dwz_encode.specs.Shown.{HasRow, IsRow}
 use Rattle.dwz_law_layout.specs.Knows.{KnowsNames}
-use Rattle.dwz_law_layout.specs.Facts.{AreFacts, HasFile, RunFacts, docs, file_read, move, rule, units}
+use Rattle.dwz_law_layout.specs.Beside.{Beside}
+use Rattle.dwz_law_layout.specs.Facts.{AreFacts, HasFile, RunFacts, file_read, move, units}
 use Rattle.dwz_law_layout.specs.Listed.{AreListed, TextsAt}
 use Rattle.dwz_law_layout.specs.Named.{keys}
 use Rattle.dwz_law_layout.specs.NamedLaws.{IsItself}
 use Rattle.dwz_law_layout.proofs.FileEntries.{IsHere, named, number_is, read_name}
 use Rattle.dwz_law_layout.proofs.LayoutLemmas.{knows_file, names_itself, o as here_of}
 use Rattle.dwz_law_layout.specs.New.{IsOfNew, NewNames}
-use Rattle.dwz_law_layout.proofs.PartUnits.{part_tops}
+use Rattle.dwz_law_layout.specs.Moving.{IsMadePart}
 use Rattle.dwz_law_layout.proofs.TopEntries.{labelled, top_read}
 use Rattle.dwz_law_layout.proofs.TopNames.{WithinOrigin, tree_within}
 
-module _ (f : RunFacts) (t : TextsAt) (k : EntryTable) (facts : AreFacts f) (listed : AreListed f t k) (n : ℕ) (bytes : List ℕ) (x : File) (index : Index) (h : HasFile f n bytes x index) where
+module _ {beside : Beside} (f : RunFacts beside) (t : TextsAt) (k : EntryTable) (facts : AreFacts f) (listed : AreListed f t k) (n : ℕ) (bytes : List ℕ) (x : File) (index : Index) (h : HasFile f n bytes x index) where
   abbrev o : IsHere f k n x index
   o = here_of f t k facts listed n bytes x index h
 
@@ -72,12 +72,12 @@ module _ (f : RunFacts) (t : TextsAt) (k : EntryTable) (facts : AreFacts f) (lis
     by (Chained chain space) own is = absurd is
     by (Imported part) own is = absurd is
 
-  module _ (p : ℕ) (part : PartialUnit) (nth : Nth 0 (move f).parts p part) (of_file : (y : Top) → In y part.tops → y.file ≡ n) where
+  module _ (p : ℕ) (part : PartialUnit) (made : IsMadePart (move f) (units f) p part) (of_file : (y : Top) → In y part.tops → y.file ≡ n) where
     what_fixed : (place : Option ℕ) (depth : ℕ) (what : ItemKind) → IsOfNew (units f) part what → AllFixed (what_slots k (Partial place) depth what)
     what_fixed place depth Root is = absurd is
     what_fixed place depth Whole is = absurd is
     what_fixed place depth (ATopOf top) is =
-        let own = part_tops (units f) (rule f) facts.fair (file_numbers 0 (docs f)) p part nth is.0 is.1 in
+        let own = made.tops is.0 is.1 in
         let read = top_read f facts t k listed n x index o is.0 own.there (of_file is.0 is.1) in
         let within = tree_within f k n x index o (knows_file f t k facts listed n bytes x index h).rows depth is.0 (labelled f facts is.0 own.there) read in
         let slots = tree_slots k depth (top_row k is.0.number) in

@@ -18,6 +18,7 @@ use Rattle.dwz_graph.specs.Files.{AreKept, AreRead, HasFile, HasRead, docs_of}
 use Rattle.dwz_graph.proofs.GraphLemmas.{files_read}
 use Rattle.dwz_layout_order.proofs.FileWalk.{first_doc}
 use Rattle.dwz_law_layout.proofs.RowsStored.{rows_stored}
+use Rattle.dwz_law_layout.specs.Beside.{Beside}
 use Rattle.dwz_law_layout.specs.Facts.{AreFacts, RunFacts, docs}
 
 -- ---- bytes
@@ -46,12 +47,12 @@ pub files_placed : (contents : List (List ℕ)) (files : List File) → AreKept 
 files_placed contents files kept bytes =
     placed_from no_files_before 0 contents files kept.end (docs_of contents) kept.are (files_read contents files kept.end kept.are) bytes
 
-pub all_placed : (f : RunFacts) → AreFacts f → Each (λ doc. ArePlaced doc.units) (docs f)
+pub all_placed : {beside : Beside} (f : RunFacts beside) → AreFacts f → Each (λ doc. ArePlaced doc.units) (docs f)
 all_placed f facts = files_placed f.contents f.files facts.kept facts.bytes
 
 -- ---- values
 
-pub all_stored : (f : RunFacts) → AreFacts f → (n : ℕ) (bytes : List ℕ) (x : File) → HasRead f.contents n bytes x
+pub all_stored : {beside : Beside} (f : RunFacts beside) → AreFacts f → (n : ℕ) (bytes : List ℕ) (x : File) → HasRead f.contents n bytes x
     → (i : ℕ) (r : EntryRow) → slice_get (rows_of (units_of x.units)) i ≡ Some r → Each IsStored (without_siblings r.entry.attrs)
 all_stored f facts n bytes x h i r found =
     let reads : Reads h.limits bytes (units_of x.units) h.read.doc = ((file_agrees h.limits bytes).ok (units_of x.units, h.read.doc)).0 h.read.means in

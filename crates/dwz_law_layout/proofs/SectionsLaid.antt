@@ -13,17 +13,17 @@ use Rattle.dwz_def_readback.specs.Files.{places}
 use Rattle.dwz_def_readback.specs.Fewer.{NameOnly}
 use Rattle.dwz_def_readback.proofs.NameLemmas.{in_file_keys}
 use Rattle.dwz_def_readback.proofs.SameSections.{all_at, same_sections}
-use Rattle.dwz_law_layout.proofs.EntriesNamed.{entries_of, files_only}
-use Rattle.dwz_law_layout.proofs.FilesLaid.{all_once, some_written}
-use Rattle.dwz_def_readback.proofs.SomeOfRuns.{places_in_run}
+use Rattle.dwz_law_layout.proofs.EntriesNamed.{all_only, entries_of}
+use Rattle.dwz_law_layout.proofs.FilesLaid.{places_among}
 use Rattle.dwz_layout.specs.declared.known.EntryTable.{EntryTable}
 use Rattle.dwz_layout.specs.declared.order.UnitItems.{UnitItems}
 use Rattle.dwz_layout.specs.Laid.{FileMade, made_of}
 use Rattle.dwz_encode.specs.Laws.{FileIs, FilesAre}
 use Rattle.dwz_encode.proofs.LawLemmas.{sections_are}
-use Rattle.dwz_law_layout.specs.Facts.{AreFacts, RunFacts, files_written, run}
+use Rattle.dwz_law_layout.specs.Beside.{Alone}
+use Rattle.dwz_law_layout.specs.Facts.{AreFacts, RunFacts, units}
 use Rattle.dwz_law_layout.specs.Named.{keys}
-use Rattle.dwz_law_layout.specs.Laid.{RunLaidLaw, written_out}
+use Rattle.dwz_law_layout.specs.Laid.{RunLaidLaw, places_of, written_out}
 
 module _ (n p : Numbering EntryName) (k : EntryTable) (at roots : List ℕ) where
   file_is : (first : ℕ) (order : List UnitItems) (m : FileMade) (x : FileOut EntryName) → sections n x.units ≡ sections p x.units → FileIs n k at roots first order m x
@@ -47,7 +47,7 @@ module _ (n p : Numbering EntryName) (k : EntryTable) (at roots : List ℕ) wher
     files_are (first + length order) orders made files are.1 (λ y there. same y (inr there)),
   )
 
-module _ (f : RunFacts) (facts : AreFacts f) where
+module _ (f : RunFacts Alone) (facts : AreFacts f) where
   abbrev among : List EntryName
   among = files_keys (written_out f)
 
@@ -62,7 +62,7 @@ module _ (f : RunFacts) (facts : AreFacts f) where
   -- what the files that are written name stands in one of them
   pub names_only : (x : FileOut EntryName) → In x (written_out f) → NameOnly among x.units
   names_only x there =
-      let only = files_only f facts x there in
+      let only = all_only f facts x there in
       record {
         refs = λ e a s seen attr ref. key_among (written_out f) s (only.refs e a s seen attr ref);
         mains = λ u signature main u_in kind. key_among (written_out f) main (only.mains u signature main u_in kind);
@@ -74,16 +74,16 @@ module _ (f : RunFacts) (facts : AreFacts f) where
   unit_in (v ∷ us) u (inl e) = inl (ap (λ (w : DwUnit EntryName). w.at) e)
   unit_in (v ∷ us) u (inr later) = in_right u.at (unit_keys v) (units_keys us) (unit_in us u later)
 
-  same_laid : (x : FileOut EntryName) → In x (written_out f) → sections (numbering same_spot (written_out f)) x.units ≡ sections (places (run f)) x.units
+  same_laid : (x : FileOut EntryName) → In x (written_out f) → sections (numbering same_spot (written_out f)) x.units ≡ sections (places_of f) x.units
   same_laid x there =
       let own = numbering same_spot (written_out f) in
-      same_sections own (places (run f)) x.units
-      (all_at own (places (run f)) among x.units (places_in_run (run f) (files_written f) (some_written f facts) (all_once f facts))
+      same_sections own (places_of f) x.units
+      (all_at own (places_of f) among x.units (places_among f facts)
       (λ u u_in. in_file_keys (written_out f) x u.at there (unit_in x.units u u_in)) (names_only x there))
 
 pub run_laid : RunLaidLaw
 run_laid f k orders facts order =
     let all = made_of k orders in
-    files_are (numbering same_spot (written_out f)) (places (run f)) k all.places all.roots 0 orders all.files (written_out f) (sections_are (keys f) k orders (written_out f) order)
+    files_are (numbering same_spot (written_out f)) (places_of f) k all.places all.roots 0 orders all.files (written_out f) (sections_are (keys f) k orders (written_out f) order)
     (λ x there. same_laid f facts x there)
 

@@ -31,6 +31,7 @@ use Rattle.dwz_layout.specs.declared.known.Row.{Row}
 use Rattle.dwz_layout.specs.declared.known.SpaceRow.{SpaceRow}
 use Rattle.dwz_layout.specs.Known.{no_space}
 use Rattle.dwz_law_layout.specs.Knows.{IsRead}
+use Rattle.dwz_law_layout.specs.Beside.{Beside}
 use Rattle.dwz_law_layout.specs.Facts.{AreFacts, HasFile, RunFacts, docs, file_read, move, units}
 use Rattle.dwz_law_layout.specs.Listed.{entry_row, space_entries}
 use Rattle.dwz_law_layout.specs.Trees.{InSomeUnit, SpaceRowsLaw, SpaceUnitsLaw}
@@ -76,7 +77,7 @@ filed_one n (u ∷ us) =
 -- ---- what stands at the row of a space
 
 -- the row is that of an entry of the file, which means this space
-record Stands (f : RunFacts) (r : Row) (x : ℕ × Node EntryName) : Type 0 where
+record Stands {beside : Beside} (f : RunFacts beside) (r : Row) (x : ℕ × Node EntryName) : Type 0 where
   pub bytes : List ℕ
   pub file : File
   pub index : Index
@@ -92,7 +93,7 @@ record Stands (f : RunFacts) (r : Row) (x : ℕ × Node EntryName) : Type 0 wher
   pub named : space_text x.1 ≡ Some text
   pub said : name_of text x.1 ≡ name_of text d
 
-module _ (f : RunFacts) (facts : AreFacts f) where
+module _ {beside : Beside} (f : RunFacts beside) (facts : AreFacts f) where
   of_file : (n : ℕ) (bytes : List ℕ) (x : File) (index : Index) (h : HasFile f n bytes x index) (is : IsFileAmong f.contents n bytes x index)
       → Pairs (Stands f) (map (λ e. entry_row n e.entry) index.spaces) (filed (file_units index.starts n is.kept.read.doc))
   of_file n bytes x index h is =
@@ -198,12 +199,12 @@ filed_there units i s u e nth is got =
     there ∙ (λ k. Some ((unit_is k).file, same k))
 
 -- what is read of a file by its number, whichever bytes and entries are said to be its own
-record Reads (f : RunFacts) (n : ℕ) (bytes : List ℕ) (x : File) (i : ℕ) (row : EntryRow) (d : Node ℕ) (e : Node EntryName) : Type 0 where
+record Reads {beside : Beside} (f : RunFacts beside) (n : ℕ) (bytes : List ℕ) (x : File) (i : ℕ) (row : EntryRow) (d : Node ℕ) (e : Node EntryName) : Type 0 where
   pub read : IsRead (file_read f n bytes x) i row d
   pub node_is : node_map (image_in (move f)) e ≡ node_map (file_read f n bytes x).after d
 
 pub space_rows_shown : SpaceRowsLaw
-space_rows_shown f t k facts listed n bytes x index h i s u e nth of is got =
+space_rows_shown beside f t k facts listed n bytes x index h i s u e nth of is got =
     let all = all_stand f facts in
     let there = filed_there (units f) i s u e nth is got in
     let here : slice_get (filed (units f)) s ≡ Some (n, e) = there ∙ ap (λ (w : ℕ). Some (w, e)) of in

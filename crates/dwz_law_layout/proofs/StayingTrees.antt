@@ -1,5 +1,5 @@
 -- What is written of an entry with all below it, where what stands for each of these after stays: by induction over the tree, row by row.
-use Rattle.std.proofs.Common.{◌≡◌, ℕ, suc, ◌+◌, ◌-◌, false, List, [], ◌∷◌, ◌++◌, length, take, drop, Ok, Option, Some, slice_get, refl, sym, ap, subst, ◌∙◌, arith}
+use Rattle.std.proofs.Common.{◌≡◌, ℕ, suc, ◌+◌, ◌-◌, false, List, [], ◌∷◌, ◌++◌, length, take, drop, Ok, Option, Some, slice_get, refl, sym, ap, subst, ◌∙◌, arith, ◌<◌}
 use Rattle.std.specs.Option.{option_map_or}
 use Rattle.std.specs.Prelude.{slice_range}
 use Rattle.std.proofs.lemmas.List.{append-nil, append_assoc}
@@ -13,7 +13,7 @@ use Rattle.dwz_def_reading.specs.Meanings.{scope_of}
 use Rattle.dwz_def_reading.specs.Meant.{entries_meaning, node_meaning}
 use Rattle.dwz_def_reading.specs.Lists.{Each}
 use Rattle.dwz_def_tops.proofs.Members.{each_append}
-use Rattle.dwz_def_tops.specs.Spots.{EntryName, Labelled, Within}
+use Rattle.dwz_def_tops.specs.Spots.{EntryName, FileUnit, Labelled, Within, tops_of}
 use Rattle.dwz_graph.proofs.TopThere.{left_behind}
 use Rattle.dwz_graph.proofs.TreeLemmas.{parts}
 use Rattle.dwz_def_plan.specs.Moves.{Move, image_in}
@@ -32,20 +32,25 @@ use Rattle.dwz_law_layout.proofs.RowFits.{row_slots-append}
 -- ---- names that stay
 
 -- it is no entry of a top that moves
-abbrev pub IsStaying : Move → EntryName → Type 0
-IsStaying m (Within top path) = m.gone top ≡ false
-IsStaying m _ = Unit {0}
+-- a top of these units that doesn't leave its own
+abbrev pub StaysIn : Move → List (FileUnit EntryName) → ℕ → Type 0
+StaysIn m units top = (m.gone top ≡ false) × (top < length (tops_of units))
 
-abbrev pub AreStaying : Move → Entries EntryName → Type 0
-AreStaying m End = Unit {0}
-AreStaying m (Entry e c n) = IsStaying m e.at × AreStaying m c × AreStaying m n
+-- where it is the name of an entry of a top, P holds of that
+abbrev pub IsStaying : (ℕ → Type 0) → EntryName → Type 0
+IsStaying P (Within top path) = P top
+IsStaying P _ = Unit {0}
 
-pub labelled_stay : (m : Move) (name : List ℕ → EntryName) → ((path : List ℕ) → IsStaying m (image_in m (name path))) → (path : List ℕ) (i : ℕ) (g : Entries EntryName) → Labelled name path i g
-    → AreStaying m (entries_map (image_in m) g)
+abbrev pub AreStaying : (ℕ → Type 0) → Entries EntryName → Type 0
+AreStaying P End = Unit {0}
+AreStaying P (Entry e c n) = IsStaying P e.at × AreStaying P c × AreStaying P n
+
+pub labelled_stay : (m : Move) (P : ℕ → Type 0) (name : List ℕ → EntryName) → ((path : List ℕ) → IsStaying P (image_in m (name path))) → (path : List ℕ) (i : ℕ) (g : Entries EntryName) → Labelled name path i g
+    → AreStaying P (entries_map (image_in m) g)
 unfolding entries_map
-labelled_stay m name stays path i End h = tt
-labelled_stay m name stays path i (Entry e c n) h =
-    (subst (λ (w : EntryName). IsStaying m (image_in m w)) (sym h.0) (stays (i ∷ path)), labelled_stay m name stays (i ∷ path) 0 c h.1, labelled_stay m name stays path (suc i) n h.2)
+labelled_stay m P name stays path i End h = tt
+labelled_stay m P name stays path i (Entry e c n) h =
+    (subst (λ (w : EntryName). IsStaying P (image_in m w)) (sym h.0) (stays (i ∷ path)), labelled_stay m P name stays (i ∷ path) 0 c h.1, labelled_stay m P name stays path (suc i) n h.2)
 
 -- ---- an entry of a file
 
@@ -56,31 +61,31 @@ read_one F i x y d e a b =
     let both = sym a.means ∙ (λ j. node_meaning (scope_of F.around (unit j)) (rows j).entry) ∙ b.means in
     cc
 
-module _ (m : Move) (F : FileRead) where
+module _ (P : ℕ → Type 0) (F : FileRead) where
   -- it is an entry of the file, and what stands for it after stays
   abbrev pub RowStays : Row → Type 0
-  RowStays r = (r.file ≡ F.number) × ((x : EntryRow) (d : Node ℕ) → IsRead F r.entry x d → IsStaying m (F.after d.at))
+  RowStays r = (r.file ≡ F.number) × ((x : EntryRow) (d : Node ℕ) → IsRead F r.entry x d → IsStaying P (F.after d.at))
 
   abbrev pub OriginStays : Origin → Type 0
-  OriginStays (OfRow r) = (r.file ≡ F.number) × ((x : EntryRow) (d : Node ℕ) → IsRead F r.entry x d → IsStaying m (F.after d.at))
+  OriginStays (OfRow r) = (r.file ≡ F.number) × ((x : EntryRow) (d : Node ℕ) → IsRead F r.entry x d → IsStaying P (F.after d.at))
   OriginStays _ = Unit {0}
 
   abbrev pub SlotsStay : List Slot → Type 0
   SlotsStay slots = Each (λ s. OriginStays s.origin) slots
 
-  entry_stays : (i : ℕ) (x : EntryRow) (d : Node ℕ) → IsRead F i x d → IsStaying m (F.after d.at) → RowStays (row F.number i)
-  entry_stays i x d read stays = (refl, λ y e other. (let same = read_one F i x y d e read other in subst (λ (w : Node ℕ). IsStaying m (F.after w.at)) same stays))
+  entry_stays : (i : ℕ) (x : EntryRow) (d : Node ℕ) → IsRead F i x d → IsStaying P (F.after d.at) → RowStays (row F.number i)
+  entry_stays i x d read stays = (refl, λ y e other. (let same = read_one F i x y d e read other in subst (λ (w : Node ℕ). IsStaying P (F.after w.at)) same stays))
 
-  pub row_stays : (r : Row) (node : Node EntryName) → ShowsRow F r node → IsStaying m node.at → RowStays r
+  pub row_stays : (r : Row) (node : Node EntryName) → ShowsRow F r node → IsStaying P node.at → RowStays r
   row_stays r node shows stays =
-      subst RowStays (sym shows.row_is) (entry_stays shows.i shows.x shows.d shows.read (subst (λ (w : Node EntryName). IsStaying m w.at) shows.node_is stays))
+      subst RowStays (sym shows.row_is) (entry_stays shows.i shows.x shows.d shows.read (subst (λ (w : Node EntryName). IsStaying P w.at) shows.node_is stays))
 
   module _ (un : ℕ) (u : RawUnit) (is_unit : slice_get F.raw un ≡ Some u) (depth base : ℕ) where
     abbrev Slots : Forest RawEntry → Position → List Slot
     Slots t p = row_slots F.number depth base p.before (rows_below t un p)
 
     forest_stays : (t : Forest RawEntry) (g : Entries ℕ) (p : Position) (rest : List EntryRow) → entries_meaning (scope_of F.around u) t ≡ Ok g
-        → drop p.before (rows_of F.raw) ≡ rows_below t un p ++ rest → AreStaying m (entries_map F.after g) → SlotsStay (Slots t p)
+        → drop p.before (rows_of F.raw) ≡ rows_below t un p ++ rest → AreStaying P (entries_map F.after g) → SlotsStay (Slots t p)
     unfolding rows_below row_slots entries_map
     forest_stays End g p rest means found stays = tt
     forest_stays (Entry e c n) g p rest means found stays =
@@ -88,7 +93,7 @@ module _ (m : Move) (F : FileRead) where
         let r : EntryRow = record { entry = e; unit = un; depth = p.depth; end = (behind p c).before } in
         let inside = rows_below c un (first_below p) in
         let others = rows_below n un (behind p c) in
-        let all : AreStaying m (entries_map F.after (Entry x.d x.below x.next)) = subst (λ (w : Entries ℕ). AreStaying m (entries_map F.after w)) (sym x.is) stays in
+        let all : AreStaying P (entries_map F.after (Entry x.d x.below x.next)) = subst (λ (w : Entries ℕ). AreStaying P (entries_map F.after w)) (sym x.is) stays in
         let at = drop_first (rows_of F.raw) p.before r ((inside ++ others) ++ rest) found in
         let read : IsRead F p.before r x.d = record { unit = u; found = at.0; is_unit = is_unit; means = x.node } in
         let below : drop (first_below p).before (rows_of F.raw) ≡ inside ++ (others ++ rest) = at.1 ∙ append_assoc inside others rest in
@@ -110,7 +115,7 @@ module _ (m : Move) (F : FileRead) where
       (append-nil (rows_below c un (first_below p))))
 
   -- an entry with all below it
-  pub tree_stays : (k : EntryTable) → KnowsFile k F → (depth : ℕ) (r : Row) (node : Node EntryName) (below : Entries EntryName) → ShowsTree F r node below → IsStaying m node.at → AreStaying m below
+  pub tree_stays : (k : EntryTable) → KnowsFile k F → (depth : ℕ) (r : Row) (node : Node EntryName) (below : Entries EntryName) → ShowsTree F r node below → IsStaying P node.at → AreStaying P below
       → SlotsStay (tree_slots k depth r)
   tree_stays k file depth r node below t top_stays below_stays =
       let p = t.p in
@@ -134,8 +139,8 @@ module _ (m : Move) (F : FileRead) where
       let slots : tree_slots k depth top ≡ slot depth (OfRow top) ∷ row_slots F.number depth p.depth (first_below p).before inside =
       ap (λ (o : Option EntryRow). slot depth (OfRow top) ∷ option_map_or (slots_below k depth top) o []) there
       ∙ (λ i. slot depth (OfRow top) ∷ row_slots F.number depth p.depth (sym one i) (range i)) in
-      let own : IsStaying m (F.after y.d.at) = subst (λ (w : Node EntryName). IsStaying m w.at) (t.node_is ∙ ap (λ (w : Node ℕ). node_map F.after w) (sym d_is)) top_stays in
-      let others : AreStaying m (entries_map F.after y.below) = subst (AreStaying m) (t.below_is ∙ ap (λ (w : Entries ℕ). entries_map F.after w) (sym g_is)) below_stays in
+      let own : IsStaying P (F.after y.d.at) = subst (λ (w : Node EntryName). IsStaying P w.at) (t.node_is ∙ ap (λ (w : Node ℕ). node_map F.after w) (sym d_is)) top_stays in
+      let others : AreStaying P (entries_map F.after y.below) = subst (AreStaying P) (t.below_is ∙ ap (λ (w : Entries ℕ). entries_map F.after w) (sym g_is)) below_stays in
       let inner = forest_stays t.number t.unit t.is_unit depth p.depth t.c y.below (first_below p) t.behind y.of_below at.1 others in
       let all : SlotsStay (slot depth (OfRow top) ∷ row_slots F.number depth p.depth (first_below p).before inside) = (entry_stays p.before x y.d read own, inner) in
       subst (λ (q : Row). SlotsStay (tree_slots k depth q)) (sym t.row_is) (subst SlotsStay (sym slots) all)

@@ -22,6 +22,7 @@ use Rattle.dwz_layout_order.proofs.FileWalk.{is_among}
 use Rattle.dwz_layout.specs.declared.known.EntryTable.{EntryTable}
 use Rattle.dwz_layout.specs.Entries.{row}
 use Rattle.dwz_layout.specs.Known.{no_row}
+use Rattle.dwz_law_layout.specs.Beside.{Beside}
 use Rattle.dwz_law_layout.specs.Facts.{AreFacts, RunFacts, docs, units}
 use Rattle.dwz_law_layout.specs.Listed.{AreListed, TextsAt, entry_row, top_rows}
 use Rattle.dwz_law_layout.proofs.FileEntries.{IsHere}
@@ -29,11 +30,11 @@ use Rattle.dwz_law_layout.proofs.ReadFiles.{all_placed}
 use Rattle.dwz_law_layout.proofs.ListRows.{top_there}
 use Rattle.dwz_law_layout.proofs.TopNames.{TopRead}
 
-pub labelled : (f : RunFacts) → AreFacts f → (top : Top) → In top (tops_of (units f)) → LabelledTop top
+pub labelled : {beside : Beside} (f : RunFacts beside) → AreFacts f → (top : Top) → In top (tops_of (units f)) → LabelledTop top
 labelled f facts top is = (files_old (docs f) (all_placed f facts)).tops_named top is
 
 -- the file that a top is of, and where its index has the top
-record TopPlace (f : RunFacts) (top : Top) : Type 0 where
+record TopPlace {beside : Beside} (f : RunFacts beside) (top : Top) : Type 0 where
   pub file : ℕ
   pub index : Index
   pub k : ℕ
@@ -43,7 +44,7 @@ record TopPlace (f : RunFacts) (top : Top) : Type 0 where
   pub number : top.number ≡ index.starts.top + k
   pub of_file : top.file ≡ file
 
-module _ (f : RunFacts) (facts : AreFacts f) where
+module _ {beside : Beside} (f : RunFacts beside) (facts : AreFacts f) where
   -- a top with that number is that one
   one : (a b : Top) → In a (tops_of (units f)) → In b (tops_of (units f)) → a.number ≡ b.number → a ≡ b
   one a b i j e = one_top 0 (tops_of (units f)) a b (tops_numbers (units f)) i j e

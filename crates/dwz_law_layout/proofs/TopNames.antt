@@ -30,6 +30,7 @@ use Rattle.dwz_layout.specs.Entries.{row, row_slots, slot, slots_below, tree_slo
 use Rattle.dwz_layout.specs.Known.{row_at, rows_in, top_row}
 use Rattle.dwz_law_layout.specs.Knows.{FileRead, IsRead}
 use Rattle.dwz_law_layout.proofs.RowFits.{row_slots-append}
+use Rattle.dwz_law_layout.specs.Beside.{Beside}
 use Rattle.dwz_law_layout.specs.Facts.{RunFacts, file_read}
 use Rattle.dwz_law_layout.proofs.FileEntries.{IsHere, named, read_name, run_name}
 
@@ -41,7 +42,7 @@ first_row e c un p = (let r : EntryRow = record { entry = e; unit = un; depth = 
 
 -- ---- of a file
 
-module _ (f : RunFacts) (k : EntryTable) (n : ℕ) (x : File) (index : Index) (o : IsHere f k n x index) where
+module _ {beside : Beside} (f : RunFacts beside) (k : EntryTable) (n : ℕ) (x : File) (index : Index) (o : IsHere f k n x index) where
   abbrev pub F : FileRead
   F = file_read f n o.bytes x
 

@@ -24,6 +24,7 @@ use Rattle.dwz_layout.specs.declared.known.EntryTable.{EntryTable}
 use Rattle.dwz_layout.specs.Entries.{row}
 use Rattle.dwz_layout.specs.Known.{no_row, top_row}
 use Rattle.dwz_law_layout.specs.Knows.{ShowsTree}
+use Rattle.dwz_law_layout.specs.Beside.{Beside}
 use Rattle.dwz_law_layout.specs.Facts.{AreFacts, RunFacts, docs, file_read, move, units}
 use Rattle.dwz_law_layout.specs.Listed.{AreListed, TextsAt, entry_row, top_rows}
 use Rattle.dwz_law_layout.specs.Trees.{IsReadFile, TopFilesLaw, TopTreesLaw}
@@ -32,7 +33,7 @@ use Rattle.dwz_law_layout.proofs.FilesFound.{among_of, file_there}
 use Rattle.dwz_law_layout.proofs.ListRows.{top_there}
 
 -- the file that a top is of, and where its index has the top
-record TopPlace (f : RunFacts) (top : Top) : Type 0 where
+record TopPlace {beside : Beside} (f : RunFacts beside) (top : Top) : Type 0 where
   pub file : ℕ
   pub index : Index
   pub k : ℕ
@@ -45,7 +46,7 @@ record TopPlace (f : RunFacts) (top : Top) : Type 0 where
 pub file_moved : (a b : Top) (file : ℕ) → a ≡ b → a.file ≡ file → b.file ≡ file
 file_moved a b file same is = ap (λ (t : Top). t.file) (sym same) ∙ is
 
-module _ (f : RunFacts) (facts : AreFacts f) where
+module _ {beside : Beside} (f : RunFacts beside) (facts : AreFacts f) where
   -- a number has one top
   one : (a b : Top) (m : ℕ) → In a (tops_of (units f)) → In b (tops_of (units f)) → a.number ≡ m → b.number ≡ m → a ≡ b
   one a b m i j p q = one_top 0 (tops_of (units f)) a b (tops_numbers (units f)) i j (p ∙ sym q)
@@ -110,12 +111,12 @@ module _ (f : RunFacts) (facts : AreFacts f) where
         }
 
 pub top_files : TopFilesLaw
-top_files f facts top is =
+top_files beside f facts top is =
     let p = place f facts top is in
     subst (IsReadFile f) (sym p.of_file) (file_there f facts p.file p.index p.index_is)
 
 pub top_trees : TopTreesLaw
-top_trees f t k facts listed n bytes x index h top is of =
+top_trees beside f t k facts listed n bytes x index h top is of =
     let p = place f facts top is in
     let among = among_of f facts n bytes x index h in
     let file : p.file ≡ n = sym p.of_file ∙ of in

@@ -31,9 +31,10 @@ use Rattle.dwz_layout.specs.declared.order.Sort.{Sort}
 use Rattle.dwz_layout.specs.declared.order.Sort.TheVariants.{Compile as CompileSort, OfType as TypeSort}
 use Rattle.dwz_layout.specs.Entries.{row}
 use Rattle.dwz_law_layout.specs.Knows.{ShowsRow, ShowsTree}
+use Rattle.dwz_law_layout.specs.Beside.{Beside}
 use Rattle.dwz_law_layout.specs.Facts.{AreFacts, RunFacts, docs, file_read, move, units}
 use Rattle.dwz_law_layout.specs.Named.{keys}
-use Rattle.dwz_law_layout.proofs.FileEntries.{IsHere, key_is, named_all, run_name}
+use Rattle.dwz_law_layout.proofs.FileEntries.{IsHere, key_is, named_every, run_name}
 use Rattle.dwz_law_layout.proofs.ReadFiles.{all_placed}
 use Rattle.dwz_law_layout.specs.Roots.{UnitShown}
 use Rattle.dwz_law_layout.proofs.AfterNames.{entries_named, name, node_named, row_of_tree}
@@ -59,7 +60,7 @@ main_stays all old i u nth signature main kind stand =
 
 -- ---- all of a unit
 
-module _ (f : RunFacts) (n : ℕ) (bytes : List ℕ) (x : File) (index : Index) (is : IsFileAmong f.contents n bytes x index) where
+module _ {beside : Beside} (f : RunFacts beside) (n : ℕ) (bytes : List ℕ) (x : File) (index : Index) (is : IsFileAmong f.contents n bytes x index) where
   abbrev pub raw : List RawUnit
   raw = raw_units x.units
 
@@ -120,7 +121,7 @@ module _ (f : RunFacts) (n : ℕ) (bytes : List ℕ) (x : File) (index : Index) 
         let stays : image_in (move f) (called p) ≡ called p =
         main_stays (units f) old i (in_file n (so (OfType signature p))) (subst (λ (w : FileUnit EntryName). Nth 0 (units f) i w) type_unit nth) signature (called p) refl (move f).stand in
         let key : (keys f).row (o.start + main) ≡ called p =
-        key_is f k n x index o (o.start + main) _ (named_all f k n x index o main sorted.2) ∙ sym (run_name f k n x index o (place_at raw main)) ∙ is.names (place_at raw main) ∙ ap called at in
+        key_is f k n x index o (o.start + main) _ (named_every f k n x index o main sorted.2) ∙ sym (run_name f k n x index o (place_at raw main)) ∙ is.names (place_at raw main) ∙ ap called at in
         let here : UnitShown f n bytes x (so (OfType signature p)) (TypeSort (row_of n first) signature (o.start + main)) =
         record { sort = (refl, key ∙ sym stays); root = λ at. inl alone; whole = inl tree } in
         subst (λ (q : Kind ℕ). UnitShown f n bytes x (so q) sort) (sym means.1) (subst (UnitShown f n bytes x (so (OfType signature p))) (sym sorted.1) here)

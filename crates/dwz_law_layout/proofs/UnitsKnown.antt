@@ -26,6 +26,7 @@ use Rattle.dwz_layout.specs.declared.order.UnitItems.{UnitItems}
 use Rattle.dwz_layout.specs.Attributes.{is_common}
 use Rattle.dwz_law_layout.specs.Fitted.{KnowUnits, KnowsShown}
 use Rattle.dwz_law_layout.specs.Knows.{NewNumbers}
+use Rattle.dwz_law_layout.specs.Beside.{Beside}
 use Rattle.dwz_law_layout.specs.Facts.{AreFacts, HasFile, RunFacts, file_read, move, units, units_written, written}
 use Rattle.dwz_law_layout.specs.Listed.{AreListed, TextsAt}
 use Rattle.dwz_law_layout.specs.Named.{keys, root_name}
@@ -56,7 +57,7 @@ not_common Compile e = cc
 not_common (OfType signature main) e = cc
 not_common Partial e = cc
 
-module _ (f : RunFacts) (t : TextsAt) (k : EntryTable) (facts : AreFacts f) (listed : AreListed f t k) where
+module _ {beside : Beside} (f : RunFacts beside) (t : TextsAt) (k : EntryTable) (facts : AreFacts f) (listed : AreListed f t k) where
   behind_common : (here i : ℕ) (u : DwUnit EntryName) → slice_get (units_written f) here ≡ Some u → u.at ≡ UnitOf i → is_common k here ≡ false
   unfolding common_units
   behind_common here i u e at =
@@ -154,7 +155,7 @@ module _ (f : RunFacts) (t : TextsAt) (k : EntryTable) (facts : AreFacts f) (lis
         by false is order kept items shown stand texts more = more here order kept items shown stand texts
 
 pub kept_known : KeptKnownLaw
-kept_known f t k s facts listed settled n bytes x index h w start at numbers here order kept stand texts =
+kept_known beside f t k s facts listed settled n bytes x index h w start at numbers here order kept stand texts =
     units_known f t k facts listed n bytes x index h (file_changes f n w) start numbers 0 here (units f) order (in_order f facts n bytes x index h t k s listed settled start order kept w)
     (stand_for f facts n bytes x index h t k s listed settled start order kept) (are_shown f facts n bytes x index h t k s listed settled start order kept at) (λ j u e. nth_of 0 (units f) j u e)
     stand texts

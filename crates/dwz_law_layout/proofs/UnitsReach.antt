@@ -26,13 +26,13 @@ use Rattle.dwz_layout_numbers.proofs.ReachLemmas.{common_tells, file_tells, own_
 use Rattle.dwz_layout.specs.declared.known.EntryTable.{EntryTable}
 use Rattle.dwz_layout.specs.Attributes.{is_common}
 use Rattle.dwz_layout.specs.Known.{unit_of_part}
-use Rattle.dwz_law_layout.specs.Facts.{AreFacts, RunFacts, docs, move, rule, units, units_written, written}
+use Rattle.dwz_law_layout.specs.Beside.{Beside}
+use Rattle.dwz_law_layout.specs.Facts.{AreFacts, RunFacts, docs, move, units, units_written, written}
 use Rattle.dwz_law_layout.specs.Listed.{AreListed, TextsAt}
 use Rattle.dwz_law_layout.specs.Named.{keys, root_name}
 use Rattle.dwz_law_layout.specs.OwnedLaws.{ReachesPart}
 use Rattle.dwz_law_layout.specs.Unfitted.{common_unit_forms, file_unit_forms}
 use Rattle.dwz_law_layout.proofs.ImagesStand.{IsNear, in_units}
-use Rattle.dwz_law_layout.proofs.ReadFiles.{all_placed}
 
 -- ---- the units that are written, file by file
 
@@ -91,12 +91,12 @@ same_false false false e = refl
 
 -- ---- of what is known of a run
 
-module _ (f : RunFacts) (t : TextsAt) (k : EntryTable) (facts : AreFacts f) (listed : AreListed f t k) where
+module _ {beside : Beside} (f : RunFacts beside) (t : TextsAt) (k : EntryTable) (facts : AreFacts f) (listed : AreListed f t k) where
   abbrev common : List (DwUnit EntryName)
   common = common_units (move f)
 
   once : NoneTwice (units_keys (units_written f))
-  once = written_once (docs f) (rule f) (written f) (all_placed f facts)
+  once = written_once (move f) (units f) (docs f) (written f) facts.whole.apart
       (let many = length-map (file_numbers 0 (docs f)) (changes (move f) (units f)) in let as_many = numbers_long 0 (docs f) in omega (arith, many, as_many))
 
   commons_are : k.commons ≡ length common

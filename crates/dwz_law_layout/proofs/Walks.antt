@@ -1,5 +1,6 @@
 -- What stands at a place in lists that are made file by file, and entry by entry.
-use Rattle.std.proofs.Common.{◌≡◌, ℕ, zero, suc, ◌+◌, ◌-◌, ◌<◌, ◌≤◌, List, [], ◌∷◌, ◌++◌, length, Some, slice_get, refl, sym, ap, subst, ◌∙◌, inl, inr, arith}
+use Rattle.std.proofs.Common.{◌≡◌, ℕ, zero, suc, ◌+◌, ◌-◌, ◌<◌, ◌≤◌, List, [], ◌∷◌, ◌++◌, length, Some, slice_get, slice_index_or, refl, sym, ap, subst, ◌∙◌, inl, inr, arith}
+use Rattle.std.proofs.lemmas.List.{append_assoc, length-append}
 use Rattle.dwz_def_reading.proofs.ListFacts.{get_first, got_below}
 use Rattle.dwz_def_reading.specs.Documents.{Doc}
 use Rattle.dwz_def_tops.specs.Spots.{EntryName}
@@ -8,19 +9,22 @@ use Rattle.dwz_graph.specs.declared.index.Starts.{Starts}
 use Rattle.dwz_graph.specs.Index.{Index, IsIndex}
 use Rattle.dwz_graph.specs.Names.{names_from, top_in}
 use Rattle.dwz_graph.proofs.TopLemmas.{get_cases, get_later}
-use Rattle.dwz_graph.specs.Indexed.{AreIndexed, starts_behind}
+use Rattle.dwz_graph.specs.Indexed.{AreIndexed, first_starts, starts_behind}
 use Rattle.dwz_plan.specs.Planned.{Planned}
 use Rattle.dwz_unit.specs.Rows.{EntryRow, rows_of, units_of}
 use Rattle.dwz_layout_numbers.specs.declared.firsts.CountsBefore.{CountsBefore}
 use Rattle.dwz_layout_numbers.specs.Befores.{befores_from, behind}
 use Rattle.dwz_layout_numbers.specs.Images.{starts_from}
-use Rattle.dwz_layout_numbers.specs.Names.{names_of_files}
+use Rattle.dwz_layout_numbers.specs.Names.{all_names, names_of_files}
 use Rattle.dwz_layout_numbers.specs.Owners.{AreOwners, owner_by}
 use Rattle.dwz_layout.specs.declared.known.FileRows.{FileRows}
+use Rattle.dwz_layout.specs.declared.known.EntryTable.{EntryTable}
 use Rattle.dwz_layout.specs.declared.known.TextAt.{TextAt}
+use Rattle.dwz_layout.specs.Known.{owner_of}
 use Rattle.dwz_law_layout.specs.Knows.{EachFrom}
-use Rattle.dwz_law_layout.specs.Facts.{RunFacts}
-use Rattle.dwz_law_layout.specs.Listed.{AreAllOwners, AreRows, IsListed}
+use Rattle.dwz_law_layout.specs.Beside.{Beside}
+use Rattle.dwz_law_layout.specs.Facts.{AreFacts, RunFacts, docs, owners_beside}
+use Rattle.dwz_law_layout.specs.Listed.{AreAllOwners, AreListed, AreRows, IsListed, TextsAt}
 
 -- ---- entries
 
@@ -41,7 +45,7 @@ before_at b (row ∷ rows) (suc i) r e = before_at (behind b row) rows i r e
 -- ---- rows of files
 
 -- those of the file with a number
-pub record RowsAt (f : RunFacts) (x : File) (index : Index) (starts : List ℕ) (rows : List FileRows) (n : ℕ) : Type 0 where
+pub record RowsAt {beside : Beside} (f : RunFacts beside) (x : File) (index : Index) (starts : List ℕ) (rows : List FileRows) (n : ℕ) : Type 0 where
   pub start : ℕ
   pub texts : List TextAt
   pub rows_there : FileRows
@@ -49,7 +53,7 @@ pub record RowsAt (f : RunFacts) (x : File) (index : Index) (starts : List ℕ) 
   pub rows_are : slice_get rows n ≡ Some rows_there
   pub listed : IsListed f x index start texts rows_there
 
-pub rows_at : (f : RunFacts) (files : List File) (indexes : List Index) (starts : List ℕ) (texts : List (List TextAt)) (rows : List FileRows) → AreRows f files indexes starts texts rows
+pub rows_at : {beside : Beside} (f : RunFacts beside) (files : List File) (indexes : List Index) (starts : List ℕ) (texts : List (List TextAt)) (rows : List FileRows) → AreRows f files indexes starts texts rows
     → (n : ℕ) (x : File) (index : Index) → slice_get files n ≡ Some x → slice_get indexes n ≡ Some index → RowsAt f x index starts rows n
 rows_at f [] indexes starts texts rows h n x index e g = absurd cc
 rows_at f (y ∷ files) [] starts texts rows h n x index e g = absurd h
@@ -112,7 +116,7 @@ at_later : (all more rest : List ℕ) (k i v : ℕ) → all ≡ more ++ rest →
 at_later all more rest k i v e n h = (λ j. slice_get (e j) (n j)) ∙ get_later more rest i v h
 
 -- Where the first file begins with number c, the owner of each entry of the file with a number is so far behind as the file begins.
-pub owners_at : (f : RunFacts) (s : Starts) (docs : List (Doc ℕ)) (indexes : List Index) (end : Starts) → AreIndexed s docs indexes end
+pub owners_at : {beside : Beside} (f : RunFacts beside) (s : Starts) (docs : List (Doc ℕ)) (indexes : List Index) (end : Starts) → AreIndexed s docs indexes end
     → (files : List File) (owners : List ℕ) → AreAllOwners f files indexes owners
     → (c n start : ℕ) (x : File) (index : Index) (names : List EntryName) → slice_get files n ≡ Some x → slice_get indexes n ≡ Some index → slice_get (starts_from c indexes) n ≡ Some start
     → IsIndex names index → (i : ℕ) (row : EntryRow) (m : EntryName) → slice_get (rows_of (units_of x.units)) i ≡ Some row → slice_get names i ≡ Some m
@@ -156,6 +160,49 @@ owners_at f s (doc ∷ docs) (z ∷ indexes) end are (y ∷ files) owners h c (s
         is = o.is;
       },
     )
+
+-- The owners of the entries of files come first, and behind them those of the entries of the common file.
+pub record OwnersSplit {beside : Beside} (f : RunFacts beside) (owners : List ℕ) (count : ℕ) : Type 0 where
+  pub own : List ℕ
+  pub many : length own ≡ count
+  pub are : owners ≡ own ++ owners_beside f
+
+owners_from : {beside : Beside} (f : RunFacts beside) (s : Starts) (said : List (Doc ℕ)) (indexes : List Index) (end : Starts) → AreIndexed s said indexes end
+    → (files : List File) (owners : List ℕ) → AreAllOwners f files indexes owners → OwnersSplit f owners (length (names_of_files s.unit s.top said))
+unfolding names_of_files
+owners_from f s [] [] end are [] owners h = record { own = []; many = refl; are = h }
+owners_from f s [] [] end are (y ∷ files) owners h = absurd h
+owners_from f s [] (z ∷ indexes) end are files owners h = absurd are
+owners_from f s (doc ∷ said) [] end are files owners h = absurd are
+owners_from f s (doc ∷ said) (z ∷ indexes) end are [] owners h = absurd h
+owners_from f s (doc ∷ said) (z ∷ indexes) end are (y ∷ files) owners h =
+    let first = names_from s.unit s.top doc.units in
+    let next = starts_behind s doc z in
+    let rest = names_of_files next.unit next.top said in
+    let own = owners_many f.planned f.parts f.olds z.starts.unit (rows_of (units_of y.units)) first h.0 (h.3 first are.0.names) in
+    let r = owners_from f next said indexes end are.1 files h.1 h.4 in
+    let more = r.many in
+    let one = length-append h.0 r.own in
+    let two = length-append first rest in
+    record {
+      own = h.0 ++ r.own;
+      many = omega (arith, own, more, one, two);
+      are = h.2 ∙ ap (λ (w : List ℕ). h.0 ++ w) r.are ∙ sym (append_assoc h.0 r.own (owners_beside f));
+    }
+
+pub owners_split : {beside : Beside} (f : RunFacts beside) (t : TextsAt) (k : EntryTable) → AreFacts f → AreListed f t k → OwnersSplit f k.owners.items (length (all_names (docs f)))
+owners_split f t k facts listed = owners_from f first_starts (docs f) f.indexes facts.indexed.end facts.indexed.are f.files k.owners.items listed.owners
+
+or_later : (xs ys : List ℕ) (j : ℕ) → slice_index_or (xs ++ ys) (length xs + j) 0 ≡ slice_index_or ys j 0
+or_later [] ys j = ap (λ (n : ℕ). slice_index_or ys n 0) (let none : 0 + j ≡ j = omega arith in none)
+or_later (x ∷ xs) ys j = ap (λ (n : ℕ). slice_index_or (x ∷ (xs ++ ys)) n 0) (let next : suc (length xs) + j ≡ suc (length xs + j) = omega arith in next) ∙ or_later xs ys j
+
+-- the owner of an entry of the common file
+pub behind_owner : {beside : Beside} (f : RunFacts beside) (t : TextsAt) (k : EntryTable) → AreFacts f → AreListed f t k → (j : ℕ)
+    → owner_of k (length (all_names (docs f)) + j) ≡ slice_index_or (owners_beside f) j 0
+behind_owner f t k facts listed j =
+    let o = owners_split f t k facts listed in
+    (λ i. slice_index_or (o.are i) (sym o.many i + j) 0) ∙ or_later o.own (owners_beside f) j
 
 -- ---- of which file an entry is
 

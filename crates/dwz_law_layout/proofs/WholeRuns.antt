@@ -1,7 +1,8 @@
 -- The units of a file after, with the forms of their values, say what they are written for: what was read is carried, and what roots say
 -- of bases stands.
-use Rattle.std.proofs.Common.{◌≡◌, ℕ, ◌<◌, ◌^◌, Bool, true, false, List, length, refl, sym, ap, subst, arith}
+use Rattle.std.proofs.Common.{◌≡◌, ℕ, ◌<◌, ◌^◌, Bool, true, false, length, refl, sym, ap, subst, inl, inr, arith, List}
 use Rattle.dwz_def_reading.specs.Lists.{Each, In}
+use Rattle.dwz_def_reading.proofs.ListFacts.{in_map}
 use Rattle.dwz_def_reading.specs.Documents.{Doc}
 use Rattle.dwz_def_tops.specs.Alike.{IsAlike, TopScope}
 use Rattle.dwz_def_tops.specs.Shown.{units_keys}
@@ -24,12 +25,12 @@ use Rattle.dwz_def_encoding.proofs.SameLemmas.{spots_same}
 use Rattle.dwz_def_readback.specs.AllFiles.{AreRead}
 use Rattle.dwz_def_readback.specs.Back.{WasReadFrom, run_of}
 use Rattle.dwz_def_readback.specs.Files.{formed_by}
-use Rattle.dwz_def_readback.specs.Files.{Run, Stored, common_fitted, file_forms, file_out, files_out, formed, imports_common, lists_named, origin_in, shared_if, sources, tells, texts}
+use Rattle.dwz_def_readback.specs.Files.{Run, Stored, common_fitted, common_out, file_forms, file_out, files_out, formed, imports_common, lists_named, origin_in, shared_if, sources, tells, texts}
 use Rattle.dwz_def_readback.proofs.BasesLemmas.{out_bases}
 use Rattle.dwz_def_readback.proofs.FewTexts.{read_few}
 use Rattle.dwz_def_readback.proofs.HomeLemmas.{top_file}
 use Rattle.dwz_def_readback.proofs.LineLemmas.{local_roots, part_bases}
-use Rattle.dwz_def_readback.proofs.NameLemmas.{file_once, file_there, fitted_entries, fitted_names, not_common, run_once}
+use Rattle.dwz_def_readback.proofs.NameLemmas.{common_entries, file_once, file_there, fitted_entries, fitted_names, not_common, run_once}
 use Rattle.dwz_def_readback.proofs.NamedOperands.{IsTold, files_read}
 use Rattle.dwz_def_readback.proofs.OutOperands.{out_operands}
 use Rattle.dwz_def_readback.proofs.OutsCarried.{out_carried}
@@ -42,6 +43,7 @@ use Rattle.dwz_def_readback.proofs.AllLemmas.{WasRead, files_carried}
 use Rattle.dwz_def_readback.proofs.StillPlaces.{number_nth}
 use Rattle.dwz_def_readback.specs.Sound.{FewTexts}
 use Rattle.dwz_law_layout.specs.Whole.{WholeLaw}
+use Rattle.dwz_law_layout.proofs.NoUnits.{no_entry}
 
 -- ---- the units before
 
@@ -141,9 +143,13 @@ whole_runs scope docs rule placed is choice input =
     let same = files_same scope docs rule placed is choice in
     record {
       apart = same.apart;
+      entries = λ u s there key e. no_entry docs rule placed u s there key e;
       mains = same.mains;
+      shared = common_entries (run_of rule docs input);
       closed = λ file. within scope docs rule placed is choice input file;
       common = common_within scope docs rule placed is choice input;
-      sound = λ are few x there. all_sound scope docs input are rule is choice few x there;
+      common_sound = λ are few. all_sound scope docs input are rule is choice few (common_out (run_of rule docs input)) (inl refl);
+      sound = λ are few file there. all_sound scope docs input are rule is choice few (file_out (run_of rule docs input) file)
+          (inr (in_map (file_out (run_of rule docs input)) file (file_numbers 0 docs) there));
       say = λ are few file there. formed_say scope docs rule placed is choice input are few file there;
     }

@@ -6,6 +6,7 @@ use Rattle.dwz_def_tops.specs.Spots.{EntryName, FileUnit, file_numbers}
 use Rattle.dwz_def_plan.specs.Moves.{Move}
 use Rattle.dwz_def_images.specs.Units.{all_units, changes, common_units, file_units, out_units}
 use Rattle.dwz_layout_numbers.specs.Owners.{file_written, files_written as written_from}
+use Rattle.dwz_law_layout.specs.Beside.{Beside}
 use Rattle.dwz_law_layout.specs.Facts.{RunFacts, docs, files_written, move, units, units_written}
 
 module _ (m : Move) (us : List (FileUnit EntryName)) where
@@ -22,5 +23,5 @@ module _ (m : Move) (us : List (FileUnit EntryName)) where
     by rest true = ap (λ (w : List (DwUnit EntryName)). out_units m us n ++ w) rest
     by rest false = rest
 
-pub written_units : (f : RunFacts) → units_written f ≡ all_units (move f) (units f) (files_written f)
+pub written_units : {beside : Beside} (f : RunFacts beside) → units_written f ≡ all_units (move f) (units f) (files_written f)
 written_units f = ap (λ (w : List (DwUnit EntryName)). common_units (move f) ++ w) (written_are (move f) (units f) 0 (docs f))

@@ -1,6 +1,8 @@
 pub mod Knows
 pub mod Fitted
 pub mod Fair
+pub mod Beside
+pub mod Moving
 pub mod Whole
 pub mod Facts
 pub mod Listed

@@ -16,7 +16,8 @@ use Rattle.dwz_layout.specs.declared.known.Row.{Row}
 use Rattle.dwz_layout.specs.declared.known.SpaceRow.{SpaceRow}
 use Rattle.dwz_layout.specs.declared.known.TextAt.{TextAt}
 use Rattle.dwz_unit.specs.Rows.{rows_of, units_of}
-use Rattle.dwz_law_layout.specs.Facts.{RunFacts, docs, rule}
+use Rattle.dwz_law_layout.specs.Beside.{Beside}
+use Rattle.dwz_law_layout.specs.Facts.{RunFacts, every, move, owners_beside}
 
 -- where texts are written: of each file those of its entries, in order; and the names of the spaces of all files, in order, in a partial
 -- unit of their file, and in one of the common file. And for each file the numbers that its values have in the common file, which number
@@ -43,16 +44,16 @@ HaveFirsts x firsts =
     → slice_get firsts i ≡ Some (firsts_from (slice_index x.resolved.starts.items i) b)
 
 -- the rows of a file, whose first entry has that number among those of all files, and whose texts are written there
-pub record IsListed (f : RunFacts) (x : File) (index : Index) (start : ℕ) (texts : List TextAt) (r : FileRows) : Type 0 where
+pub record IsListed {beside : Beside} (f : RunFacts beside) (x : File) (index : Index) (start : ℕ) (texts : List TextAt) (r : FileRows) : Type 0 where
   pub units : r.units.now ≡ x.units
   pub start_is : r.start ≡ start
   pub firsts : HaveFirsts x r.firsts.items
-  pub references : (names : List EntryName) → IsFile (docs f) names index start
-      → AreImages (docs f) (rule f) names x.resolved.refs.items r.references.items
+  pub references : (names : List EntryName) → IsFile (every f) names index start
+      → AreImages (every f) (move f) names x.resolved.refs.items r.references.items
   pub texts_are : r.texts.items ≡ texts
 
 -- file by file
-abbrev pub AreRows : RunFacts → List File → List Index → List ℕ → List (List TextAt) → List FileRows → Type 0
+abbrev pub AreRows : {beside : Beside} → RunFacts beside → List File → List Index → List ℕ → List (List TextAt) → List FileRows → Type 0
 AreRows f [] [] [] [] [] = Unit {0}
 AreRows f (x ∷ files) (index ∷ indexes) (start ∷ starts) (t ∷ texts) (r ∷ rows) =
     IsListed f x index start t r × AreRows f files indexes starts texts rows
@@ -60,9 +61,9 @@ AreRows f _ _ _ _ _ = ⊥
 
 -- ---- owners
 
--- those of the entries of each file, one behind the other
-abbrev pub AreAllOwners : RunFacts → List File → List Index → List ℕ → Type 0
-AreAllOwners f [] [] owners = owners ≡ []
+-- those of the entries of each file, one behind the other, and then those of the entries of the common file, if it stands
+abbrev pub AreAllOwners : {beside : Beside} → RunFacts beside → List File → List Index → List ℕ → Type 0
+AreAllOwners f [] [] owners = owners ≡ owners_beside f
 AreAllOwners f (x ∷ files) (index ∷ indexes) owners =
     (more : List ℕ) × (rest : List ℕ) × (owners ≡ more ++ rest)
     × ((names : List EntryName) → IsIndex names index
@@ -96,7 +97,7 @@ space_rows (row ∷ rows) (t ∷ texts) (c ∷ commons) = record { row = row; te
 -- ---- all
 
 -- the lists are made of the files, their plan, and where texts are written
-pub record AreListed (f : RunFacts) (t : TextsAt) (k : EntryTable) : Type 0 where
+pub record AreListed {beside : Beside} (f : RunFacts beside) (t : TextsAt) (k : EntryTable) : Type 0 where
   pub rows : AreRows f f.files f.indexes (starts_from 0 f.indexes) t.files k.files.items
   pub owners : AreAllOwners f f.files f.indexes k.owners.items
   pub tops : k.tops.items ≡ top_rows 0 f.indexes

@@ -4,7 +4,8 @@ use Rattle.dwz_def_reading.specs.Documents.{DwUnit}
 use Rattle.dwz_def_tops.specs.Spots.{EntryName, Import, InChain, PartialOf, UnitOf, no_name}
 use Rattle.dwz_layout_numbers.specs.Names.{all_names}
 use Rattle.dwz_encode.specs.Shown.{Keys}
-use Rattle.dwz_law_layout.specs.Facts.{RunFacts, docs, units_written}
+use Rattle.dwz_law_layout.specs.Beside.{Beside}
+use Rattle.dwz_law_layout.specs.Facts.{RunFacts, every, units_written}
 
 -- the root of a unit
 abbrev pub root_name : Option (DwUnit EntryName) → EntryName
@@ -24,11 +25,11 @@ abbrev pub unit_name : Option (DwUnit EntryName) → EntryName
 unit_name None = no_name
 unit_name (Some u) = u.at
 
--- Entries that were read have their names by their numbers among all files; roots are those of the units that are written, by the
+-- Entries that were read have their names by their numbers among all documents; roots are those of the units that are written, by the
 -- numbers of these; a space of a chain is one of the partial unit that has the unit's number, and an import is of the old unit that has it.
-abbrev pub keys : RunFacts → Keys EntryName
+abbrev pub keys : {beside : Beside} → RunFacts beside → Keys EntryName
 keys f = record {
-  row = λ n. slice_index_or (all_names (docs f)) n no_name;
+  row = λ n. slice_index_or (all_names (every f)) n no_name;
   root = λ here. root_name (slice_get (units_written f) here);
   chained = λ here chain depth. InChain (part_number (unit_name (slice_get (units_written f) here))) chain depth;
   import = λ here part. Import (old_number (unit_name (slice_get (units_written f) here))) part;

@@ -1,5 +1,5 @@
 -- What the items of a partial unit stand for, in the units that were read: its tops, which are all of one unit, and spaces of that unit.
-use Rattle.std.specs.Prelude.{◌≡◌, ◌⊎◌, ℕ, true, false, List, map, slice_index_or}
+use Rattle.std.specs.Prelude.{◌≡◌, ◌⊎◌, ℕ, false, List, map, slice_index_or}
 use Rattle.std.specs.List.{range_with_len}
 use Rattle.dwz_def_reading.specs.Lists.{Each, In}
 use Rattle.dwz_def_reading.specs.Documents.{Doc}
@@ -14,7 +14,7 @@ use Rattle.dwz_layout_items.specs.declared.partial.SpaceRow.{SpaceRow}
 use Rattle.dwz_layout_items.specs.declared.partial.TopSpaces.{TopSpaces}
 use Rattle.dwz_layout_items.specs.Chains.{Up, inner_at}
 use Rattle.dwz_def_plan.specs.Homes.{Common, Local, Rule, moves}
-use Rattle.dwz_def_plan.specs.Moves.{first_unit}
+use Rattle.dwz_def_plan.specs.Moves.{Move, first_unit}
 use Rattle.dwz_def_plan.specs.Plan.{PartialUnit, partials, stand_in}
 use Rattle.dwz_plan.specs.declared.plan.Home.TheVariants.{Stay as InUnit}
 use Rattle.dwz_plan.specs.Planned.{Planned, place_at}
@@ -22,31 +22,11 @@ use Rattle.dwz_plan.specs.Shows.{ShowsPlan}
 use Rattle.dwz_layout_order.specs.Lists.{all_spaces, all_tops, rows_from, spaces_at}
 use Rattle.dwz_layout_order.specs.Parts.{IsPart}
 use Rattle.dwz_layout_order.specs.Shown.{KnowsSpaces}
-use Rattle.dwz_law_layout.specs.Fair.{Fair}
 use Rattle.dwz_law_layout.specs.Items.{RootThen}
+use Rattle.dwz_law_layout.specs.Moving.{IsMadePart}
 use Rattle.dwz_law_layout.specs.Old.{IsSpaceIn}
 
 -- ---- tops
-
--- a top that moves, stands for itself, and is of that unit
-pub record MovesFrom (rule : Rule) (units : List (FileUnit EntryName)) (i : ℕ) (t : Top) : Type 0 where
-  pub there : In t (tops_of units)
-  pub moves : moves rule units t.number ≡ true
-  pub stands : stand_in rule units t.number ≡ t.number
-  pub unit : t.unit ≡ i
-
--- the tops of a partial unit are all of the unit of the first of them
-abbrev pub PartTopsLaw : Type 0
-PartTopsLaw =
-    (units : List (FileUnit EntryName)) (rule : Rule) → Fair units rule → (files : List ℕ)
-    → (n : ℕ) (part : PartialUnit) → Nth 0 (partials rule units files) n part → (t : Top) → In t part.tops
-    → MovesFrom rule units (first_unit part.tops) t
-
--- which is one of its users
-abbrev pub FirstUnitLaw : Type 0
-FirstUnitLaw =
-    (units : List (FileUnit EntryName)) (rule : Rule) → Fair units rule → (files : List ℕ)
-    → (n : ℕ) (part : PartialUnit) → Nth 0 (partials rule units files) n part → In (first_unit part.tops) part.users
 
 -- a top is of the file of its unit
 pub record IsOfUnit (units : List (FileUnit EntryName)) (t : Top) : Type 0 where
@@ -110,9 +90,9 @@ NewNames units part items = RootThen (IsOfNew units part) items
 
 abbrev pub NewItemsLaw : Type 0
 NewItemsLaw =
-    (docs : List (Doc ℕ)) (indexes : List Index) (rule : Rule) (files : List ℕ) (texts lists : List ℕ)
-    → AreIndexes docs indexes → Fair (units_of docs) rule
+    (docs : List (Doc ℕ)) (indexes : List Index) (m : Move) (texts lists : List ℕ)
+    → AreIndexes docs indexes
     → KnowsSpaces (units_of docs) (rows_of_spaces indexes) texts lists (all_tops indexes)
-    → (n : ℕ) (part : PartialUnit) (items : List Item) → Nth 0 (partials rule (units_of docs) files) n part
+    → (n : ℕ) (part : PartialUnit) (items : List Item) → IsMadePart m (units_of docs) n part
     → IsPart (rows_of_spaces indexes) (spaces_of_tops lists indexes) (map (λ t. t.number) part.tops) items
     → NewNames (units_of docs) part items

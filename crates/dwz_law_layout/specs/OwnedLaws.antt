@@ -18,6 +18,7 @@ use Rattle.dwz_layout.specs.Entries.{row}
 use Rattle.dwz_layout.specs.Known.{number_of, owner_of, unit_of_part}
 use Rattle.dwz_encode.specs.Shown.{Keys}
 use Rattle.dwz_law_layout.specs.Knows.{IsRead, KnowsOwners}
+use Rattle.dwz_law_layout.specs.Beside.{Beside}
 use Rattle.dwz_law_layout.specs.Facts.{AreFacts, RunFacts, file_read, move, units, units_written}
 use Rattle.dwz_law_layout.specs.Listed.{AreListed, TextsAt}
 use Rattle.dwz_law_layout.specs.Named.{keys}
@@ -26,13 +27,13 @@ use Rattle.dwz_law_layout.specs.Unfitted.{common_unit_forms, file_unit_forms}
 
 -- In a file that is written, an entry that stands for itself has its name in the unit that owns it.
 abbrev pub OwnedLaw : Type 0
-OwnedLaw = OfFiles (λ f k n bytes x. changes (move f) (units f) n ≡ true
+OwnedLaw = OfFiles (λ beside f k n bytes x. changes (move f) (units f) n ≡ true
     → (i : ℕ) (r : EntryRow) (d : Node ℕ) → IsRead (file_read f n bytes x) i r d → IsItself f (entry_name f n d)
     → StandsIn (units_written f) (entry_name f n d) (owner_of k (number_of k (row n i))))
 
 -- a partial unit has its number among the units that are written
 abbrev pub PartsLaw : Type 0
-PartsLaw = (f : RunFacts) (t : TextsAt) (k : EntryTable) → AreFacts f → AreListed f t k
+PartsLaw = (beside : Beside) (f : RunFacts beside) (t : TextsAt) (k : EntryTable) → AreFacts f → AreListed f t k
     → (p : ℕ) (part : PartialUnit) → Nth 0 (move f).parts p part
     → slice_get (units_written f) (unit_of_part k p) ≡ Some (partial_unit (move f) p)
 
@@ -40,13 +41,13 @@ PartsLaw = (f : RunFacts) (t : TextsAt) (k : EntryTable) → AreFacts f → AreL
 
 -- From a unit of the common file: whether what an entry of a file names stands in it, and in its file, is told by owners.
 abbrev pub CommonReachedLaw : Type 0
-CommonReachedLaw = OfFiles (λ f k n bytes x. changes (move f) (units f) n ≡ true
+CommonReachedLaw = OfFiles (λ beside f k n bytes x. changes (move f) (units f) n ≡ true
     → (here : ℕ) (u : DwUnit EntryName) → slice_get (units_written f) here ≡ Some u → In u (common_units (move f))
     → (o : UnitItems) → KnowsOwners (keys f) k (file_read f n bytes x) here o (common_unit_forms f u))
 
 -- so from a unit of the entry's own file
 abbrev pub FileReachedLaw : Type 0
-FileReachedLaw = OfFiles (λ f k n bytes x. changes (move f) (units f) n ≡ true
+FileReachedLaw = OfFiles (λ beside f k n bytes x. changes (move f) (units f) n ≡ true
     → (here : ℕ) (u : DwUnit EntryName) → slice_get (units_written f) here ≡ Some u → In u (out_units (move f) (units f) n)
     → (o : UnitItems) → KnowsOwners (keys f) k (file_read f n bytes x) here o (file_unit_forms f n u))
 
@@ -59,13 +60,13 @@ pub record ReachesPart (names : Keys EntryName) (k : EntryTable) (here : ℕ) (f
 
 -- from a unit of the common file
 abbrev pub CommonPartsLaw : Type 0
-CommonPartsLaw = (f : RunFacts) (t : TextsAt) (k : EntryTable) → AreFacts f → AreListed f t k
+CommonPartsLaw = (beside : Beside) (f : RunFacts beside) (t : TextsAt) (k : EntryTable) → AreFacts f → AreListed f t k
     → (here : ℕ) (u : DwUnit EntryName) → slice_get (units_written f) here ≡ Some u → In u (common_units (move f))
     → (p : ℕ) (part : PartialUnit) → Nth 0 (move f).parts p part → ReachesPart (keys f) k here (common_unit_forms f u) p
 
 -- from a unit of a file that is written, where the partial unit is of that file, or of the common one
 abbrev pub FilePartsLaw : Type 0
-FilePartsLaw = OfFiles (λ f k n bytes x. changes (move f) (units f) n ≡ true
+FilePartsLaw = OfFiles (λ beside f k n bytes x. changes (move f) (units f) n ≡ true
     → (here : ℕ) (u : DwUnit EntryName) → slice_get (units_written f) here ≡ Some u → In u (out_units (move f) (units f) n)
     → (p : ℕ) (part : PartialUnit) → Nth 0 (move f).parts p part → (part.home ≡ Common) ⊎ (part.home ≡ Local n)
     → ReachesPart (keys f) k here (file_unit_forms f n u) p)

@@ -20,6 +20,7 @@ use Rattle.dwz_layout.specs.declared.order.Sort.{Sort}
 use Rattle.dwz_layout.specs.declared.order.UnitItems.{UnitItems}
 use Rattle.dwz_encode.specs.Shown.{SortShows}
 use Rattle.dwz_law_layout.specs.Knows.{ShowsRoot, ShowsWhole}
+use Rattle.dwz_law_layout.specs.Beside.{Beside}
 use Rattle.dwz_law_layout.specs.Facts.{AreFacts, HasFile, RunFacts, file_read, move, units}
 use Rattle.dwz_law_layout.specs.Listed.{AreListed, TextsAt}
 use Rattle.dwz_law_layout.specs.Named.{keys}
@@ -27,7 +28,7 @@ use Rattle.dwz_law_layout.specs.Trees.{IsReadFile}
 
 -- The unit of the file is kept by that sort: the root that is named there is its own, and so is all below it; and so is the entry of its
 -- type, where it is a type unit.
-pub record UnitShown (f : RunFacts) (n : ℕ) (bytes : List ℕ) (x : File) (u : DwUnit EntryName) (o : Sort) : Type 0 where
+pub record UnitShown {beside : Beside} (f : RunFacts beside) (n : ℕ) (bytes : List ℕ) (x : File) (u : DwUnit EntryName) (o : Sort) : Type 0 where
   pub sort : SortShows (keys f) o (kind_map (image_in (move f)) u.kind)
   pub root : (here : ℕ) → ShowsRoot (keys f) (file_read f n bytes x ∷ []) here o (node_map (image_in (move f)) u.root)
   pub whole : ShowsWhole (file_read f n bytes x ∷ []) o (node_map (image_in (move f)) u.root) (entries_map (image_in (move f)) u.below)
@@ -35,7 +36,7 @@ pub record UnitShown (f : RunFacts) (n : ℕ) (bytes : List ℕ) (x : File) (u :
 -- so it is of the units of a file, one by one, where the sorts are theirs
 abbrev pub UnitsShownLaw : Type 0
 UnitsShownLaw =
-    (f : RunFacts) (t : TextsAt) (k : EntryTable) → AreFacts f → AreListed f t k
+    (beside : Beside) (f : RunFacts beside) (t : TextsAt) (k : EntryTable) → AreFacts f → AreListed f t k
     → (n : ℕ) (bytes : List ℕ) (x : File) (index : Index) → HasFile f n bytes x index
     → (start : ℕ) → slice_get (starts_from 0 f.indexes) n ≡ Some start
     → (marks : Marks) (imports : ℕ → List ℕ) (from : From) (next : Next) (order : List UnitItems)
@@ -45,10 +46,10 @@ UnitsShownLaw =
 
 -- each unit is of a file
 abbrev pub UnitFilesLaw : Type 0
-UnitFilesLaw = (f : RunFacts) → AreFacts f → (i : ℕ) (u : FileUnit EntryName) → Nth 0 (units f) i u → IsReadFile f u.file
+UnitFilesLaw = (beside : Beside) (f : RunFacts beside) → AreFacts f → (i : ℕ) (u : FileUnit EntryName) → Nth 0 (units f) i u → IsReadFile f u.file
 
 -- before and behind the units of a file those of others stand
 abbrev pub OthersLaw : Type 0
 OthersLaw =
-    (f : RunFacts) → AreFacts f → (n : ℕ) (bytes : List ℕ) (x : File) (index : Index) → HasFile f n bytes x index
+    (beside : Beside) (f : RunFacts beside) → AreFacts f → (n : ℕ) (bytes : List ℕ) (x : File) (index : Index) → HasFile f n bytes x index
     → (is : IsFileAmong f.contents n bytes x index) → Each (IsOther n) is.units.front × Each (IsOther n) is.units.back

@@ -10,13 +10,15 @@ use Rattle.dwz_layout_order.specs.Shown.{KnowsSpaces}
 use Rattle.dwz_layout.specs.declared.order.Sort.TheVariants.{Partial}
 use Rattle.dwz_layout_order.specs.declared.orders.Settled.{Settled}
 use Rattle.dwz_layout_order.specs.Ordered.{line_given}
-use Rattle.dwz_law_layout.specs.Facts.{RunFacts, move, units, written}
+use Rattle.dwz_law_layout.specs.Beside.{Beside}
+use Rattle.dwz_law_layout.specs.Facts.{IsMade, RunFacts, move, units, written}
 
--- the root of each partial unit has the line table that is said
-abbrev pub HaveLines : RunFacts → Settled → Type 0
-HaveLines f s = (n : ℕ) (part : PartialUnit) → Nth 0 (move f).parts n part → ShowsLine (Partial (line_given s n)) ((move f).roots n)
+-- the root of each partial unit that is made has the line table that is said
+abbrev pub HaveLines : {beside : Beside} → RunFacts beside → Settled → Type 0
+HaveLines f s = (n : ℕ) (part : PartialUnit) → Nth 0 (move f).parts n part → IsMade f part.home
+    → ShowsLine (Partial (line_given s n)) ((move f).roots n)
 
-pub record IsSettled (f : RunFacts) (s : Settled) : Type 0 where
+pub record IsSettled {beside : Beside} (f : RunFacts beside) (s : Settled) : Type 0 where
   pub plan : s.plan.now ≡ f.planned
   pub files : s.files.now ≡ written f
   pub marks : MarksAll (move f) (units f) s.marks

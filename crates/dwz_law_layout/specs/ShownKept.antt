@@ -14,6 +14,7 @@ use Rattle.dwz_layout.specs.declared.known.EntryTable.{EntryTable}
 use Rattle.dwz_layout.specs.declared.order.UnitItems.{UnitItems}
 use Rattle.dwz_law_layout.specs.Fitted.{KnowUnits}
 use Rattle.dwz_law_layout.specs.Knows.{NewNumbers}
+use Rattle.dwz_law_layout.specs.Beside.{Beside}
 use Rattle.dwz_law_layout.specs.Facts.{AreFacts, HasFile, RunFacts, move, units, units_written, written}
 use Rattle.dwz_law_layout.specs.Listed.{AreListed, TextsAt}
 use Rattle.dwz_law_layout.specs.Named.{keys}
@@ -21,18 +22,18 @@ use Rattle.dwz_law_layout.specs.Settled.{IsSettled}
 use Rattle.dwz_law_layout.specs.Unfitted.{KnowTexts, file_keyed_forms}
 
 -- these units have the numbers from that one on among all that are written
-abbrev pub AreWrittenFrom : RunFacts → (here : ℕ) → List (DwUnit EntryName) → Type 0
+abbrev pub AreWrittenFrom : {beside : Beside} → RunFacts beside → (here : ℕ) → List (DwUnit EntryName) → Type 0
 AreWrittenFrom f here us = (j : ℕ) (u : DwUnit EntryName) → slice_get us j ≡ Some u → slice_get (units_written f) (here + j) ≡ Some u
 
 -- the old units of a file after
-abbrev pub olds_after : RunFacts → ℕ → List (DwUnit EntryName)
+abbrev pub olds_after : {beside : Beside} → RunFacts beside → ℕ → List (DwUnit EntryName)
 olds_after f n = kept_units (move f) (units f) n 0 (units f)
 
 -- In a file that is written, what is written of its old units is what is known of those after, if their texts stand where the definitions
 -- say.
 abbrev pub KeptKnownLaw : Type 0
 KeptKnownLaw =
-    (f : RunFacts) (t : TextsAt) (k : EntryTable) (s : Settled) → AreFacts f → AreListed f t k → IsSettled f s
+    (beside : Beside) (f : RunFacts beside) (t : TextsAt) (k : EntryTable) (s : Settled) → AreFacts f → AreListed f t k → IsSettled f s
     → (n : ℕ) (bytes : List ℕ) (x : File) (index : Index) → HasFile f n bytes x index → slice_index_or (written f) n false ≡ true
     → (start : ℕ) → slice_get (starts_from 0 f.indexes) n ≡ Some start
     → (numbers : NewNumbers) (here : ℕ) (order : List UnitItems)

@@ -13,12 +13,13 @@ use Rattle.dwz_law_layout.specs.Old.{IsSpaceIn}
 use Rattle.dwz_layout.specs.declared.known.EntryTable.{EntryTable}
 use Rattle.dwz_layout.specs.Known.{space_at, top_row}
 use Rattle.dwz_law_layout.specs.Knows.{ShowsRow, ShowsTree}
+use Rattle.dwz_law_layout.specs.Beside.{Beside}
 use Rattle.dwz_law_layout.specs.Facts.{AreFacts, HasFile, RunFacts, file_read, move, units}
 use Rattle.dwz_law_layout.specs.Listed.{entry_row, space_entries}
 use Rattle.dwz_law_layout.specs.NamedLaws.{OfFiles}
 
 -- one of the files that were read has that number
-pub record IsReadFile (f : RunFacts) (n : ℕ) : Type 0 where
+pub record IsReadFile {beside : Beside} (f : RunFacts beside) (n : ℕ) : Type 0 where
   pub bytes : List ℕ
   pub x : File
   pub index : Index
@@ -28,19 +29,20 @@ pub record IsReadFile (f : RunFacts) (n : ℕ) : Type 0 where
 
 -- a top of a file stands from the row on that the lists have for it, with all below it
 abbrev pub TopTreesLaw : Type 0
-TopTreesLaw = OfFiles (λ f k n bytes x. (top : Top) → In top (tops_of (units f)) → top.file ≡ n
+TopTreesLaw = OfFiles (λ beside f k n bytes x. (top : Top) → In top (tops_of (units f)) → top.file ≡ n
     → ShowsTree (file_read f n bytes x) (top_row k top.number) (node_map (image_in (move f)) top.node)
     (entries_map (image_in (move f)) top.below))
 
 -- each top is of a file
 abbrev pub TopFilesLaw : Type 0
-TopFilesLaw = (f : RunFacts) → AreFacts f → (top : Top) → In top (tops_of (units f)) → IsReadFile f top.file
+TopFilesLaw = (beside : Beside) (f : RunFacts beside) → AreFacts f → (top : Top) → In top (tops_of (units f)) → IsReadFile f top.file
 
 -- ---- spaces
 
 -- The space with that number, which is this entry, stands at the row that the lists have for it; it means a space with the name that the
 -- number has.
-pub record SpaceShown (f : RunFacts) (k : EntryTable) (n : ℕ) (bytes : List ℕ) (x : File) (s : ℕ) (e : Node EntryName) : Type 0 where
+pub record SpaceShown {beside : Beside} (f : RunFacts beside) (k : EntryTable) (n : ℕ) (bytes : List ℕ) (x : File) (s : ℕ)
+    (e : Node EntryName) : Type 0 where
   pub shows : ShowsRow (file_read f n bytes x) (space_at k s).row (node_map (image_in (move f)) e)
   pub listed : slice_get (space_entries 0 f.indexes) s ≡ Some (entry_row n shows.i)
   pub text : List ℕ
@@ -49,7 +51,7 @@ pub record SpaceShown (f : RunFacts) (k : EntryTable) (n : ℕ) (bytes : List �
 
 -- so it is of each space of a unit of the file
 abbrev pub SpaceRowsLaw : Type 0
-SpaceRowsLaw = OfFiles (λ f k n bytes x. (i s : ℕ) (u : FileUnit EntryName) (e : Node EntryName) → Nth 0 (units f) i u → u.file ≡ n
+SpaceRowsLaw = OfFiles (λ beside f k n bytes x. (i s : ℕ) (u : FileUnit EntryName) (e : Node EntryName) → Nth 0 (units f) i u → u.file ≡ n
     → IsSpaceIn (units f) i s → slice_get (spaces_of (units f)) s ≡ Some e → SpaceShown f k n bytes x s e)
 
 -- the unit that the space with that number is in

@@ -6,7 +6,8 @@ ghost use Rattle.dwz_law_layout.specs.OwnedLaws.{CommonPartsLaw, CommonReachedLa
 ghost use Rattle.dwz_law_layout.specs.Fair.{FairLaw};
 ghost use Rattle.dwz_law_layout.specs.Whole.{WholeLaw};
 ghost use Rattle.dwz_law_layout.specs.Items.{KeptItemsLaw, PartItemsLaw};
-ghost use Rattle.dwz_law_layout.specs.New.{FirstUnitLaw, NewItemsLaw, PartPlaceLaw, PartTopsLaw, StayPlaceLaw, TopUnitLaw, UsedHomeLaw, WaysLaw};
+ghost use Rattle.dwz_law_layout.specs.New.{NewItemsLaw, PartPlaceLaw, StayPlaceLaw, TopUnitLaw, UsedHomeLaw, WaysLaw};
+ghost use Rattle.dwz_law_layout.specs.Moving.{MovesSoLaw};
 ghost use Rattle.dwz_law_layout.specs.Old.{OldItemsLaw, SpaceLaw};
 ghost use Rattle.dwz_law_layout.specs.Roots.{OthersLaw, UnitFilesLaw, UnitsShownLaw};
 ghost use Rattle.dwz_law_layout.specs.Trees.{SpaceRowsLaw, SpaceUnitsLaw, TopFilesLaw, TopTreesLaw};
@@ -14,7 +15,7 @@ ghost use Rattle.dwz_law_layout.specs.Refers.{NamesThereLaw, NumbersCountedLaw, 
 ghost use Rattle.dwz_law_layout.specs.Apart.{EntryNameLaw, RowsApartLaw, UnitNameLaw};
 ghost use Rattle.dwz_law_layout.specs.ShownKept.{KeptKnownLaw};
 ghost use Rattle.dwz_law_layout.specs.ShownParts.{CommonKnownLaw, PartsKnownLaw};
-ghost use Rattle.dwz_law_layout.specs.Laid.{NoneKnownLaw, RunFewLaw, RunFittedLaw, RunKnownLaw, RunOrderLaw, RunShownLaw, SettledOrderLaw};
+ghost use Rattle.dwz_law_layout.specs.Laid.{FilesFittedLaw, FilesKnownLaw, FilesShownLaw, NoneKnownLaw, RunFewLaw, RunFittedLaw, RunKnownLaw, RunOrderLaw, RunShownLaw, SettledOrderLaw};
 ghost use Rattle.dwz_law_layout.specs.Laid.{RunLaidLaw, RunPlacesLaw, RunRootsLaw, RunSelfLaw};
 
 /// A rule that finds tops alike exactly where they are is fair, if its choice is as it is asked for. And what is written by it is whole: no
@@ -69,8 +70,7 @@ pub fn laid_unit_laws()
 /// stays has its place in its unit. A unit uses partial units of its own file, and of the common one.
 pub fn plan_laws()
     ensures units { TopUnitLaw }
-    ensures tops { PartTopsLaw }
-    ensures first { FirstUnitLaw }
+    ensures moves { MovesSoLaw }
     ensures places { PartPlaceLaw }
     ensures stays { StayPlaceLaw }
     ensures used { UsedHomeLaw }
@@ -132,13 +132,16 @@ pub fn parts_known_laws()
 /// The common file and the files that are written, with the forms of their values and, where a file is prunable, the new numbers of its
 /// texts, are those of the run, so that what is known of them before shows them.
 pub fn fitted_laws()
+    ensures written { FilesFittedLaw }
     ensures fitted { RunFittedLaw }
+    ensures files { FilesShownLaw }
     ensures shown { RunShownLaw }
 {}
 
 /// All that is written is known: the partial units of the common file (DWARF 5, 7.3.6), and then of each file that is written its partial
 /// units (DWARF 5, E.1) and what is kept of its units. Where nothing is in the common file, nothing has to be known of its texts.
 pub fn known_laws()
+    ensures files { FilesKnownLaw }
     ensures all { RunKnownLaw }
     ensures none { NoneKnownLaw }
 {}

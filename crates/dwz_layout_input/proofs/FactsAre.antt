@@ -1,27 +1,40 @@
 -- Facts are those of what was planned: where lists, rule and plan are equal, so are the facts.
-use Rattle.std.proofs.Common.{◌≡◌, ℕ, Bool, List, arith, length, map, sym, subst}
-use Rattle.dwz_def_tops.specs.Alike.{IsAlike, TopScope}
-use Rattle.dwz_def_tops.specs.Spots.{file_numbers, units_of}
+use Rattle.std.proofs.Common.{◌≡◌, ℕ, ◌+◌, ◌<◌, ◌^◌, Bool, List, arith, length, map, sym, subst}
+use Rattle.dwz_def_reading.specs.Lists.{Each}
+use Rattle.dwz_def_reading.specs.Values.{AreBytes}
+use Rattle.dwz_def_reading.proofs.ListFacts.{got_below}
+use Rattle.dwz_def_tops.specs.Spots.{Within, file_numbers, units_of}
 use Rattle.dwz_def_readback.specs.Files.{imports_common}
 use Rattle.dwz_layout_order.proofs.FilesFew.{names_few}
-use Rattle.dwz_graph.specs.Files.{docs_of}
+use Rattle.dwz_graph.specs.Files.{AreKept, docs_of}
 use Rattle.dwz_graph.specs.Index.{Index}
-use Rattle.dwz_def_plan.specs.Homes.{IsChoice, Rule}
+use Rattle.dwz_def_plan.specs.Homes.{Rule}
+use Rattle.dwz_def_plan.specs.Moves.{plan}
 use Rattle.dwz_plan.specs.declared.plan.Scope.{Scope}
 use Rattle.dwz_plan.specs.Planned.{Planned}
-use Rattle.dwz_plan.specs.Shows.{ShowsPlan}
+use Rattle.dwz_plan.specs.ShowsMove.{ShowsMove}
+use Rattle.dwz_plan.proofs.BridgeLemmas.{file_numbers_are}
+use Rattle.dwz_plan.proofs.ShownMoves.{plan_moves}
 use Rattle.dwz_plan_files.specs.declared.planned.PlannedFiles.{PlannedFiles}
 use Rattle.dwz_plan_files.specs.Rules.{alike_scope, rule_by}
 use Rattle.dwz_plan_files.proofs.PlanFits.{alike_is, choice_is}
+use Rattle.dwz_layout_numbers.specs.Images.{IsPlanned}
+use Rattle.dwz_layout_numbers.specs.Names.{AreTopEntries, all_names}
+use Rattle.dwz_layout_numbers.specs.OwnerLaws.{HoldTops}
 use Rattle.dwz_layout_numbers.specs.Owners.{move_of}
-use Rattle.dwz_law_layout.specs.Facts.{RunFacts, docs, move, rule, units}
+use Rattle.dwz_layout_numbers.proofs.PlanMoves.{plan_holds, plan_stands}
+use Rattle.dwz_law_layout.specs.Beside.{Alone}
+use Rattle.dwz_law_layout.specs.Facts.{IsMade, RunFacts, StandBehind, common, docs, every, move, run, units}
+use Rattle.dwz_law_layout.specs.Moving.{MovesSo}
+use Rattle.dwz_law_layout.specs.Whole.{AreWhole}
 use Rattle.dwz_law_layout.proofs.FairLemmas.{fair_by}
 use Rattle.dwz_law_layout.proofs.ReadFiles.{files_placed}
+use Rattle.dwz_law_layout.proofs.RuleMoves.{moves_so}
 use Rattle.dwz_law_layout.proofs.WholeRuns.{whole_runs}
 use Rattle.dwz_layout_input.specs.Settled.{AreFactsOf, ArePlanned, FactsLaw}
 
 -- the facts with these contents and indexes, and so on
-abbrev pub facts_with : List (List ℕ) → List Index → Rule → Planned → RunFacts → RunFacts
+abbrev pub facts_with : List (List ℕ) → List Index → Rule → Planned → RunFacts Alone → RunFacts Alone
 facts_with contents indexes rule planned f = record {
   contents = contents;
   files = f.files;
@@ -34,7 +47,7 @@ facts_with contents indexes rule planned f = record {
   olds = f.olds;
 }
 
-module _ (contents : List (List ℕ)) (indexes : List Index) (sharing : Scope) (p : PlannedFiles) (f : RunFacts) (of : AreFactsOf contents indexes sharing p f) where
+module _ (contents : List (List ℕ)) (indexes : List Index) (sharing : Scope) (p : PlannedFiles) (f : RunFacts Alone) (of : AreFactsOf contents indexes sharing p f) where
   pub facts_same : facts_with contents indexes (rule_by sharing (docs_of contents)) p.plan f ≡ f
   facts_same = λ i. record {
     contents = sym of.contents_are i;
@@ -52,34 +65,64 @@ module _ (contents : List (List ℕ)) (indexes : List Index) (sharing : Scope) (
   pub imports_are : (flags : List Bool)
       → flags ≡ map (imports_common (move_of (rule_by sharing (docs_of contents)) (docs_of contents)) (units_of (docs_of contents))) (file_numbers 0 (docs_of contents))
       → flags ≡ map (imports_common (move f) (units f)) (file_numbers 0 (docs f))
-  imports_are flags are = subst (λ (w : RunFacts). flags ≡ map (imports_common (move w) (units w)) (file_numbers 0 (docs w))) facts_same are
+  imports_are flags are = subst (λ (w : RunFacts Alone). flags ≡ map (imports_common (move w) (units w)) (file_numbers 0 (docs w))) facts_same are
 
--- what the rule of facts finds
-pub record AreRuled (f : RunFacts) : Type 0 where
-  pub scope : TopScope
-  pub alike : IsAlike scope (units f) (rule f).alike
-  pub choice : IsChoice (units f) (rule f)
-  pub shows : ShowsPlan (rule f) (units f) (length (docs f)) f.planned
+-- what is known of a move, of what is written by it, and of entries
+pub record AreRuled (f : RunFacts Alone) : Type 0 where
+  pub goes : MovesSo (IsMade f) (move f) (units f)
+  pub whole : AreWhole (common f) (docs f) (run f)
+  pub holds : HoldTops (units f) (move f)
+  pub images : (tops : List ℕ) → AreTopEntries (every f) tops → IsPlanned (every f) (move f) f.planned tops
+  pub behind : StandBehind f
+  pub shows : ShowsMove (move f) (units f) (length (docs f)) f.planned
+  pub few : length (all_names (every f)) < 2 ^ 32
 
-ruled : (contents : List (List ℕ)) (indexes : List Index) (sharing : Scope) (p : PlannedFiles) (f : RunFacts) → ArePlanned sharing (docs_of contents) p
-    → AreRuled (facts_with contents indexes (rule_by sharing (docs_of contents)) p.plan f)
-ruled contents indexes sharing p f planned = record { scope = alike_scope sharing; alike = alike_is sharing (docs_of contents); choice = choice_is sharing (docs_of contents); shows = planned.plan }
+-- so it is by the rule, where nothing stands beside the files
+ruled : (contents : List (List ℕ)) (indexes : List Index) (sharing : Scope) (p : PlannedFiles) (f : RunFacts Alone) → ArePlanned sharing (docs_of contents) p
+    → AreKept contents f.files → Each AreBytes contents → AreRuled (facts_with contents indexes (rule_by sharing (docs_of contents)) p.plan f)
+ruled contents indexes sharing p f planned kept bytes =
+    let ds = docs_of contents in
+    let us = units_of ds in
+    let rule = rule_by sharing ds in
+    let alike = alike_is sharing ds in
+    let choice = choice_is sharing ds in
+    let few = names_few contents f.files kept in
+    let shows : ShowsMove (move_of rule ds) us (length ds) p.plan =
+    subst (λ (fs : List ℕ). ShowsMove (plan rule us fs) us (length ds) p.plan) (sym (file_numbers_are 0 ds)) (plan_moves rule us (length ds) p.plan planned.plan) in
+    record {
+      goes = moves_so us rule (fair_by (alike_scope sharing) us rule alike choice) (file_numbers 0 ds);
+      whole = whole_runs (alike_scope sharing) ds rule (files_placed contents f.files kept bytes) alike choice f.input;
+      holds = plan_holds rule us (file_numbers 0 ds);
+      images = λ tops are. record {
+        few = omega (arith, few);
+        stand = plan_stands (alike_scope sharing) ds rule alike (file_numbers 0 ds);
+        shows = λ t there. shows.stand_ins t there;
+        tops_are = are;
+      };
+      behind = record {
+        many = omega arith;
+        stand = λ j top path e. (let lt = got_below (all_names ds) (length (all_names ds) + j) (Within top path) e in absurd (omega (arith, lt)));
+      };
+      shows = shows;
+      few = omega (arith, few);
+    }
 
 pub facts_are : FactsLaw
 facts_are contents indexes sharing p f planned of stored numbers =
-    let r = subst AreRuled (facts_same contents indexes sharing p f of) (ruled contents indexes sharing p f planned) in
-    let few = names_few f.contents f.files stored.kept in
-    let placed = files_placed f.contents f.files stored.kept stored.bytes in
+    let kept = subst (λ (w : List (List ℕ)). AreKept w f.files) of.contents_are stored.kept in
+    let bytes = subst (λ (w : List (List ℕ)). Each AreBytes w) of.contents_are stored.bytes in
+    let r = subst AreRuled (facts_same contents indexes sharing p f of) (ruled contents indexes sharing p f planned kept bytes) in
     record {
       bytes = stored.bytes;
       kept = stored.kept;
       indexed = stored.indexed;
       stored = stored.stored;
-      fair = fair_by r.scope (units f) (rule f) r.alike r.choice;
-      whole = whole_runs r.scope (docs f) (rule f) placed r.alike r.choice f.input;
-      moved = record { placed = placed; scope = r.scope; alike = r.alike; choice = r.choice; shows = r.shows; numbers = numbers };
-      images = λ tops are. record { few = omega (arith, few); scope = r.scope; alike = r.alike; shows = r.shows; tops_are = are };
+      goes = r.goes;
+      whole = r.whole;
+      holds = r.holds;
+      images = r.images;
+      behind = r.behind;
       shows = r.shows;
       numbers = numbers;
-      few = few;
+      few = r.few;
     }

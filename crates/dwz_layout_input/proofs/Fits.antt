@@ -23,6 +23,7 @@ use Rattle.dwz_layout_numbers.specs.Whole.{AreWhole}
 use Rattle.dwz_layout_numbers.proofs.WholeLemmas.{all_inside, top_entries}
 use Rattle.dwz_plan.specs.Planned.{Planned}
 use Rattle.dwz_unit.specs.Rows.{units_of as raw_units}
+use Rattle.dwz_law_layout.specs.Beside.{Alone}
 use Rattle.dwz_law_layout.specs.Facts.{AreFacts, RunFacts, docs}
 use Rattle.dwz_layout_input.specs.Needs.{AreMade, IsFit}
 
@@ -74,7 +75,7 @@ fit contents files indexes plan kept is few homes stands =
       stand_ins = stands ∙ sym tops.many;
     }
 
-pub made : (f : RunFacts) (numbers : UnitNumbers) → AreFacts f → f.parts ≡ numbers.parts.items → f.olds ≡ numbers.olds.items → f.commons ≡ numbers.commons
+pub made : (f : RunFacts Alone) (numbers : UnitNumbers) → AreFacts f → f.parts ≡ numbers.parts.items → f.olds ≡ numbers.olds.items → f.commons ≡ numbers.commons
     → AreMade f f.files f.indexes f.planned numbers
 made f numbers h parts olds commons =
     record {

@@ -13,6 +13,7 @@ use Rattle.dwz_layout_numbers.specs.declared.numbers.UnitNumbers.{UnitNumbers}
 use Rattle.dwz_layout_numbers.specs.Owners.{AddsOwners, AreOwners}
 use Rattle.dwz_plan.specs.Planned.{Planned}
 use Rattle.dwz_unit.specs.Rows.{rows_of, units_of}
+use Rattle.dwz_law_layout.specs.Beside.{Alone}
 use Rattle.dwz_law_layout.specs.Facts.{RunFacts, docs}
 use Rattle.dwz_law_layout.specs.Listed.{AreAllOwners}
 use Rattle.dwz_layout_input.specs.Needs.{AreMade}
@@ -29,7 +30,7 @@ names_there s (d ∷ ds) (y ∷ xs) end h (suc k) x e = names_there (starts_behi
 module _ (files : List File) (indexes : List Index) (plan : Planned) (numbers : UnitNumbers) where
   -- with those that are left, the owners so far are those of all files
   pub record Owning (n : ℕ) (owners : List ℕ) : Type 0 where
-    pub so : (f : RunFacts) → AreMade f files indexes plan numbers → (rest : List ℕ) → AreAllOwners f (drop n files) (drop n indexes) rest → AreAllOwners f files indexes (owners ++ rest)
+    pub so : (f : RunFacts Alone) → AreMade f files indexes plan numbers → (rest : List ℕ) → AreAllOwners f (drop n files) (drop n indexes) rest → AreAllOwners f files indexes (owners ++ rest)
 
   pub owners_first : (owners : List ℕ) → owners ≡ [] → Owning 0 owners
   owners_first owners none = record { so = λ f made rest h. subst (λ (w : List ℕ). AreAllOwners f files indexes (w ++ rest)) (sym none) h }
@@ -39,7 +40,7 @@ module _ (files : List File) (indexes : List Index) (plan : Planned) (numbers : 
     Adds = (names : List EntryName) → IsIndex names index → AddsOwners plan numbers.parts.items numbers.olds.items index.starts.unit (rows_of (units_of x.units)) names old new
 
     -- they are the same by all names
-    owned_by : (f : RunFacts) → AreMade f files indexes plan numbers → Adds → (more : List ℕ) → new ≡ old ++ more → (names : List EntryName) → IsIndex names index
+    owned_by : (f : RunFacts Alone) → AreMade f files indexes plan numbers → Adds → (more : List ℕ) → new ≡ old ++ more → (names : List EntryName) → IsIndex names index
         → AreOwners f.planned f.parts f.olds index.starts.unit (rows_of (units_of x.units)) names more
     owned_by f made adds more is names shows =
         let b = adds names shows in
@@ -62,7 +63,7 @@ module _ (files : List File) (indexes : List Index) (plan : Planned) (numbers : 
           subst (λ (w : List ℕ). AreAllOwners f files indexes w) (sym (ap (λ (w : List ℕ). w ++ rest) a.is ∙ append_assoc old a.more rest)) (g.so f made (a.more ++ rest) back));
     }
 
-  pub owners_done : (n : ℕ) (owners : List ℕ) → length files ≤ n → length indexes ≡ length files → Owning n owners → (f : RunFacts) → AreMade f files indexes plan numbers
+  pub owners_done : (n : ℕ) (owners : List ℕ) → length files ≤ n → length indexes ≡ length files → Owning n owners → (f : RunFacts Alone) → AreMade f files indexes plan numbers
       → AreAllOwners f files indexes owners
   owners_done n owners le li g f made =
       let back : AreAllOwners f (drop n files) (drop n indexes) [] =

@@ -15,7 +15,8 @@ use Rattle.dwz_layout.specs.declared.known.ValueCounts.{ValueCounts}
 use Rattle.dwz_layout.specs.declared.known.TextAt.{TextAt}
 use Rattle.dwz_plan.specs.Planned.{Planned}
 use Rattle.dwz_unit.specs.Rows.{rows_of, units_of}
-use Rattle.dwz_law_layout.specs.Facts.{RunFacts, docs, rule}
+use Rattle.dwz_law_layout.specs.Beside.{Alone}
+use Rattle.dwz_law_layout.specs.Facts.{RunFacts, every, move}
 use Rattle.dwz_law_layout.specs.Listed.{AreRows, HaveFirsts, IsListed, firsts_from, none_before}
 
 -- ---- where what entries name begins
@@ -92,7 +93,7 @@ module _ (files : List File) (indexes : List Index) (plan : Planned) (tops start
   -- with the rows that are left, the rows so far are those of all files
   pub record Going (left : List (Vec TextAt Global)) (n : ℕ) (rows : List FileRows) : Type 0 where
     pub many : n + length left ≡ length files
-    pub so : (f : RunFacts) → IsPlanned (docs f) (rule f) plan tops → (rest : List FileRows)
+    pub so : (f : RunFacts Alone) → IsPlanned (every f) (move f) plan tops → (rest : List FileRows)
         → AreRows f (drop n files) (drop n indexes) (drop n starts) (map shown left) rest → AreRows f files indexes starts (map shown all) (rows ++ rest)
 
   pub rows_first : (left : List (Vec TextAt Global)) (rows : List FileRows) → left ≡ all → length all ≡ length files → rows ≡ [] → Going left 0 rows
@@ -107,7 +108,7 @@ module _ (files : List File) (indexes : List Index) (plan : Planned) (tops start
 
   pub rows_next : (left more : List (Vec TextAt Global)) (n : ℕ) (old new : List FileRows) (x : File) (index : Index) (s : ℕ) (t : Vec TextAt Global) (row : FileRows)
       → n < length files → x ≡ get_or files n x → n < length indexes → index ≡ get_or indexes n index → n < length starts → s ≡ get_or starts n s
-      → left ≡ t ∷ more → new ≡ old ++ row ∷ [] → ((f : RunFacts) → IsPlanned (docs f) (rule f) plan tops → IsListed f x index s t.items row)
+      → left ≡ t ∷ more → new ≡ old ++ row ∷ [] → ((f : RunFacts Alone) → IsPlanned (every f) (move f) plan tops → IsListed f x index s t.items row)
       → Going left n old → Going more (n + 1) new
   rows_next left more n old new x index s t row lt e lti ei lts es parts push listed g =
       let long : length left ≡ suc (length more) = ap (λ (w : List (Vec TextAt Global)). length w) parts in
@@ -126,7 +127,7 @@ module _ (files : List File) (indexes : List Index) (plan : Planned) (tops start
       }
 
   pub rows_done : (left : List (Vec TextAt Global)) (n : ℕ) (rows : List FileRows) → length left ≡ 0 → length indexes ≡ length files → length starts ≡ length files → Going left n rows
-      → (f : RunFacts) → IsPlanned (docs f) (rule f) plan tops → AreRows f files indexes starts (map shown all) rows
+      → (f : RunFacts Alone) → IsPlanned (every f) (move f) plan tops → AreRows f files indexes starts (map shown all) rows
   rows_done left n rows none li ls g f p =
       let many = g.many in
       let back : AreRows f (drop n files) (drop n indexes) (drop n starts) (map shown left) [] =

@@ -28,6 +28,7 @@ use Rattle.dwz_def_images.specs.Units.{changes}
 use Rattle.dwz_law_layout.specs.Settled.{IsSettled}
 use Rattle.dwz_plan_files.specs.Known.{AreSpaces}
 use Rattle.dwz_plan_files.specs.Pinned.{ArePinned, FlagsSpace}
+use Rattle.dwz_law_layout.specs.Beside.{Alone}
 use Rattle.dwz_law_layout.specs.Facts.{RunFacts}
 use Rattle.dwz_layout_input.specs.declared.settled.SettledFiles.{SettledFiles}
 use Rattle.dwz_layout_input.specs.Settled.{AreFactsOf, ArePlanned, Lends}
@@ -43,7 +44,7 @@ pub record AreParts (contents : List (List ℕ)) (indexes : List Index) (sharing
   pub written : r.written.items ≡ map (changes (move_of (rule_by sharing (docs_of contents)) (docs_of contents)) (units_of (docs_of contents))) (file_numbers 0 (docs_of contents))
 
 module _ (contents : List (List ℕ)) (indexes : List Index) (sharing : Scope) (r : SettledFiles) (parts : AreParts contents indexes sharing r) (s : Settled) (lends : Lends r s) where
-  settled_with : (f : RunFacts) → IsSettled (facts_with contents indexes (rule_by sharing (docs_of contents)) r.planned.plan f) s
+  settled_with : (f : RunFacts Alone) → IsSettled (facts_with contents indexes (rule_by sharing (docs_of contents)) r.planned.plan f) s
   settled_with f =
       let docs = docs_of contents in
       let units = units_of docs in
@@ -61,11 +62,11 @@ module _ (contents : List (List ℕ)) (indexes : List Index) (sharing : Scope) (
         rows_are = lends.rows ∙ sp.rows_are;
         spaces = subst (λ (w : List SpaceRow). KnowsSpaces units w sp.texts sp.lists (all_tops indexes)) (sym lends.rows) sp.knows;
         of_tops = lends.of_tops ∙ sp.of_tops_are;
-        lines = λ n part nth. subst (λ (w : List (Option ℕ)). ShowsLine (PartialSort (slice_index_or w n None)) ((move_of rule docs).roots n)) (sym lends.lines) (parts.lines.each n part nth);
+        lines = λ n part nth is_made. subst (λ (w : List (Option ℕ)). ShowsLine (PartialSort (slice_index_or w n None)) ((move_of rule docs).roots n)) (sym lends.lines) (parts.lines.each n part nth);
       }
 
-  pub all_settled : (f : RunFacts) → AreFactsOf contents indexes sharing r.planned f → IsSettled f s
-  all_settled f of = subst (λ (w : RunFacts). IsSettled w s) (facts_same contents indexes sharing r.planned f of) (settled_with f)
+  pub all_settled : (f : RunFacts Alone) → AreFactsOf contents indexes sharing r.planned f → IsSettled f s
+  all_settled f of = subst (λ (w : RunFacts Alone). IsSettled w s) (facts_same contents indexes sharing r.planned f of) (settled_with f)
 
   pub all_fit : (files : List File) → AreKept contents files → AreIndexes (docs_of contents) indexes → AreSettled s
   all_fit files kept indexed =

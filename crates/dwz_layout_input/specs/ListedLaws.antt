@@ -7,6 +7,7 @@ use Rattle.dwz_graph.specs.Index.{Index}
 use Rattle.dwz_graph.specs.Indexed.{AreIndexes}
 use Rattle.dwz_layout_numbers.specs.declared.numbers.UnitNumbers.{UnitNumbers}
 use Rattle.dwz_plan.specs.Planned.{Planned}
+use Rattle.dwz_law_layout.specs.Beside.{Alone}
 use Rattle.dwz_law_layout.specs.Facts.{AreFacts, RunFacts}
 use Rattle.dwz_layout_input.specs.Needs.{AreMade, IsFit}
 
@@ -21,6 +22,6 @@ FitLaw =
 -- what is known of files that were read is of them, and of the numbers of their units
 abbrev pub MadeLaw : Type 0
 MadeLaw =
-    (f : RunFacts) (numbers : UnitNumbers) → AreFacts f
+    (f : RunFacts Alone) (numbers : UnitNumbers) → AreFacts f
     → f.parts ≡ numbers.parts.items → f.olds ≡ numbers.olds.items → f.commons ≡ numbers.commons
     → AreMade f f.files f.indexes f.planned numbers

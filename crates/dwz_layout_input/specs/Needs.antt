@@ -8,7 +8,8 @@ use Rattle.dwz_layout_numbers.specs.declared.numbers.UnitNumbers.{UnitNumbers}
 use Rattle.dwz_layout_numbers.specs.Images.{IsPlanned, entry_count, tops_from}
 use Rattle.dwz_plan.specs.Planned.{Planned}
 use Rattle.dwz_unit.specs.Rows.{units_of}
-use Rattle.dwz_law_layout.specs.Facts.{RunFacts, docs, rule}
+use Rattle.dwz_law_layout.specs.Beside.{Alone}
+use Rattle.dwz_law_layout.specs.Facts.{RunFacts, docs, every, move}
 
 -- the index has all entries of the file, and its references name some of them
 pub record FitsFile (x : File) (index : Index) : Type 0 where
@@ -28,7 +29,7 @@ pub record IsFit (files : List File) (indexes : List Index) (plan : Planned) : T
   pub stand_ins : length plan.stand_ins ≡ length (tops_from 0 indexes)
 
 -- what is known is of these files, their indexes, their plan and the numbers of their units
-pub record AreMade (f : RunFacts) (files : List File) (indexes : List Index) (plan : Planned) (numbers : UnitNumbers) : Type 0 where
+pub record AreMade (f : RunFacts Alone) (files : List File) (indexes : List Index) (plan : Planned) (numbers : UnitNumbers) : Type 0 where
   pub files_are : f.files ≡ files
   pub indexes_are : f.indexes ≡ indexes
   pub plan_is : f.planned ≡ plan
@@ -36,4 +37,4 @@ pub record AreMade (f : RunFacts) (files : List File) (indexes : List Index) (pl
   pub olds_are : f.olds ≡ numbers.olds.items
   pub commons_are : f.commons ≡ numbers.commons
   pub indexed : AreIndexes (docs f) indexes
-  pub planned : IsPlanned (docs f) (rule f) plan (tops_from 0 indexes)
+  pub planned : IsPlanned (every f) (move f) plan (tops_from 0 indexes)

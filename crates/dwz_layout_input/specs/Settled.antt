@@ -14,6 +14,7 @@ use Rattle.dwz_plan_files.specs.declared.planned.PlannedFiles.{PlannedFiles}
 use Rattle.dwz_plan_files.specs.Fits.{FitsFiles}
 use Rattle.dwz_plan_files.specs.Rules.{rule_by}
 use Rattle.dwz_layout_numbers.specs.Owners.{AreUnitNumbers}
+use Rattle.dwz_law_layout.specs.Beside.{Alone}
 use Rattle.dwz_law_layout.specs.Facts.{AreFacts, IsStoredSo, RunFacts, docs, move, units, written}
 use Rattle.dwz_layout_order.specs.declared.orders.Settled.{Settled}
 use Rattle.dwz_layout_input.specs.declared.settled.SettledFiles.{SettledFiles}
@@ -25,7 +26,7 @@ pub record ArePlanned (sharing : Scope) (docs : List (Doc ℕ)) (p : PlannedFile
   pub fits : FitsFiles sharing docs p.tops p.plan
 
 -- the facts are of files with these contents and indexes, which share so, and of their plan
-pub record AreFactsOf (contents : List (List ℕ)) (indexes : List Index) (sharing : Scope) (p : PlannedFiles) (f : RunFacts) : Type 0 where
+pub record AreFactsOf (contents : List (List ℕ)) (indexes : List Index) (sharing : Scope) (p : PlannedFiles) (f : RunFacts Alone) : Type 0 where
   pub contents_are : f.contents ≡ contents
   pub indexes_are : f.indexes ≡ indexes
   pub rule_is : f.rule ≡ rule_by sharing (docs_of contents)
@@ -42,7 +43,7 @@ pub record Lends (r : SettledFiles) (s : Settled) : Type 0 where
   pub files : s.files.now ≡ r.written.items
 
 -- the files were read, are stored so, and have these indexes
-pub record AreStored (f : RunFacts) : Type 0 where
+pub record AreStored (f : RunFacts Alone) : Type 0 where
   pub bytes : Each AreBytes f.contents
   pub kept : AreKept f.contents f.files
   pub indexed : AreIndexes (docs f) f.indexes
@@ -51,6 +52,6 @@ pub record AreStored (f : RunFacts) : Type 0 where
 -- facts of stored files and their plan, whose units are numbered, are facts
 abbrev pub FactsLaw : Type 0
 FactsLaw =
-    (contents : List (List ℕ)) (indexes : List Index) (sharing : Scope) (p : PlannedFiles) (f : RunFacts)
+    (contents : List (List ℕ)) (indexes : List Index) (sharing : Scope) (p : PlannedFiles) (f : RunFacts Alone)
     → ArePlanned sharing (docs_of contents) p → AreFactsOf contents indexes sharing p f
     → AreStored f → AreUnitNumbers (move f) (units f) (written f) f.commons f.parts f.olds → AreFacts f

@@ -1,6 +1,7 @@
 //! All lists, and the places of texts in them.
 
 ghost use Rattle.std.specs.Prelude.{◌≡◌, length, IfOk};
+ghost use Rattle.dwz_law_layout.specs.Beside.{Alone};
 ghost use Rattle.dwz_law_layout.specs.Facts.{RunFacts};
 ghost use Rattle.dwz_law_layout.specs.Listed.{AreListed, space_entries};
 ghost use Rattle.dwz_layout_input.specs.Needs.{AreMade, IsFit};
@@ -45,7 +46,7 @@ pub fn known_of<'u, 'a>(
     requires spaces { length texts.spaces.items ≡ length (space_entries 0 indexes.now) }
     requires commons { length texts.commons.items ≡ length (space_entries 0 indexes.now) }
     requires numbers { length texts.numbers.items ≡ length files.now }
-    ensures { (f : RunFacts) → AreMade f files.now indexes.now plan.now numbers
+    ensures { (f : RunFacts Alone) → AreMade f files.now indexes.now plan.now numbers
         → IfOk result (λ known. AreListed f (texts_shown texts) known) }
 {
     let starts = starts(alloc, indexes)?;

@@ -1,6 +1,7 @@
 //! The units in which the entries of all files are written.
 
 ghost use Rattle.std.specs.Prelude.{◌≡◌, length, IfOk};
+ghost use Rattle.dwz_law_layout.specs.Beside.{Alone};
 ghost use Rattle.dwz_law_layout.specs.Facts.{RunFacts};
 ghost use Rattle.dwz_law_layout.specs.Listed.{AreAllOwners};
 ghost use Rattle.dwz_layout_input.specs.Needs.{AreMade, IsFit};
@@ -23,7 +24,7 @@ pub(crate) fn owners_of(
 ) -> Result<Vec<u32>, NoMemory>
     requires fit { IsFit files.now indexes.now plan.now }
     requires plan { length plan.now.homes ≡ length tops.now }
-    ensures { (f : RunFacts) → AreMade f files.now indexes.now plan.now numbers.now
+    ensures { (f : RunFacts Alone) → AreMade f files.now indexes.now plan.now numbers.now
         → IfOk result (λ owners. AreAllOwners f files.now indexes.now owners.items) }
 {
     let mut owners = Vec::new(alloc);

@@ -3,6 +3,7 @@
 ghost use Rattle.std.specs.Prelude.{◌≡◌, ◌<◌, ◌^◌, List, length, map, IfOk};
 ghost use Rattle.dwz_def_tops.specs.Spots.{file_numbers};
 ghost use Rattle.dwz_def_readback.specs.Files.{imports_common};
+ghost use Rattle.dwz_law_layout.specs.Beside.{Alone};
 ghost use Rattle.dwz_law_layout.specs.Facts.{RunFacts, docs, move, units};
 ghost use Rattle.dwz_graph.specs.Files.{docs_of};
 ghost use Rattle.dwz_graph.specs.Index.{Index};
@@ -73,9 +74,9 @@ pub fn settle_files(
     ensures scope { IfOk result (λ r. r.scope ≡ scope) }
     ensures planned { IfOk result (λ r. r.planned ≡ planned) }
     ensures settled { (indexes : List Index) → AreIndexes (docs_of graph.now.given) indexes
-        → IfOk result (λ r. (f : RunFacts) (s : Lent) → AreFactsOf graph.now.given indexes scope planned f → Lends r s → IsSettled f s) }
+        → IfOk result (λ r. (f : RunFacts Alone) (s : Lent) → AreFactsOf graph.now.given indexes scope planned f → Lends r s → IsSettled f s) }
     ensures importing { (indexes : List Index) → AreIndexes (docs_of graph.now.given) indexes
-        → IfOk result (λ r. (f : RunFacts) → AreFactsOf graph.now.given indexes scope planned f
+        → IfOk result (λ r. (f : RunFacts Alone) → AreFactsOf graph.now.given indexes scope planned f
         → r.importing.items ≡ map (imports_common (move f) (units f)) (file_numbers 0 (docs f))) }
     ensures fits { IfOk result (λ r. (s : Lent) → Lends r s → AreSettled s) }
 {

@@ -9,6 +9,7 @@ use Rattle.dwz_layout.specs.declared.order.UnitItems.{UnitItems}
 use Rattle.dwz_layout.specs.Laid.{AllMade, FileMade}
 use Rattle.dwz_encode.specs.Laws.{FileIs}
 use Rattle.dwz_encode.specs.Shown.{unit_count}
+use Rattle.dwz_law_layout.specs.Beside.{Alone}
 use Rattle.dwz_law_layout.specs.Facts.{RunFacts, run}
 use Rattle.dwz_law_layout.specs.Laid.{written_out}
 use Rattle.dwz_run_files.specs.declared.common.CommonTexts.{CommonTexts}
@@ -21,7 +22,7 @@ none_before : (orders : List (List UnitItems)) → unit_count (take 0 orders) �
 unfolding unit_count
 none_before orders = refl
 
-module _ (f : RunFacts) (w : LaidRun) (is : IsWork f w) where
+module _ (f : RunFacts Alone) (w : LaidRun) (is : IsWork f w) where
   pub in_orders : 0 < length (orders_in f w is)
   in_orders = (let count = many f w is in omega (arith, count))
 
@@ -59,7 +60,7 @@ lines_some (path ∷ paths) = refl
 
 -- ---- all its sections
 
-pub common_made : (f : RunFacts) (texts : CommonTexts) → HasTexts (run f) (Some texts) → (s : Sections)
+pub common_made : (f : RunFacts Alone) (texts : CommonTexts) → HasTexts (run f) (Some texts) → (s : Sections)
     → s.info ≡ (common_sections (run f)).info → s.abbrev ≡ (common_sections (run f)).abbrevs
     → s.strs ≡ bytes_if_some texts.strs.items → s.offsets ≡ None → s.line ≡ bytes_if_some texts.lines.items
     → s.loclists ≡ None → s.aranges ≡ None → s ≡ common_after (run f)

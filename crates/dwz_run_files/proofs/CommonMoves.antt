@@ -11,6 +11,7 @@ use Rattle.dwz_layout.specs.declared.order.UnitItems.{UnitItems}
 use Rattle.dwz_layout.specs.Entries.{row}
 use Rattle.dwz_layout.specs.Known.{file_at, text_at}
 use Rattle.dwz_law_layout.specs.Knows.{EachFrom, IsText, files_in, firsts_at, name_attr, texts_in}
+use Rattle.dwz_law_layout.specs.Beside.{Alone}
 use Rattle.dwz_law_layout.specs.Facts.{RunFacts, file_read}
 use Rattle.dwz_law_layout.specs.Unfitted.{KnowCommon, KnowsCommonUnit, KnowsTextsOf, common_unit_forms}
 use Rattle.dwz_encode_texts.specs.declared.pruning.PrunedFile.{PrunedFile}
@@ -30,7 +31,7 @@ each_both : {X : Type 0} (P Q R : ℕ → X → Type 0) (n : ℕ) (xs : List X) 
 each_both P Q R n [] go all too = tt
 each_both P Q R n (x ∷ xs) go all too = (go n x all.0 too.0, each_both P Q R (n + 1) xs go all.1 too.1)
 
-module _ (f : RunFacts) (k : EntryTable) (pruned : List (Option PrunedFile)) (m : EntryTable) (h : AreMoved pruned k m) where
+module _ (f : RunFacts Alone) (k : EntryTable) (pruned : List (Option PrunedFile)) (m : EntryTable) (h : AreMoved pruned k m) where
   module _ (o : UnitItems) (u : DwUnit EntryName) where
     abbrev ft : UnitForms EntryName
     ft = common_unit_forms f u

@@ -7,7 +7,7 @@ use Rattle.dwz_def_reading.proofs.ListFacts.{got_below, got_in}
 use Rattle.dwz_def_reading.specs.Documents.{DwUnit}
 use Rattle.dwz_def_tops.specs.Shown.{units_keys}
 use Rattle.dwz_def_tops.specs.Spots.{EntryName, no_name}
-use Rattle.dwz_def_plan.specs.Plan.{image}
+use Rattle.dwz_def_plan.specs.Moves.{image_in}
 use Rattle.dwz_def_images.specs.Units.{common_units, file_units, out_units}
 use Rattle.dwz_def_images.proofs.ApartOwn.{keys_joined}
 use Rattle.dwz_def_encoding.specs.Placing.{files_keys}
@@ -22,7 +22,8 @@ use Rattle.dwz_layout.specs.declared.order.UnitItems.{UnitItems}
 use Rattle.dwz_layout.specs.Known.{owner_of}
 use Rattle.dwz_layout.specs.Laid.{made_of}
 use Rattle.dwz_law_layout.proofs.RowsWritten.{row_written}
-use Rattle.dwz_law_layout.specs.Facts.{RunFacts, docs, files_written, move, rule, run, units, units_written}
+use Rattle.dwz_law_layout.specs.Beside.{Alone}
+use Rattle.dwz_law_layout.specs.Facts.{RunFacts, docs, files_written, move, run, units, units_written}
 use Rattle.dwz_law_layout.specs.Listed.{TextsAt}
 use Rattle.dwz_law_layout.specs.Named.{keys}
 use Rattle.dwz_law_layout.proofs.EntriesReach.{reached}
@@ -37,7 +38,7 @@ use Rattle.dwz_run_files.specs.Spots.{EntryPlacesLaw}
 
 -- ---- names of what is written
 
-module _ (f : RunFacts) where
+module _ (f : RunFacts Alone) where
   out_keys : (files : List ℕ) → files_keys (map (file_out (run f)) files) ≡ units_keys (file_units (move f) (units f) files)
   unfolding files_keys file_units units_keys
   out_keys [] = refl
@@ -57,7 +58,7 @@ module _ (f : RunFacts) where
 -- ---- entries
 
 -- an entry whose name stands in a unit that is written has the place of its name
-pub placed : (f : RunFacts) (t : TextsAt) (k : EntryTable) (orders : List (List UnitItems)) → CanLay f t k orders
+pub placed : (f : RunFacts Alone) (t : TextsAt) (k : EntryTable) (orders : List (List UnitItems)) → CanLay f t k orders
     → (i : ℕ) (s : EntryName) → slice_get (all_names (docs f)) i ≡ Some s → (owner : ℕ) → StandsIn (units_written f) s owner
     → slice_index (made_of k orders).places i ≡ (places (run f)).place s
 placed f t k orders lay i s is owner stands =
@@ -75,9 +76,9 @@ placed f t k orders lay i s is owner stands =
 pub entry_places : EntryPlacesLaw
 entry_places f t k orders lay n bytes x index h changed e i lt is =
     let o = here f t k lay.facts lay.listed n x index h.file h.index_is in
-    let s = image (rule f) (units f) (named f k n x index o e) in
+    let s = image_in (move f) (named f k n x index o e) in
     let name : name_after (run f) n (place_at (raw_units x.units) e) ≡ s =
-    ap (image (rule f) (units f)) (o.among.names (place_at (raw_units x.units) e)) in
+    ap (image_in (move f)) (o.among.names (place_at (raw_units x.units) e)) in
     let there : slice_get (all_names (docs f)) i ≡ Some s = is ∙ ap (λ (w : EntryName). Some w) name in
     let r = reached f t k lay.facts lay.listed n x index o changed e lt i there in
     placed f t k orders lay i s there (owner_of k i) r.stands ∙ ap (places (run f)).place (sym name)

@@ -17,6 +17,7 @@ use Rattle.dwz_layout.specs.declared.known.EntryTable.{EntryTable}
 use Rattle.dwz_layout.specs.declared.order.UnitItems.{UnitItems}
 use Rattle.dwz_layout_input.specs.Rules.{rule_by}
 use Rattle.dwz_layout_order.specs.declared.orders.Settled.{Settled}
+use Rattle.dwz_law_layout.specs.Beside.{Alone}
 use Rattle.dwz_law_layout.specs.Facts.{AreFacts, RunFacts, docs, move, run, units}
 use Rattle.dwz_law_layout.specs.Listed.{TextsAt}
 use Rattle.dwz_layout_input.specs.Settled.{AreStored}
@@ -53,7 +54,7 @@ pub record AreJoined (contents : List (List ℕ)) (files : List File) (prunes : 
 
 module _ (contents : List (List ℕ)) (files : List File) (prunes : List Bool) (a : SettledRun) (o : OrderedFiles) (k : EntryTable)
     (j : AreJoined contents files prunes a o k) where
-  abbrev pub joined : RunFacts
+  abbrev pub joined : RunFacts Alone
   joined = record {
     contents = contents;
     files = files;
@@ -113,7 +114,7 @@ module _ (contents : List (List ℕ)) (files : List File) (prunes : List Bool) (
 
     -- and what has the texts of the common file then has them by the orders themselves
     pub whole_so : (w : WholeLists)
-        → ((f : RunFacts) (s : Settled) (t : TextsAt) → StandBefore contents files flags k lends f s t → AreWhole f s lends w)
+        → ((f : RunFacts Alone) (s : Settled) (t : TextsAt) → StandBefore contents files flags k lends f s t → AreWhole f s lends w)
         → AreWhole joined j.ordered.order.lent o.orders.items w
     whole_so w gives =
         subst (λ (orders : List (List UnitItems)). AreWhole joined j.ordered.order.lent orders w) lends_are
@@ -126,7 +127,7 @@ module _ (contents : List (List ℕ)) (files : List File) (prunes : List Bool) (
 module _ (contents : List (List ℕ)) (files : List File) (prunes : List Bool) (a : SettledRun) (o : OrderedFiles) (k : EntryTable)
     (j : AreJoined contents files prunes a o k) (w : WholeLists)
     (whole : AreWhole (joined contents files prunes a o k j) j.ordered.order.lent o.orders.items w) where
-  abbrev f : RunFacts
+  abbrev f : RunFacts Alone
   f = joined contents files prunes a o k j
 
   all_ranks : AreRanks f o.ranks.items

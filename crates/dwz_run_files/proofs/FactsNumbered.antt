@@ -16,6 +16,7 @@ use Rattle.dwz_plan.specs.declared.plan.Scope.{Scope}
 use Rattle.dwz_layout_input.specs.PlannedFiles.{PlannedFiles}
 use Rattle.dwz_layout_input.specs.Rules.{alike_scope, rule_by}
 use Rattle.dwz_layout_input.proofs.PlanFits.{alike_is, choice_is}
+use Rattle.dwz_law_layout.specs.Beside.{Alone}
 use Rattle.dwz_law_layout.specs.Facts.{RunFacts, move, units, written}
 use Rattle.dwz_layout_input.specs.declared.settled.SettledFiles.{SettledFiles}
 use Rattle.dwz_layout_input.specs.Settled.{AreFactsOf, ArePlanned, Lends}
@@ -30,7 +31,7 @@ nothing_stored : Stored
 nothing_stored = record { bytes = λ n. []; raw = λ n. []; prunes = λ n. false }
 
 -- some facts of these files
-abbrev some_facts : List (List ℕ) → List File → List Index → Scope → PlannedFiles → RunFacts
+abbrev some_facts : List (List ℕ) → List File → List Index → Scope → PlannedFiles → RunFacts Alone
 some_facts contents files indexes sharing p = record {
   contents = contents;
   files = files;
@@ -43,7 +44,7 @@ some_facts contents files indexes sharing p = record {
   olds = [];
 }
 
-settled_flags : (f : RunFacts) (r : SettledFiles) (s : Lent) → Lends r s → IsSettled f s → r.written.items ≡ written f
+settled_flags : (f : RunFacts Alone) (r : SettledFiles) (s : Lent) → Lends r s → IsSettled f s → r.written.items ≡ written f
 settled_flags f r s lends settled = sym lends.files ∙ settled.files
 
 pub flags_are : FlagsLaw
@@ -61,12 +62,12 @@ flags_are contents files indexes sharing p r s kept lends settled =
 
 -- ---- numbers
 
-abbrev NumbersOf : RunFacts → Type 0
+abbrev NumbersOf : RunFacts Alone → Type 0
 NumbersOf f = AreUnitNumbers (move f) (units f) (written f) f.commons f.parts f.olds
 
-module _ (contents : List (List ℕ)) (indexes : List Index) (sharing : Scope) (p : PlannedFiles) (f : RunFacts)
+module _ (contents : List (List ℕ)) (indexes : List Index) (sharing : Scope) (p : PlannedFiles) (f : RunFacts Alone)
     (planned : ArePlanned sharing (docs_of contents) p) (of : AreFactsOf contents indexes sharing p f) where
-  abbrev same_facts : RunFacts
+  abbrev same_facts : RunFacts Alone
   same_facts = facts_with contents indexes (rule_by sharing (docs_of contents)) p.plan f
 
   numbered : (flags : List Bool) (n : UnitNumbers) → flags ≡ written f → AreNumbersOf (docs_of contents) p.plan flags n

@@ -32,7 +32,8 @@ use Rattle.dwz_plan.specs.Planned.{Planned}
 use Rattle.dwz_layout.specs.declared.known.EntryTable.{EntryTable}
 use Rattle.dwz_layout.specs.declared.order.UnitItems.{UnitItems}
 use Rattle.dwz_layout.specs.Laid.{AllMade, made_of}
-use Rattle.dwz_law_layout.specs.Facts.{AreFacts, RunFacts, docs, rule, run}
+use Rattle.dwz_law_layout.specs.Beside.{Alone}
+use Rattle.dwz_law_layout.specs.Facts.{AreFacts, RunFacts, docs, move, run}
 use Rattle.dwz_law_layout.proofs.FileEntries.{IsHere, here}
 use Rattle.dwz_run_files.specs.Prepared.{CanLay}
 use Rattle.dwz_encode_operands.specs.NumberLaws.{ArePlaces}
@@ -59,7 +60,7 @@ start_within start (y ∷ indexes) zero x first e g =
 start_within start (y ∷ indexes) (suc n) x first e g =
     let rest = start_within (start + length y.steps) indexes n x first e g in omega (arith, rest)
 
-module _ (f : RunFacts) (w : LaidRun) (m : FileAfter) (is : IsMoved f w m) where
+module _ (f : RunFacts Alone) (w : LaidRun) (m : FileAfter) (is : IsMoved f w m) where
   abbrev n : ℕ
   n = m.number
 
@@ -127,11 +128,11 @@ module _ (f : RunFacts) (w : LaidRun) (m : FileAfter) (is : IsMoved f w m) where
   stand_ins_many =
       is.works.works.ready.fits.stand_ins ∙ sym tops.many ∙ ap (λ (xs : List ℕ). length xs) (sym is.works.tops_are)
 
-  pub is_planned : IsPlanned (docs f) (rule f) plan w.tops.now
+  pub is_planned : IsPlanned (every f) (move f) plan w.tops.now
   is_planned =
-      let theirs : IsPlanned (docs f) (rule f) f.planned (tops_from 0 f.indexes) = facts.images (tops_from 0 f.indexes) tops in
-      subst (λ (p : Planned). IsPlanned (docs f) (rule f) p w.tops.now) is.works.works.plan_is
-      (subst (λ (ts : List ℕ). IsPlanned (docs f) (rule f) f.planned ts) (sym is.works.tops_are) theirs)
+      let theirs : IsPlanned (every f) (move f) f.planned (tops_from 0 f.indexes) = facts.images (tops_from 0 f.indexes) tops in
+      subst (λ (p : Planned). IsPlanned (every f) (move f) p w.tops.now) is.works.works.plan_is
+      (subst (λ (ts : List ℕ). IsPlanned (every f) (move f) f.planned ts) (sym is.works.tops_are) theirs)
 
   -- ---- places
 
@@ -167,12 +168,12 @@ module _ (f : RunFacts) (w : LaidRun) (m : FileAfter) (is : IsMoved f w m) where
   module _ (units_at : List ℕ) (begin : HaveUnitPlaces f m units_at) where
     pub lists_are : (out : List ℕ)
         → ((names : List EntryName) → IsFile (docs f) names index m.start
-        → HasNewNumbers (docs f) (rule f) names w.layout.now.places units_at operands x.sections.lists.now out)
+        → HasNewNumbers (docs f) (move f) names w.layout.now.places units_at operands x.sections.lists.now out)
         → out ≡ lists_after (run f) n
     lists_are out have =
         section_made f facts n is.bytes x index is.has m.start is.start_is w.layout.now.places entries_at units_at begin out
         (λ names of. subst (λ (s : Sources). HasNewNumbers (docs f)
-        (rule f) names w.layout.now.places units_at operands s.lists out) same_sources
+        (move f) names w.layout.now.places units_at operands s.lists out) same_sources
         (have names of))
 
     pub ranges_are : (new : List ℕ) → length units_at ≡ length raw

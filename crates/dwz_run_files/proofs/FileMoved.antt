@@ -15,6 +15,7 @@ use Rattle.dwz_layout.specs.declared.order.UnitItems.{UnitItems}
 use Rattle.dwz_layout.specs.Laid.{AllMade, FileMade, file_view, made_of}
 use Rattle.dwz_encode.specs.Laws.{FileIs, FilesAre}
 use Rattle.dwz_encode.specs.Shown.{unit_count}
+use Rattle.dwz_law_layout.specs.Beside.{Alone}
 use Rattle.dwz_law_layout.specs.Facts.{AreFacts, RunFacts, files_written, run}
 use Rattle.dwz_law_layout.specs.Named.{keys}
 use Rattle.dwz_law_layout.specs.Trees.{IsReadFile}
@@ -67,7 +68,7 @@ file_here n k at roots first (o ∷ orders) (l ∷ made) (y ∷ files) are (suc 
 
 -- ---- all files
 
-module _ (f : RunFacts) (w : LaidRun) (is : IsWork f w) where
+module _ (f : RunFacts Alone) (w : LaidRun) (is : IsWork f w) where
   abbrev pub prepared : PreparedFiles
   prepared = w.prepared.now
 
@@ -93,7 +94,7 @@ module _ (f : RunFacts) (w : LaidRun) (is : IsWork f w) where
 
 -- ---- the file at hand
 
-module _ (f : RunFacts) (w : LaidRun) (is : IsWork f w) (n rank : ℕ) (has : HasRank f n rank) where
+module _ (f : RunFacts Alone) (w : LaidRun) (is : IsWork f w) (n rank : ℕ) (has : HasRank f n rank) where
   abbrev p : PreparedFiles
   p = w.prepared.now
 
@@ -131,7 +132,7 @@ module _ (f : RunFacts) (w : LaidRun) (is : IsWork f w) (n rank : ℕ) (has : Ha
   in_layout = (let long = layout_many f w is in omega (arith, long, in_orders))
 
 -- what was found of it by these numbers is the file of which something moves
-module _ (f : RunFacts) (w : LaidRun) (is : IsWork f w) (rank place : ℕ) (m : FileAfter) (has : HasRank f m.number rank)
+module _ (f : RunFacts Alone) (w : LaidRun) (is : IsWork f w) (rank place : ℕ) (m : FileAfter) (has : HasRank f m.number rank)
     (behind : place ≡ suc rank) where
   abbrev n : ℕ
   n = m.number

@@ -30,7 +30,8 @@ use Rattle.dwz_law_layout.specs.Fitted.{KnowUnits, KnowsShown}
 use Rattle.dwz_law_layout.specs.Knows.{EachFrom, IsRead, IsText, NewNumbers, Writes, firsts_at, name_attr, texts_in}
 use Rattle.dwz_law_layout.proofs.UnitFits.{same_holder}
 use Rattle.dwz_layout_order.specs.declared.orders.Settled.{Settled}
-use Rattle.dwz_law_layout.specs.Facts.{HasFile, RunFacts, file_read, move, run, units}
+use Rattle.dwz_law_layout.specs.Beside.{Alone}
+use Rattle.dwz_law_layout.specs.Facts.{HasFile, RunFacts, common, file_read, move, run, units}
 use Rattle.dwz_law_layout.specs.Listed.{TextsAt, entry_row, space_entries}
 use Rattle.dwz_law_layout.specs.Named.{keys}
 use Rattle.dwz_law_layout.proofs.LayoutLemmas.{knows_file}
@@ -57,7 +58,7 @@ each_at P [] i x all e = absurd cc
 each_at P (y ∷ xs) zero x all e = (let same : y ≡ x = cc in subst P same all.0)
 each_at P (y ∷ xs) (suc i) x all e = each_at P xs i x all.1 e
 
-module _ (f : RunFacts) (s : Settled) (t : TextsAt) (k : EntryTable) (orders : List (List UnitItems)) (p : ArePrepared f s t k orders)
+module _ (f : RunFacts Alone) (s : Settled) (t : TextsAt) (k : EntryTable) (orders : List (List UnitItems)) (p : ArePrepared f s t k orders)
     (stand : StandWhole f k orders)
     (pruned : List (Option PrunedFile)) (m : EntryTable) (h : AreMoved pruned k m) where
   -- ---- the names of spaces
@@ -228,15 +229,15 @@ module _ (f : RunFacts) (s : Settled) (t : TextsAt) (k : EntryTable) (orders : L
 
     pub file_moves : IsPrunedIf f n (order_uses k first order) (pruned_at pruned n)
         → KnowTexts f k None n order (out_units (move f) (units f) n)
-        → KnowTexts f m (run_numbers (run f) n) n order (out_units (move f) (units f) n)
+        → KnowTexts f m (run_numbers f n) n order (out_units (move f) (units f) n)
     file_moves stays old = by (pruned_at pruned n) refl stays where
       known : KnowUnits (keys f) k (file_keyed_forms f n) None first order (out_units (move f) (units f) n)
       known = units_known f s t k orders p stand n rank first order is
 
       by : (q : Option PrunedFile) → pruned_at pruned n ≡ q → IsPrunedIf f n (order_uses k first order) q
-          → KnowTexts f m (run_numbers (run f) n) n order (out_units (move f) (units f) n)
+          → KnowTexts f m (run_numbers f n) n order (out_units (move f) (units f) n)
       by None at all_stay =
-          subst (λ (b : Bool). KnowTexts f m (numbers_if b (run f) n) n order (out_units (move f) (units f) n)) (sym all_stay)
+          subst (λ (b : Bool). KnowTexts f m (numbers_if b (common f) (run f) n) n order (out_units (move f) (units f) n)) (sym all_stay)
           (all_move n first order None (λ j o u found shown texts. unit_stays n at o u texts) known old)
       by (Some pf) at some_stay =
           let strs = (sources (run f) n).strs in
@@ -245,7 +246,7 @@ module _ (f : RunFacts) (s : Settled) (t : TextsAt) (k : EntryTable) (orders : L
           let among : (x : ℕ) → In x (order_uses k first order) → Contains (uses (run f) n) x =
           λ x there. in_contains (uses (run f) n) x
           (subst (In x) uses_same (in_left x (order_uses k first order) (pruning.slot_uses strs offsets (known_slots offsets)) there)) in
-          subst (λ (b : Bool). KnowTexts f m (numbers_if b (run f) n) n order (out_units (move f) (units f) n)) (sym some_stay.0)
+          subst (λ (b : Bool). KnowTexts f m (numbers_if b (common f) (run f) n) n order (out_units (move f) (units f) n)) (sym some_stay.0)
           (all_move n first order (Some (new_number strs (uses (run f) n)))
           (λ j o u found shown texts. unit_moves n first order pf at strs (uses (run f) n) all among j o u found
           (each_at (λ (w : UnitItems). EachText IsNotPooled f k w n) order j o (stand.owned n rank first order is) found) shown texts) known old)

@@ -15,6 +15,7 @@ use Rattle.dwz_layout.specs.declared.known.EntryTable.{EntryTable}
 use Rattle.dwz_layout.specs.declared.order.UnitItems.{UnitItems}
 use Rattle.dwz_law_layout.specs.Knows.{IsRead, Writes}
 use Rattle.dwz_encode_common.specs.Placed.{in_common_file}
+use Rattle.dwz_law_layout.specs.Beside.{Alone}
 use Rattle.dwz_law_layout.specs.Facts.{AreFacts, HasFile, RunFacts, docs, file_read, move, units}
 use Rattle.dwz_law_layout.specs.Listed.{AreListed, TextsAt}
 use Rattle.dwz_law_layout.specs.Settled.{IsSettled}
@@ -24,22 +25,22 @@ use Rattle.dwz_run_files.proofs.OldOwn.{olds_own}
 use Rattle.dwz_run_files.proofs.PartOwn.{parts_own}
 
 -- no entry of the file that the unit writes is one of the common file
-abbrev ReadOwn : RunFacts → EntryTable → ℕ → List ℕ → File → UnitItems → Type 0
+abbrev ReadOwn : RunFacts Alone → EntryTable → ℕ → List ℕ → File → UnitItems → Type 0
 ReadOwn f k n bytes x u =
     (i : ℕ) (r : EntryRow) (d : Node ℕ) → IsRead (file_read f n bytes x) i r d → Writes k u (file_read f n bytes x) i
     → in_common_file k n i ≡ false
 
 -- what holds of each, whatever the file is read as
-abbrev OfFile : RunFacts → ℕ → (List ℕ → File → Index → Type 0) → Type 0
+abbrev OfFile : RunFacts Alone → ℕ → (List ℕ → File → Index → Type 0) → Type 0
 OfFile f n P = (bytes : List ℕ) (x : File) (index : Index) → HasFile f n bytes x index → P bytes x index
 
-each_all : (f : RunFacts) (n : ℕ) (P : List ℕ → File → Index → UnitItems → Type 0) (order : List UnitItems)
+each_all : (f : RunFacts Alone) (n : ℕ) (P : List ℕ → File → Index → UnitItems → Type 0) (order : List UnitItems)
     → OfFile f n (λ bytes x index. Each (P bytes x index) order) → Each (λ u. OfFile f n (λ bytes x index. P bytes x index u)) order
 each_all f n P [] all = tt
 each_all f n P (u ∷ order) all =
     (λ bytes x index h. (all bytes x index h).0, each_all f n P order (λ bytes x index h. (all bytes x index h).1))
 
-module _ (f : RunFacts) (t : TextsAt) (k : EntryTable) (facts : AreFacts f) (listed : AreListed f t k) (s : Settled) (settled : IsSettled f s)
+module _ (f : RunFacts Alone) (t : TextsAt) (k : EntryTable) (facts : AreFacts f) (listed : AreListed f t k) (s : Settled) (settled : IsSettled f s)
     (n : ℕ) (x : File) (index : Index) (x_is : slice_get f.files n ≡ Some x) (index_is : slice_get f.indexes n ≡ Some index)
     (low : n < length (docs f)) (changed : changes (move f) (units f) n ≡ true)
     (start : ℕ) (at : slice_get (starts_from 0 f.indexes) n ≡ Some start) where

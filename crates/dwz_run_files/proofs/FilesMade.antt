@@ -5,7 +5,6 @@ use Rattle.std.proofs.lemmas.List.{length-map}
 use Rattle.dwz_model.specs.declared.sections.Sections.{Sections}
 use Rattle.dwz_def_tops.specs.Lists.{Nth}
 use Rattle.dwz_def_tops.proofs.FileNumbers.{numbers_long}
-use Rattle.dwz_def_plan.specs.Plan.{partials as unit_partials}
 use Rattle.dwz_def_readback.specs.Back.{run_of}
 use Rattle.dwz_def_readback.specs.Files.{Run}
 use Rattle.dwz_def_output.specs.Written.{stored_of}
@@ -14,21 +13,19 @@ use Rattle.dwz_plan.specs.Shows.{shown_part}
 use Rattle.dwz_plan.proofs.BridgeLemmas.{file_numbers_are}
 use Rattle.dwz_layout_input.specs.Rules.{rule_by}
 use Rattle.dwz_graph.specs.Files.{docs_of}
-use Rattle.dwz_law_layout.specs.Facts.{AreFacts, RunFacts, docs, move, rule, run, units}
+use Rattle.dwz_law_layout.specs.Beside.{Alone}
+use Rattle.dwz_law_layout.specs.Facts.{AreFacts, RunFacts, docs, move, run}
 use Rattle.dwz_run_files.specs.declared.prepared.PreparedFiles.{PreparedFiles}
 use Rattle.dwz_run_files.specs.Ready.{AreFactsOf}
 use Rattle.dwz_def_output.specs.declared.new_file.NewFile.{NewFile}
 use Rattle.dwz_def_output.specs.NewFiles.{AreNew, IsNewCommon, IsNewOrOld}
 use Rattle.dwz_run_files.specs.Works.{AreNewFiles}
 
-pub parts_many : (f : RunFacts) → AreFacts f → length f.planned.partials ≡ length (move f).parts
+pub parts_many : (f : RunFacts Alone) → AreFacts f → length f.planned.partials ≡ length (move f).parts
 parts_many f facts =
-    let all = unit_partials (rule f) (units f) (range_with_len 0 (length (docs f))) in
-    ap length (sym facts.shows.partials)
-    ∙ length-map all (shown_part (length (docs f)))
-    ∙ ap (λ (numbers : List ℕ). length (unit_partials (rule f) (units f) numbers)) (sym (file_numbers_are 0 (docs f)))
+    ap length (sym facts.shows.partials) ∙ length-map (move f).parts (shown_part (length (docs f)))
 
-module _ (contents : List (List ℕ)) (prunes : List Bool) (sharing : Scope) (p : PreparedFiles) (f : RunFacts)
+module _ (contents : List (List ℕ)) (prunes : List Bool) (sharing : Scope) (p : PreparedFiles) (f : RunFacts Alone)
     (shares : p.run.settled.scope ≡ sharing) (of : AreFactsOf contents prunes p f) where
   abbrev run_made : Run
   run_made = run_of (rule_by sharing (docs_of contents)) (docs_of contents) (stored_of contents prunes)

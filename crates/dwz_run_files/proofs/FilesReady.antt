@@ -8,6 +8,7 @@ use Rattle.dwz_graph.specs.Files.{docs_of}
 use Rattle.dwz_layout.specs.declared.known.EntryTable.{EntryTable}
 use Rattle.dwz_layout.specs.declared.order.UnitItems.{UnitItems}
 use Rattle.dwz_encode.specs.Shown.{unit_count}
+use Rattle.dwz_law_layout.specs.Beside.{Alone}
 use Rattle.dwz_law_layout.specs.Facts.{RunFacts, move, run, units}
 use Rattle.dwz_law_layout.specs.Listed.{TextsAt}
 use Rattle.dwz_law_layout.specs.Named.{keys}
@@ -32,7 +33,7 @@ use Rattle.dwz_run_files.proofs.RanksRead.{order_there, rank_there, shown_many}
 module _ (contents : List (List ℕ)) (files : List File) (prunes : List Bool) (a : SettledRun) (o : OrderedFiles) (k : EntryTable)
     (j : AreJoined contents files prunes a o k) (w : WholeLists)
     (whole : AreWhole (joined contents files prunes a o k j) j.ordered.order.lent o.orders.items w) where
-  abbrev f : RunFacts
+  abbrev f : RunFacts Alone
   f = joined contents files prunes a o k j
 
   abbrev orders : List (List UnitItems)

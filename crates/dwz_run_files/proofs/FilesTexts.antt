@@ -20,6 +20,7 @@ use Rattle.dwz_layout_order.specs.declared.orders.Settled.{Settled}
 use Rattle.dwz_layout_order.specs.Ordered.{FilePut, FilesPut, FirstFile, from_index, next_index}
 use Rattle.dwz_layout.specs.declared.known.EntryTable.{EntryTable}
 use Rattle.dwz_layout.specs.declared.order.UnitItems.{UnitItems}
+use Rattle.dwz_law_layout.specs.Beside.{Alone}
 use Rattle.dwz_law_layout.specs.Facts.{AreFacts, HasFile, RunFacts, docs, files_written, move, units, written}
 use Rattle.dwz_law_layout.specs.Listed.{AreListed, TextsAt}
 use Rattle.dwz_law_layout.specs.Settled.{IsSettled}
@@ -44,7 +45,7 @@ Others s n start xs is index orders = FilesPut s (suc n) (start + length index.s
 
 -- ---- numbers of files
 
-module _ (f : RunFacts) (t : TextsAt) (k : EntryTable) (facts : AreFacts f) (listed : AreListed f t k) (stand : StandAsRead f t)
+module _ (f : RunFacts Alone) (t : TextsAt) (k : EntryTable) (facts : AreFacts f) (listed : AreListed f t k) (stand : StandAsRead f t)
     (s : Settled) (settled : IsSettled f s) where
   -- ---- a file
 
@@ -60,7 +61,7 @@ module _ (f : RunFacts) (t : TextsAt) (k : EntryTable) (facts : AreFacts f) (lis
       → KnowUnshared f k n order (out_units (move f) (units f) n)
   unfolding out_units
   file_texts n bytes x index h below start at order put =
-      let olds = units_shown f t k facts listed n bytes x index h start at s.marks (imports_at s.plan.now) (from_index n start index)
+      let olds = units_shown _ f t k facts listed n bytes x index h start at s.marks (imports_at s.plan.now) (from_index n start index)
       (next_index index) put.olds refl refl refl put.olds_kept in
       subst (λ (w : List UnitItems). KnowUnshared f k n w (parts_after f n ++ olds_after f n)) (sym put.order_is)
       (texts_append n put.parts put.olds (parts_after f n) (olds_after f n)

@@ -19,6 +19,7 @@ use Rattle.dwz_encode.specs.Shown.{Keys, ShowUnits, unit_count}
 use Rattle.dwz_law_layout.specs.Fitted.{KnowFiles, KnowUnits, Unfitted}
 use Rattle.dwz_law_layout.proofs.FileFits.{files_fit}
 use Rattle.dwz_layout_order.specs.declared.orders.Settled.{Settled}
+use Rattle.dwz_law_layout.specs.Beside.{Alone}
 use Rattle.dwz_law_layout.specs.Facts.{RunFacts, docs, files_written, move, run, units}
 use Rattle.dwz_law_layout.specs.Listed.{TextsAt}
 use Rattle.dwz_law_layout.specs.Named.{keys}
@@ -53,7 +54,7 @@ know_at names k here (a ∷ orders) (y ∷ files) known (suc i) order x e g =
     let far : here + length a + unit_count (take i orders) ≡ here + (length a + unit_count (take i orders)) = omega arith in
     subst (λ (n : ℕ). Know names k n order x) far (know_at names k (here + length a) orders files known.1 i order x e g)
 
-module _ (f : RunFacts) (s : Settled) (t : TextsAt) (k : EntryTable) (orders : List (List UnitItems)) (p : ArePrepared f s t k orders)
+module _ (f : RunFacts Alone) (s : Settled) (t : TextsAt) (k : EntryTable) (orders : List (List UnitItems)) (p : ArePrepared f s t k orders)
     (stand : StandWhole f k orders) where
   pub units_known : (n rank first : ℕ) (order : List UnitItems) → IsOrdered f orders n rank first order
       → KnowUnits (keys f) k (file_keyed_forms f n) None first order (out_units (move f) (units f) n)

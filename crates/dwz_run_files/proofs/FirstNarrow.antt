@@ -15,6 +15,7 @@ use Rattle.dwz_def_output.specs.Contents.{listed}
 use Rattle.dwz_def_output.specs.Refusals.{FirstNarrow, narrow_at, operands_of_units, spoken}
 use Rattle.dwz_graph.specs.ListRows.{operand_view}
 use Rattle.dwz_graph.specs.Named.{units_refs}
+use Rattle.dwz_law_layout.specs.Beside.{Alone}
 use Rattle.dwz_law_layout.specs.Facts.{RunFacts, run}
 use Rattle.dwz_encode_operands.specs.NumberLaws.{HaveNewNumbers}
 use Rattle.dwz_encode_operands.proofs.FilePlaces.{numbers_are, starts_after, targets}
@@ -28,7 +29,7 @@ map_twice : {X Y Z : Type 0} (g : Y → Z) (h : X → Y) (xs : List X) → map g
 map_twice g h [] = refl
 map_twice g h (v ∷ xs) = ap (λ (zs : List _). g (h v) ∷ zs) (map_twice g h xs)
 
-module _ (f : RunFacts) (w : LaidRun) (m : FileAfter) (is : IsMoved f w m) (units_at : List ℕ) (begin : HaveUnitPlaces f m units_at) where
+module _ (f : RunFacts Alone) (w : LaidRun) (m : FileAfter) (is : IsMoved f w m) (units_at : List ℕ) (begin : HaveUnitPlaces f m units_at) where
   abbrev n : ℕ
   n = m.number
 

@@ -30,6 +30,7 @@ use Rattle.dwz_layout.specs.declared.known.TextAt.{TextAt}
 use Rattle.dwz_layout.specs.declared.order.UnitItems.{UnitItems}
 use Rattle.dwz_layout.specs.Known.{no_space, no_text, space_at, text_at}
 use Rattle.dwz_law_layout.specs.Knows.{EachFrom, IsRead, firsts_at, texts_in}
+use Rattle.dwz_law_layout.specs.Beside.{Alone}
 use Rattle.dwz_law_layout.specs.Facts.{HasFile, RunFacts, file_read, files_written, move, run, units}
 use Rattle.dwz_law_layout.specs.Laid.{FilesTexts, TextsKnown}
 use Rattle.dwz_law_layout.specs.Listed.{AreListed, TextsAt, entry_row, space_entries}
@@ -54,7 +55,7 @@ shared_none : (b : Bool) → shared_if b [] ≡ []
 shared_none true = refl
 shared_none false = refl
 
-module _ (f : RunFacts) (none : common_units (move f) ≡ []) where
+module _ (f : RunFacts Alone) (none : common_units (move f) ≡ []) where
   -- so forms are chosen as if none could be
   fit_same : (n : ℕ) (u : DwUnit EntryName) → unshared (file_unit_forms f n u) ≡ file_unit_forms f n u
   unfolding units_with
@@ -111,7 +112,7 @@ name_own : (offsets : List ℕ) (base : Option ℕ) (o : Option RawAttr) → IsN
 name_own offsets base None is = is
 name_own offsets base (Some a) is = is
 
-module _ (f : RunFacts) (t : TextsAt) (k : EntryTable) (listed : AreListed f t k) (stand : StandAsRead f t) (n : ℕ) where
+module _ (f : RunFacts Alone) (t : TextsAt) (k : EntryTable) (listed : AreListed f t k) (stand : StandAsRead f t) (n : ℕ) where
   module _ (bytes : List ℕ) (x : File) (index : Index) (has : HasFile f n bytes x index) where
     abbrev raw : List RawUnit
     raw = raw_units x.units
@@ -155,16 +156,16 @@ module _ (f : RunFacts) (t : TextsAt) (k : EntryTable) (listed : AreListed f t k
 -- ---- all of it
 
 -- no unit of the common file is written
-no_pool : (f : RunFacts) (k : EntryTable) (common : List UnitItems) → KnowCommon f k common [] → Each (PoolsUnit f k) common
+no_pool : (f : RunFacts Alone) (k : EntryTable) (common : List UnitItems) → KnowCommon f k common [] → Each (PoolsUnit f k) common
 no_pool f k [] known = tt
 no_pool f k (o ∷ common) known = absurd known
 
-module _ (f : RunFacts) (s : Settled) (t : TextsAt) (k : EntryTable) (orders : List (List UnitItems)) (p : ArePrepared f s t k orders)
+module _ (f : RunFacts Alone) (s : Settled) (t : TextsAt) (k : EntryTable) (orders : List (List UnitItems)) (p : ArePrepared f s t k orders)
     (as_read : StandAsRead f t) (none : common_units (move f) ≡ []) where
   common_known : (common : List UnitItems) (others : List (List UnitItems)) → orders ≡ common ∷ others
       → KnowCommon f k common (common_units (move f))
   common_known common others are =
-      none_known f t k s p.facts p.listed p.settled none common others
+      none_known _ f t k s p.facts p.listed p.settled none common others
       (subst (λ (w : List (List UnitItems)). AreOrders f.contents f.indexes s w) are p.ordered)
 
   whole : StandWhole f k orders
@@ -190,6 +191,6 @@ module _ (f : RunFacts) (s : Settled) (t : TextsAt) (k : EntryTable) (orders : L
     texts = t;
     prepared = subst (λ (x : EntryTable). ArePrepared f s t x orders) (sym known) p;
     stand = subst (λ (x : EntryTable). StandWhole f x orders) (sym known) whole;
-    few = run_few f none;
+    few = run_few _ f none;
     common = subst (HasTexts (run f)) (sym common) (none_there f none);
   }

@@ -7,9 +7,8 @@ use Rattle.dwz_def_reading.specs.Documents.{Node}
 use Rattle.dwz_def_reading.specs.Meanings.{IfSo}
 use Rattle.dwz_def_tops.specs.Lists.{Nth}
 use Rattle.dwz_def_tops.specs.Spots.{EntryName, FileUnit}
-use Rattle.dwz_def_plan.specs.Homes.{Local, is_home, moves}
+use Rattle.dwz_def_plan.specs.Homes.{Local, is_home}
 use Rattle.dwz_def_plan.specs.Moves.{image_in}
-use Rattle.dwz_def_plan.specs.Plan.{stand_in}
 use Rattle.dwz_def_images.specs.Units.{changes, kept_unit, kept_units, out_units, partial_units}
 use Rattle.dwz_def_readback.proofs.WithinLemmas.{kept_to}
 use Rattle.dwz_graph.specs.declared.file.File.{File}
@@ -17,7 +16,6 @@ use Rattle.dwz_graph.specs.Index.{Index}
 use Rattle.dwz_unit.specs.Rows.{EntryRow}
 use Rattle.dwz_layout_numbers.specs.Names.{all_names}
 use Rattle.dwz_layout_numbers.specs.Owners.{IsFileWritten}
-use Rattle.dwz_layout_numbers.proofs.OwnerLemmas.{own_name}
 use Rattle.dwz_layout_order.specs.Orders.{First}
 use Rattle.dwz_layout.specs.declared.known.EntryTable.{EntryTable}
 use Rattle.dwz_layout.specs.declared.order.UnitItems.{UnitItems}
@@ -29,39 +27,39 @@ use Rattle.dwz_layout.specs.Known.{number_of}
 use Rattle.dwz_encode.specs.Shown.{HasRow, IsRow}
 use Rattle.dwz_law_layout.specs.Knows.{IsRead, Writes}
 use Rattle.dwz_encode_common.specs.Placed.{in_common_file}
-use Rattle.dwz_law_layout.specs.Facts.{AreFacts, HasFile, RunFacts, docs, file_read, move, rule, units, written}
+use Rattle.dwz_law_layout.specs.Beside.{Alone}
+use Rattle.dwz_law_layout.specs.Facts.{AreFacts, HasFile, RunFacts, docs, file_read, move, units, written}
 use Rattle.dwz_law_layout.specs.Listed.{AreListed, TextsAt}
 use Rattle.dwz_law_layout.specs.NamedLaws.{entry_name}
 use Rattle.dwz_law_layout.specs.Old.{EachOld, OldNames}
 use Rattle.dwz_law_layout.specs.Roots.{UnitShown}
 use Rattle.dwz_law_layout.proofs.FileEntries.{IsHere, below, here, named_all, number_is, read_name}
-use Rattle.dwz_law_layout.proofs.ImagesStand.{stands_for}
 use Rattle.dwz_law_layout.proofs.ItemsShown.{items_stay}
-use Rattle.dwz_law_layout.proofs.StayingTrees.{IsStaying, OriginStays, SlotsStay}
+use Rattle.dwz_law_layout.proofs.StayingTrees.{IsStaying, OriginStays, SlotsStay, StaysIn}
 use Rattle.dwz_run_files.proofs.OwnersApart.{IsApart, owned_apart}
 
-module _ (f : RunFacts) (t : TextsAt) (k : EntryTable) (facts : AreFacts f) (listed : AreListed f t k) (n : ℕ) (bytes : List ℕ) (x : File)
+module _ (f : RunFacts Alone) (t : TextsAt) (k : EntryTable) (facts : AreFacts f) (listed : AreListed f t k) (n : ℕ) (bytes : List ℕ) (x : File)
     (index : Index) (h : HasFile f n bytes x index) (changed : changes (move f) (units f) n ≡ true) where
   abbrev o : IsHere f k n x index
   o = here f t k facts listed n x index h.file h.index_is
 
+  abbrev P : ℕ → Type 0
+  P = StaysIn (move f) (units f)
+
   -- ---- an entry that stays
 
-  -- what stands for a top of the common file moves, so an entry of such a top doesn't stay
-  stays_apart : (number : ℕ) (s : EntryName) → slice_get (all_names (docs f)) number ≡ Some s → IsStaying (move f) (image_in (move f) s)
+  -- what stands for a top in the common file moves, so an entry of such a top doesn't stay
+  stays_apart : (number : ℕ) (s : EntryName) → slice_get (all_names (docs f)) number ≡ Some s → IsStaying P (image_in (move f) s)
       → IsApart f s
   stays_apart number s there stays top path is at =
-      let v = own_name (docs f) number top path (there ∙ ap (λ (w : EntryName). Some w) is) in
-      let gone : moves (rule f) (units f) v.0.number ≡ true = ap (λ (m : ℕ). moves (rule f) (units f) m) v.2 ∙ ap is_home at in
-      let goes = (stands_for f facts v.0 v.1 gone).gone in
-      let no : moves (rule f) (units f) (stand_in (rule f) (units f) v.0.number) ≡ false =
-      subst (λ (m : ℕ). moves (rule f) (units f) (stand_in (rule f) (units f) m) ≡ false) (sym v.2)
-      (subst (λ (w : EntryName). IsStaying (move f) (image_in (move f) w)) is stays) in
+      let gone : (move f).gone ((move f).stand top) ≡ true = ap is_home at in
+      let no : (move f).gone ((move f).stand top) ≡ false =
+      (subst (λ (w : EntryName). IsStaying P (image_in (move f) w)) is stays).0 in
       cc
 
   module _ (i : ℕ) (r : EntryRow) (d : Node ℕ) (read : IsRead (file_read f n bytes x) i r d) where
-    origin_stays : (q : Origin) → OriginStays (move f) (file_read f n bytes x) q → IsRow k (number_of k (row n i)) q
-        → IsStaying (move f) ((file_read f n bytes x).after d.at)
+    origin_stays : (q : Origin) → OriginStays P (file_read f n bytes x) q → IsRow k (number_of k (row n i)) q
+        → IsStaying P ((file_read f n bytes x).after d.at)
     origin_stays (OfRow w) stays e =
         let is : w ≡ row n w.entry = λ j. row (stays.0 j) w.entry in
         let one = ap (number_of k) is ∙ number_is f k n x index o w.entry in
@@ -72,13 +70,13 @@ module _ (f : RunFacts) (t : TextsAt) (k : EntryTable) (facts : AreFacts f) (lis
     origin_stays (Chained chain space) stays e = absurd e
     origin_stays (Imported part) stays e = absurd e
 
-    found_stays : (slots : List Slot) → SlotsStay (move f) (file_read f n bytes x) slots → HasRow k (number_of k (row n i)) slots
-        → IsStaying (move f) ((file_read f n bytes x).after d.at)
+    found_stays : (slots : List Slot) → SlotsStay P (file_read f n bytes x) slots → HasRow k (number_of k (row n i)) slots
+        → IsStaying P ((file_read f n bytes x).after d.at)
     found_stays [] all has = absurd has
     found_stays (s ∷ slots) all (inl e) = origin_stays s.origin all.0 e
     found_stays (s ∷ slots) all (inr later) = found_stays slots all.1 later
 
-    entry_own : (slots : List Slot) → SlotsStay (move f) (file_read f n bytes x) slots → HasRow k (number_of k (row n i)) slots
+    entry_own : (slots : List Slot) → SlotsStay P (file_read f n bytes x) slots → HasRow k (number_of k (row n i)) slots
         → in_common_file k n i ≡ false
     entry_own slots all has =
         let low = below f k n x index o bytes i r d read in

@@ -12,6 +12,7 @@ use Rattle.dwz_layout.specs.declared.known.TextAt.{TextAt}
 use Rattle.dwz_layout.specs.declared.known.TextAt.TheVariants.{Shared}
 use Rattle.dwz_layout.specs.declared.order.UnitItems.{UnitItems}
 use Rattle.dwz_layout.specs.Known.{no_space}
+use Rattle.dwz_law_layout.specs.Beside.{Alone}
 use Rattle.dwz_law_layout.specs.Facts.{AreFacts, RunFacts, file_read, run}
 use Rattle.dwz_law_layout.specs.Listed.{AreListed, TextsAt}
 use Rattle.dwz_encode_texts.specs.TextLaws.{StandAsRead}
@@ -50,7 +51,7 @@ space_apart files words sharing (x ∷ spaces) (suc s) apart = space_apart files
 -- ---- orders
 
 -- what holds of the units of a file holds of its order
-order_own : (f : RunFacts) (k : EntryTable) (files : List ℕ) (orders : List (List UnitItems)) → FilesUnshared f k files orders
+order_own : (f : RunFacts Alone) (k : EntryTable) (files : List ℕ) (orders : List (List UnitItems)) → FilesUnshared f k files orders
     → (rank n : ℕ) (order : List UnitItems) → slice_get files rank ≡ Some n → slice_get orders rank ≡ Some order
     → Each (WritesOwn f k n) order
 order_own f k [] orders known rank n order file is = absurd cc
@@ -61,7 +62,7 @@ order_own f k (m ∷ files) (some ∷ orders) known zero n order file is =
     subst (λ (w : List UnitItems). Each (WritesOwn f k n) w) same (subst (λ (q : ℕ). Each (WritesOwn f k q) some) number known.1)
 order_own f k (m ∷ files) (some ∷ orders) known (suc rank) n order file is = order_own f k files orders known.2 rank n order file is
 
-module _ (f : RunFacts) (t : TextsAt) (sharing : List Bool) (before k : EntryTable) (facts : AreFacts f) (listed : AreListed f t before)
+module _ (f : RunFacts Alone) (t : TextsAt) (sharing : List Bool) (before k : EntryTable) (facts : AreFacts f) (listed : AreListed f t before)
     (as_read : StandAsRead f t) (has : HasCommon f sharing before k) where
   texts_owned : (n : ℕ) (o : UnitItems) → WritesOwn f before n o → EachText IsNotPooled f k o n
   texts_owned n o own bytes x index h i r d read writes =

@@ -7,18 +7,18 @@ use Rattle.std.proofs.lemmas.Option.{get_or_from_slice_get}
 use Rattle.dwz_def_reading.proofs.ListFacts.{got_in}
 use Rattle.dwz_def_reading.specs.Documents.{DwUnit, Node, unit_map}
 use Rattle.dwz_def_tops.specs.Lists.{Nth}
-use Rattle.dwz_def_tops.proofs.Members.{nth_of}
-use Rattle.dwz_def_tops.specs.Spots.{EntryName, PartialOf, UnitOf, Within, file_numbers, in_file}
+use Rattle.dwz_def_tops.proofs.Members.{in_map_from, nth_of}
+use Rattle.dwz_def_tops.specs.Spots.{EntryName, PartialOf, Top, UnitOf, Within, file_numbers, in_file}
 use Rattle.dwz_graph.specs.declared.index.Starts.{Starts}
 use Rattle.dwz_graph.specs.Names.{top_in}
 use Rattle.dwz_graph.proofs.TopLemmas.{get_cases}
 use Rattle.dwz_graph.specs.Indexed.{first_starts}
 use Rattle.dwz_def_plan.specs.Homes.{Common, home}
-use Rattle.dwz_def_plan.specs.Plan.{PartialUnit, partials}
+use Rattle.dwz_def_plan.specs.Plan.{PartialUnit}
 use Rattle.dwz_plan.specs.declared.plan.Home.{Home as Place}
 use Rattle.dwz_plan.specs.declared.plan.Home.TheVariants.{Common as InCommon, Local as InOwn, Stay as InUnit}
-use Rattle.dwz_plan.specs.Shows.{IsPlace}
-use Rattle.dwz_plan.proofs.BridgeLemmas.{file_numbers_are}
+use Rattle.dwz_plan.specs.ShowsMove.{IsPlaceIn}
+use Rattle.dwz_law_layout.proofs.PartUnits.{part_is}
 use Rattle.dwz_def_images.specs.Units.{changes, common_units, kept_unit}
 use Rattle.dwz_graph.specs.declared.file.File.{File}
 use Rattle.dwz_graph.specs.Index.{Index}
@@ -33,7 +33,8 @@ use Rattle.dwz_layout.specs.Attributes.{is_common}
 use Rattle.dwz_layout.specs.Entries.{row}
 use Rattle.dwz_layout.specs.Known.{number_of, owner_of}
 use Rattle.dwz_law_layout.specs.Knows.{IsRead}
-use Rattle.dwz_law_layout.specs.Facts.{AreFacts, HasFile, RunFacts, docs, file_read, move, rule, units, units_written, written}
+use Rattle.dwz_law_layout.specs.Beside.{Alone}
+use Rattle.dwz_law_layout.specs.Facts.{AreFacts, HasFile, RunFacts, docs, file_read, move, units, units_written, written}
 use Rattle.dwz_law_layout.specs.Listed.{AreListed, TextsAt}
 use Rattle.dwz_law_layout.specs.NamedLaws.{entry_name}
 use Rattle.dwz_law_layout.proofs.FileEntries.{IsHere, below, here, name_there, named, named_all, number_is, read_name}
@@ -45,11 +46,11 @@ use Rattle.dwz_law_layout.proofs.UnitsKnown.{partial_is}
 
 -- ---- units that aren't of the common file
 
--- the name isn't one of an entry of a top that goes to the common file
-abbrev pub IsApart : RunFacts → EntryName → Type 0
-IsApart f s = (top : ℕ) (path : List ℕ) → s ≡ Within top path → home (rule f) (units f) top ≡ Common → ⊥
+-- the name isn't one of an entry for which one of a top stands that goes to the common file
+abbrev pub IsApart : RunFacts Alone → EntryName → Type 0
+IsApart f s = (top : ℕ) (path : List ℕ) → s ≡ Within top path → home f.rule (units f) ((move f).stand top) ≡ Common → ⊥
 
-module _ (f : RunFacts) (t : TextsAt) (k : EntryTable) (facts : AreFacts f) (listed : AreListed f t k) where
+module _ (f : RunFacts Alone) (t : TextsAt) (k : EntryTable) (facts : AreFacts f) (listed : AreListed f t k) where
   old_behind : (at i : ℕ) (u : DwUnit EntryName) → slice_get (units_written f) at ≡ Some u → u.at ≡ UnitOf i → is_common k at ≡ false
   unfolding common_units
   old_behind at i u e name =
@@ -64,12 +65,17 @@ module _ (f : RunFacts) (t : TextsAt) (k : EntryTable) (facts : AreFacts f) (lis
   -- ---- owners
 
   abbrev parts : List PartialUnit
-  parts = partials (rule f) (units f) (file_numbers 0 (docs f))
+  parts = (move f).parts
 
   -- that of a top with this place, where it isn't the common file
-  placed : (kept top : ℕ) → is_common k kept ≡ false → (home (rule f) (units f) top ≡ Common → ⊥) → (p : Place)
-      → IsPlace (rule f) (units f) (partials (rule f) (units f) (file_numbers 0 (docs f))) top p → is_common k (owner_at f.parts kept p) ≡ false
-  placed kept top own apart (InCommon p) q = absurd (apart q.0)
+  placed : (kept top : ℕ) → is_common k kept ≡ false → (home f.rule (units f) ((move f).stand top) ≡ Common → ⊥) → (p : Place)
+      → IsPlaceIn (move f) top p → is_common k (owner_at f.parts kept p) ≡ false
+  placed kept top own apart (InCommon p) q =
+      let none : 0 + p ≡ p = omega arith in
+      let nth : Nth 0 parts p q.1.part = subst (λ (w : ℕ). Nth 0 parts w q.1.part) none (nth_of 0 parts p q.1.part q.1.there) in
+      let y = in_map_from (λ (t : Top). t.number) ((move f).stand top) q.1.part.tops q.1.holds in
+      let is = ((part_is (units f) f.rule (file_numbers 0 (docs f)) p q.1.part nth).tops y.source).0 y.there in
+      absurd (apart (ap (home f.rule (units f)) (sym y.is) ∙ is.home ∙ q.1.home))
   placed kept top own apart (InOwn p) q =
       let none : 0 + p ≡ p = omega arith in
       let nth : Nth 0 parts p q.2.part = subst (λ (w : ℕ). Nth 0 parts w q.2.part) none (nth_of 0 parts p q.2.part q.2.there) in
@@ -114,8 +120,6 @@ module _ (f : RunFacts) (t : TextsAt) (k : EntryTable) (facts : AreFacts f) (lis
             let w = in_a_top top s e in
             let v = own_name (docs f) (o.start + i) top w.0 (there ∙ ap (λ (q : EntryName). Some q) w.1) in
             let place = slice_index_or f.planned.homes top InUnit in
-            let shown : IsPlace (rule f) (units f) parts top place =
-            subst (λ (m : ℕ). IsPlace (rule f) (units f) parts m (slice_index_or f.planned.homes m InUnit)) v.2
-            (subst (λ (fs : List ℕ). IsPlace (rule f) (units f) (partials (rule f) (units f) fs) v.0.number
-            (slice_index_or f.planned.homes v.0.number InUnit)) (sym (file_numbers_are 0 (docs f))) (facts.shows.homes v.0 v.1)) in
+            let shown : IsPlaceIn (move f) top place =
+            subst (λ (m : ℕ). IsPlaceIn (move f) m (slice_index_or f.planned.homes m InUnit)) v.2 (facts.shows.homes v.0 v.1) in
             placed kept top own (apart top w.0 w.1) place shown

@@ -39,7 +39,8 @@ use Rattle.dwz_layout.specs.Known.{number_of, top_row}
 use Rattle.dwz_encode.specs.Shown.{HasRow, IsRow}
 use Rattle.dwz_law_layout.specs.Knows.{IsRead, Writes}
 use Rattle.dwz_encode_common.specs.Placed.{in_common_file}
-use Rattle.dwz_law_layout.specs.Facts.{AreFacts, HasFile, RunFacts, docs, file_read, move, rule, units}
+use Rattle.dwz_law_layout.specs.Beside.{Alone}
+use Rattle.dwz_law_layout.specs.Facts.{AreFacts, HasFile, RunFacts, docs, file_read, move, units}
 use Rattle.dwz_law_layout.specs.Listed.{AreListed, TextsAt}
 use Rattle.dwz_law_layout.specs.New.{IsOfNew, NewNames}
 use Rattle.dwz_law_layout.specs.Settled.{IsSettled}
@@ -47,13 +48,13 @@ use Rattle.dwz_law_layout.proofs.FileEntries.{IsHere, named, number_is, read_nam
 use Rattle.dwz_law_layout.proofs.FileSpaces.{new_items}
 use Rattle.dwz_law_layout.proofs.LayoutLemmas.{knows_file, o as here_of}
 use Rattle.dwz_law_layout.proofs.PartHomes.{home_moves, home_number, top_file}
-use Rattle.dwz_law_layout.proofs.PartUnits.{part_is, part_tops}
+use Rattle.dwz_law_layout.proofs.PartUnits.{part_is}
 use Rattle.dwz_law_layout.proofs.PartsKnown.{parts_are}
 use Rattle.dwz_law_layout.proofs.TopEntries.{labelled, top_read}
 use Rattle.dwz_law_layout.proofs.TopNames.{WithinOrigin, tree_within}
 use Rattle.dwz_run_files.proofs.OwnersApart.{IsApart, owned_apart}
 
-module _ (f : RunFacts) (t : TextsAt) (k : EntryTable) (facts : AreFacts f) (listed : AreListed f t k) (n : ℕ) (bytes : List ℕ) (x : File)
+module _ (f : RunFacts Alone) (t : TextsAt) (k : EntryTable) (facts : AreFacts f) (listed : AreListed f t k) (n : ℕ) (bytes : List ℕ) (x : File)
     (index : Index) (h : HasFile f n bytes x index) (changed : changes (move f) (units f) n ≡ true) where
   abbrev o : IsHere f k n x index
   o = here_of f t k facts listed n bytes x index h
@@ -70,10 +71,10 @@ module _ (f : RunFacts) (t : TextsAt) (k : EntryTable) (facts : AreFacts f) (lis
   abbrev AllApart : List Slot → Type 0
   AllApart slots = Each (λ s. ApartOrigin s.origin) slots
 
-  origin_apart : (number : ℕ) → (home (rule f) (units f) number ≡ Common → ⊥) → (origin : Origin)
+  origin_apart : (number : ℕ) → (home f.rule (units f) ((move f).stand number) ≡ Common → ⊥) → (origin : Origin)
       → WithinOrigin f k n x index o number origin → ApartOrigin origin
   origin_apart number far (OfRow r) w =
-      (w.0, λ top path is at. far (ap (home (rule f) (units f)) (same_number number top w.1.path path (sym w.1.is ∙ is)) ∙ at))
+      (w.0, λ top path is at. far (ap (λ (m : ℕ). home f.rule (units f) ((move f).stand m)) (same_number number top w.1.path path (sym w.1.is ∙ is)) ∙ at))
   origin_apart number far (OwnRoot place) w = tt
   origin_apart number far (Chained chain space) w = tt
   origin_apart number far (Imported part) w = tt
@@ -100,17 +101,18 @@ module _ (f : RunFacts) (t : TextsAt) (k : EntryTable) (facts : AreFacts f) (lis
       → in_common_file k n i ≡ false
 
   module _ (p : ℕ) (part : PartialUnit) (nth : Nth 0 (move f).parts p part) (at : part.home ≡ Local n) where
-    not_common : (y : Top) → In y part.tops → home (rule f) (units f) y.number ≡ Common → ⊥
+    not_common : (y : Top) → In y part.tops → home f.rule (units f) ((move f).stand y.number) ≡ Common → ⊥
     not_common y is goes =
-        let own = ((part_is (units f) (rule f) (file_numbers 0 (docs f)) p part nth).tops y).0 is in
-        let no : Common ≡ Local n = sym goes ∙ own.home ∙ at in
+        let own = ((part_is (units f) f.rule (file_numbers 0 (docs f)) p part nth).tops y).0 is in
+        let stands = ((facts.goes.made p part nth tt).tops y is).stands in
+        let no : Common ≡ Local n = sym goes ∙ ap (home f.rule (units f)) stands ∙ own.home ∙ at in
         cc
 
     what_apart : (place : Option ℕ) (depth : ℕ) (what : ItemKind) → IsOfNew (units f) part what → AllApart (what_slots k (Partial place) depth what)
     what_apart place depth Root is = absurd is
     what_apart place depth Whole is = absurd is
     what_apart place depth (ATopOf top) is =
-        let own = part_tops (units f) (rule f) facts.fair (file_numbers 0 (docs f)) p part nth is.0 is.1 in
+        let own = (facts.goes.made p part nth tt).tops is.0 is.1 in
         let read = top_read f facts t k listed n x index o is.0 own.there (top_file f facts n p part nth at is.0 is.1) in
         let within = tree_within f k n x index o (knows_file f t k facts listed n bytes x index h).rows depth is.0
         (labelled f facts is.0 own.there) read in
@@ -158,7 +160,7 @@ module _ (f : RunFacts) (t : TextsAt) (k : EntryTable) (facts : AreFacts f) (lis
         subst (λ (w : List RowOfSpace). IsPart w (map (spaces_at settled.lists) (all_tops f.indexes)) (numbers_of part) u.items)
         settled.rows_are
         (subst (λ (w : List TopSpaces). IsPart s.rows.now w (numbers_of part) u.items) settled.of_tops put.items) in
-        new_items (docs f) f.indexes (rule f) (file_numbers 0 (docs f)) settled.texts settled.lists facts.indexed facts.fair spaces p part u.items nth put_so
+        new_items (docs f) f.indexes (move f) settled.texts settled.lists facts.indexed spaces p part u.items (facts.goes.made p part nth tt) put_so
 
     abbrev Put : ℕ → List PartialUnit → List UnitItems → Type 0
     Put p parts order = PartsPut s n p (map (shown_part (length (docs f))) parts) order

@@ -3,7 +3,7 @@ use Rattle.std.proofs.Common.{◌≡◌, ℕ, suc, ◌<◌, Bool, true, false, L
 use Rattle.dwz_def_reading.specs.Documents.{DwUnit}
 use Rattle.dwz_def_reading.specs.Meanings.{IfSo}
 use Rattle.dwz_def_tops.specs.Lists.{Nth}
-use Rattle.dwz_def_tops.specs.Spots.{EntryName, Top, file_numbers}
+use Rattle.dwz_def_tops.specs.Spots.{EntryName, Top}
 use Rattle.dwz_layout_items.specs.declared.partial.SpaceRow.{SpaceRow as RowOfSpace}
 use Rattle.dwz_layout_items.specs.declared.partial.TopSpaces.{TopSpaces}
 use Rattle.dwz_def_plan.specs.Homes.{Local, same_home}
@@ -21,7 +21,8 @@ use Rattle.dwz_layout_order.specs.declared.orders.Settled.{Settled}
 use Rattle.dwz_layout_order.specs.Ordered.{PartPut, PartsPut, line_given}
 use Rattle.dwz_layout.specs.declared.known.EntryTable.{EntryTable}
 use Rattle.dwz_layout.specs.declared.order.UnitItems.{UnitItems}
-use Rattle.dwz_law_layout.specs.Facts.{AreFacts, RunFacts, docs, move, rule, units}
+use Rattle.dwz_law_layout.specs.Beside.{Alone}
+use Rattle.dwz_law_layout.specs.Facts.{AreFacts, RunFacts, docs, move, units}
 use Rattle.dwz_law_layout.specs.Listed.{AreListed, TextsAt}
 use Rattle.dwz_law_layout.specs.Settled.{IsSettled}
 use Rattle.dwz_law_layout.specs.New.{NewNames}
@@ -35,7 +36,7 @@ use Rattle.dwz_run_files.proofs.SpaceUnits.{space_of_unit}
 use Rattle.dwz_run_files.specs.Stood.{KnowUnshared}
 use Rattle.dwz_run_files.proofs.UnitTexts.{Stand, unit_texts}
 
-module _ (f : RunFacts) (t : TextsAt) (k : EntryTable) (facts : AreFacts f) (listed : AreListed f t k) (stand : StandAsRead f t)
+module _ (f : RunFacts Alone) (t : TextsAt) (k : EntryTable) (facts : AreFacts f) (listed : AreListed f t k) (stand : StandAsRead f t)
     (s : Settled) (settled : IsSettled f s) (n : ℕ) where
   abbrev numbers_of : PartialUnit → List ℕ
   numbers_of part = map (λ (y : Top). y.number) part.tops
@@ -57,7 +58,7 @@ module _ (f : RunFacts) (t : TextsAt) (k : EntryTable) (facts : AreFacts f) (lis
 
     new : NewNames (units f) part o.items
     new =
-        new_items (docs f) f.indexes (rule f) (file_numbers 0 (docs f)) settled.texts settled.lists facts.indexed facts.fair spaces p part o.items nth put_so
+        new_items (docs f) f.indexes (move f) settled.texts settled.lists facts.indexed spaces p part o.items (facts.goes.made p part nth tt) put_so
 
     part_texts : part.home ≡ Local n → Stand f t k facts listed stand n o (partial_unit (move f) p)
     part_texts home =

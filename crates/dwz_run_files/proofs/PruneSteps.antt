@@ -19,6 +19,7 @@ use Rattle.dwz_layout_order.proofs.FileCounts.{are_many}
 use Rattle.dwz_layout.specs.declared.known.EntryTable.{EntryTable}
 use Rattle.dwz_layout.specs.declared.order.UnitItems.{UnitItems}
 use Rattle.dwz_encode.specs.Shown.{unit_count}
+use Rattle.dwz_law_layout.specs.Beside.{Alone}
 use Rattle.dwz_law_layout.specs.Facts.{RunFacts}
 use Rattle.dwz_law_layout.proofs.FilesFound.{bytes_there, file_there}
 use Rattle.dwz_encode_texts.specs.declared.pruning.PrunedFile.{PrunedFile}
@@ -141,13 +142,13 @@ module _ (contents : List (List ℕ)) (k : EntryTable) (w : Written) (prunes : L
 
   -- ---- all files
 
-  pruned_if : (f : RunFacts) (n : ℕ) (bytes uses : List ℕ) (flag : Bool) (o : Option PrunedFile) → f.input.prunes n ≡ flag
+  pruned_if : (f : RunFacts Alone) (n : ℕ) (bytes uses : List ℕ) (flag : Bool) (o : Option PrunedFile) → f.input.prunes n ≡ flag
       → f.input.bytes n ≡ bytes → KeepsUsed flag bytes uses o → IsPrunedIf f n uses o
   pruned_if f n bytes uses flag None same are h = same ∙ h
   pruned_if f n bytes uses flag (Some p) same are h =
       (same ∙ h.0, subst (λ (b : List ℕ). IsPrunedFile (sources_of b).strs (sources_of b).offsets uses p) (sym are) h.1)
 
-  module _ (f : RunFacts) (a : AreFilesWritten f contents w prunes) (long : length w.ranks.now ≡ length contents) where
+  module _ (f : RunFacts Alone) (a : AreFilesWritten f contents w prunes) (long : length w.ranks.now ≡ length contents) where
     stored_bytes : (n : ℕ) (bytes : List ℕ) → slice_get contents n ≡ Some bytes → f.input.bytes n ≡ bytes
     stored_bytes n bytes e =
         let many = are_many f.contents f.files f.indexes a.facts.kept a.facts.indexed in

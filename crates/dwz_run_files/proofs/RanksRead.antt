@@ -10,6 +10,7 @@ use Rattle.dwz_layout_order.proofs.FileCounts.{are_many}
 use Rattle.dwz_layout.specs.declared.known.EntryTable.{EntryTable}
 use Rattle.dwz_layout.specs.declared.order.UnitItems.{UnitItems}
 use Rattle.dwz_encode.specs.Shown.{Keys, ShowFiles, unit_count}
+use Rattle.dwz_law_layout.specs.Beside.{Alone}
 use Rattle.dwz_law_layout.specs.Facts.{AreFacts, RunFacts, files_written, move, run, units}
 use Rattle.dwz_law_layout.specs.Laid.{written_out}
 use Rattle.dwz_run_files.specs.Prepared.{AreRanks, IsOrdered, IsRank, firsts_from}
@@ -42,12 +43,12 @@ shown_many keys k unit (o ∷ orders) [] h = absurd h
 shown_many keys k unit (o ∷ orders) (x ∷ outs) h = ap suc (shown_many keys k (unit + length o) orders outs h.1)
 
 -- a file that is written has a rank
-pub record HasRank (f : RunFacts) (ranks : List (Option ℕ)) (n : ℕ) : Type 0 where
+pub record HasRank (f : RunFacts Alone) (ranks : List (Option ℕ)) (n : ℕ) : Type 0 where
   pub rank : ℕ
   pub listed : slice_get ranks n ≡ Some (Some rank)
   pub is : slice_get (files_written f) rank ≡ Some n
 
-pub rank_there : (f : RunFacts) (ranks : List (Option ℕ)) → AreFacts f → AreRanks f ranks → (n : ℕ) → changes (move f) (units f) n ≡ true
+pub rank_there : (f : RunFacts Alone) (ranks : List (Option ℕ)) → AreFacts f → AreRanks f ranks → (n : ℕ) → changes (move f) (units f) n ≡ true
     → HasRank f ranks n
 rank_there f ranks facts are n moves = by got.0 got.1 (are.each n got.0 got.1) where
   got : (r : Option ℕ) × (slice_get ranks n ≡ Some r)
@@ -64,7 +65,7 @@ rank_there f ranks facts are n moves = by got.0 got.1 (are.each n got.0 got.1) w
   by (Some rank) e is = record { rank = rank; listed = e; is = is.1 }
 
 -- where as many orders are shown as files are written, with the common one, the order of that rank is there
-pub order_there : (f : RunFacts) (orders : List (List UnitItems)) (rank n : ℕ) → length orders ≡ length (written_out f)
+pub order_there : (f : RunFacts Alone) (orders : List (List UnitItems)) (rank n : ℕ) → length orders ≡ length (written_out f)
     → slice_get (files_written f) rank ≡ Some n → (order : List UnitItems) × IsOrdered f orders n rank (unit_count (take
     (suc rank) orders)) order
 order_there f orders rank n many is =

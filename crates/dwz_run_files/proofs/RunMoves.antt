@@ -6,7 +6,8 @@ use Rattle.dwz_layout.specs.declared.order.UnitItems.{UnitItems}
 use Rattle.dwz_encode.specs.Shown.{unit_count}
 use Rattle.dwz_law_layout.specs.Knows.{NewNumbers}
 use Rattle.dwz_layout_order.specs.declared.orders.Settled.{Settled}
-use Rattle.dwz_law_layout.specs.Facts.{RunFacts, files_written, move, run, units}
+use Rattle.dwz_law_layout.specs.Beside.{Alone}
+use Rattle.dwz_law_layout.specs.Facts.{RunFacts, files_written, move, units}
 use Rattle.dwz_law_layout.specs.Listed.{TextsAt}
 use Rattle.dwz_law_layout.specs.Unfitted.{KnowTexts}
 use Rattle.dwz_law_layout.specs.Laid.{FilesTexts, TextsKnown, run_numbers}
@@ -20,7 +21,7 @@ use Rattle.dwz_run_files.proofs.CommonMoves.{common_moves}
 use Rattle.dwz_run_files.proofs.FileMoves.{file_moves}
 use Rattle.dwz_run_files.proofs.ListsMove.{lists_moved, texts_in}
 
-module _ (f : RunFacts) (k m : EntryTable) (numbers : ℕ → NewNumbers) where
+module _ (f : RunFacts Alone) (k m : EntryTable) (numbers : ℕ → NewNumbers) where
   files_move : (files : List ℕ) (orders : List (List UnitItems))
       → ((j n : ℕ) (order : List UnitItems) → slice_get files j ≡ Some n → slice_get orders j ≡ Some order
       → KnowTexts f k None n order (out_units (move f) (units f) n) → KnowTexts f m (numbers n) n order (out_units (move f) (units f) n))
@@ -31,13 +32,13 @@ module _ (f : RunFacts) (k m : EntryTable) (numbers : ℕ → NewNumbers) where
   files_move (n ∷ files) (order ∷ orders) one old =
       (one 0 n order refl refl old.0, files_move files orders (λ j x o e g. one (suc j) x o e g) old.1)
 
-module _ (f : RunFacts) (s : Settled) (t : TextsAt) (k : EntryTable) (pruned : List (Option PrunedFile)) (m : EntryTable) (h : AreMoved pruned k m) where
+module _ (f : RunFacts Alone) (s : Settled) (t : TextsAt) (k : EntryTable) (pruned : List (Option PrunedFile)) (m : EntryTable) (h : AreMoved pruned k m) where
   texts_move : (orders : List (List UnitItems)) → ArePrepared f s t k orders → StandWhole f k orders → ArePruned f k orders pruned
-      → TextsKnown f m (run_numbers (run f)) orders
+      → TextsKnown f m (run_numbers f) orders
   texts_move [] p stand are = absurd stand.known
   texts_move (common ∷ orders) p stand are = (
     common_moves f k pruned m h common (common_units (move f)) (stand.pooled common orders refl) stand.known.0,
-    files_move f k m (run_numbers (run f)) (files_written f) orders
+    files_move f k m (run_numbers f) (files_written f) orders
         (λ j n order e g old.
         (let first = unit_count (take (suc j) (common ∷ orders)) in
         let is : IsOrdered f (common ∷ orders) n j first order = record { file = e; order_is = g; first_is = refl } in

@@ -18,6 +18,7 @@ use Rattle.dwz_layout_input.specs.PlannedFiles.{PlannedFiles}
 use Rattle.dwz_layout_input.specs.Rules.{rule_by}
 use Rattle.dwz_layout_numbers.specs.declared.numbers.UnitNumbers.{UnitNumbers}
 use Rattle.dwz_layout.specs.declared.known.EntryTable.{EntryTable}
+use Rattle.dwz_law_layout.specs.Beside.{Alone}
 use Rattle.dwz_law_layout.specs.Facts.{RunFacts, docs, move, units, written}
 use Rattle.dwz_law_layout.specs.Listed.{AreListed, TextsAt}
 use Rattle.dwz_layout_order.specs.declared.orders.Settled.{Settled}
@@ -44,11 +45,11 @@ settled_so P a xs sharing p indexes scope planned holds =
 
 abbrev Settles : List (List ℕ) → SettledRun → List Index → Scope → PlannedFiles → Type 0
 Settles contents a xs sharing p =
-    (f : RunFacts) (s : Settled) → AreFactsOf contents xs sharing p f → Lends a.settled s → IsSettled f s
+    (f : RunFacts Alone) (s : Settled) → AreFactsOf contents xs sharing p f → Lends a.settled s → IsSettled f s
 
 abbrev Imports : List (List ℕ) → SettledRun → List Index → Scope → PlannedFiles → Type 0
 Imports contents a xs sharing p =
-    (f : RunFacts) → AreFactsOf contents xs sharing p f
+    (f : RunFacts Alone) → AreFactsOf contents xs sharing p f
     → a.settled.importing.items ≡ map (imports_common (move f) (units f)) (file_numbers 0 (docs f))
 
 pub run_settled : (contents : List (List ℕ)) (files : List File) (a : SettledRun) (xs : List Index) (sharing : Scope) (p : PlannedFiles)
@@ -69,7 +70,7 @@ run_settled contents files a xs sharing p kept indexes scope planned indexed are
 
 pub docs_many : (contents : List (List ℕ)) (a : SettledRun) → IsSettledRun contents a → length (docs_of contents) ≡ length contents
 docs_many contents a is =
-    let f : RunFacts = record {
+    let f : RunFacts Alone = record {
       contents = contents;
       files = [];
       indexes = a.indexes.now;
@@ -102,7 +103,7 @@ pub all_listed : {E : Type 0} (contents : List (List ℕ)) (files : List File) (
     (t : TextsAt) (r : Result EntryTable E) → xs ≡ a.indexes.now → flags ≡ a.settled.written.items
     → AreNumbersOf (docs_of contents) a.settled.planned.plan flags numbers → t.files ≡ map texts_in_file files
     → HaveNames contents xs t.spaces
-    → ((f : RunFacts) → AreMade f files xs a.settled.planned.plan numbers → IfOk r (λ k. AreListed f t k))
+    → ((f : RunFacts Alone) → AreMade f files xs a.settled.planned.plan numbers → IfOk r (λ k. AreListed f t k))
     → IfOk r (AreListedAsRead contents files a)
 all_listed contents files a xs flags numbers t (Ok k) indexes written numbered texts names listed = record {
   numbers = numbers;
@@ -110,6 +111,6 @@ all_listed contents files a xs flags numbers t (Ok k) indexes written numbered t
   texts = t;
   texts_are = texts;
   names = subst (λ (ys : List Index). HaveNames contents ys t.spaces) indexes names;
-  listed = subst (λ (ys : List Index). (f : RunFacts) → AreMade f files ys a.settled.planned.plan numbers → AreListed f t k) indexes listed;
+  listed = subst (λ (ys : List Index). (f : RunFacts Alone) → AreMade f files ys a.settled.planned.plan numbers → AreListed f t k) indexes listed;
 }
 all_listed contents files a xs flags numbers t (Err e) indexes written numbered texts names listed = tt

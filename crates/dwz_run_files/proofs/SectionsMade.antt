@@ -8,6 +8,7 @@ use Rattle.dwz_def_tops.proofs.SpotLemmas.{numbers_same}
 use Rattle.dwz_def_readback.specs.Files.{Run, sections_of, sources, strs_if}
 use Rattle.dwz_def_output.specs.Contents.{offsets_after_by, sections_after_by, strs_after_by}
 use Rattle.dwz_def_output.specs.Contents.{if_other, lists_after, offsets_after, offsets_if, ranges_after, sections_after, strs_after}
+use Rattle.dwz_law_layout.specs.Beside.{Alone}
 use Rattle.dwz_law_layout.specs.Facts.{RunFacts, run}
 use Rattle.dwz_run_files.specs.Moved.{pruned_at}
 use Rattle.dwz_encode_texts.specs.declared.pruning.PrunedFile.{PrunedFile}
@@ -40,7 +41,7 @@ module _ (r : Run) (file : ℕ) where
       ap (λ (bytes : List ℕ). if_other (sources r file).offsets bytes) is.1.slots
       ∙ ap (λ (b : Bool). if_other (sources r file).offsets (offsets_if b r file)) (sym is.0)
 
-module _ (f : RunFacts) (w : LaidRun) (m : FileAfter) (is : IsMoved f w m) where
+module _ (f : RunFacts Alone) (w : LaidRun) (m : FileAfter) (is : IsMoved f w m) where
   abbrev r : Run
   r = run f
 

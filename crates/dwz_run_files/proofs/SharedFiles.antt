@@ -21,6 +21,7 @@ use Rattle.dwz_layout.specs.Entries.{items_slots, row}
 use Rattle.dwz_layout.specs.Known.{number_of, space_at}
 use Rattle.dwz_encode.specs.Shown.{HasRow, IsRow}
 use Rattle.dwz_law_layout.specs.Knows.{FileRead, IsText, Writes, name_attr}
+use Rattle.dwz_law_layout.specs.Beside.{Alone}
 use Rattle.dwz_law_layout.specs.Facts.{AreFacts, HasFile, RunFacts, docs, file_read, move, run, units}
 use Rattle.dwz_law_layout.specs.Laid.{FilesTexts}
 use Rattle.dwz_law_layout.specs.Listed.{AreListed, TextsAt}
@@ -47,7 +48,7 @@ had_row before k number same (s ∷ slots) (inl is) = inl (by s.origin is) where
   by (Chained chain space) is = absurd is
   by (Imported part) is = absurd is
 
-module _ (f : RunFacts) (t : TextsAt) (sharing : List Bool) (before k : EntryTable) (facts : AreFacts f) (listed : AreListed f t before)
+module _ (f : RunFacts Alone) (t : TextsAt) (sharing : List Bool) (before k : EntryTable) (facts : AreFacts f) (listed : AreListed f t before)
     (has : HasCommon f sharing before k) where
   -- what a unit writes it wrote before
   pub wrote : (o : UnitItems) (F : FileRead) (i : ℕ) → Writes k o F i → Writes before o F i

@@ -11,7 +11,7 @@ use Rattle.dwz_def_reading.specs.Meanings.{Sources, alone}
 use Rattle.dwz_def_reading.specs.Meant.{units_meaning}
 use Rattle.dwz_def_reading.specs.Shared.{ListOperand}
 use Rattle.dwz_def_tops.specs.Spots.{EntryName}
-use Rattle.dwz_def_plan.specs.Homes.{Rule}
+use Rattle.dwz_def_plan.specs.Moves.{Move}
 use Rattle.dwz_layout_numbers.specs.Images.{IsFile, IsPlanned}
 use Rattle.dwz_layout.specs.declared.known.FileRows.{FileRows}
 use Rattle.dwz_encode_operands.specs.Narrow.{FirstPlace, after_in, number_by}
@@ -21,7 +21,8 @@ use Rattle.dwz_graph.specs.ListOperand.{ListOperand as OperandOfCode}
 use Rattle.dwz_graph.specs.ListRows.{operand_view}
 use Rattle.dwz_graph.specs.Named.{units_refs}
 use Rattle.dwz_encode_sections.specs.Ranges.{AreMoved}
-use Rattle.dwz_law_layout.specs.Facts.{RunFacts, docs, rule, run}
+use Rattle.dwz_law_layout.specs.Beside.{Alone}
+use Rattle.dwz_law_layout.specs.Facts.{RunFacts, docs, move, run}
 use Rattle.dwz_encode_operands.specs.Operands.{AreNewNumbers, HasNewNumbers}
 use Rattle.dwz_run_files.specs.Spots.{unit_places_from}
 use Rattle.dwz_run_files.specs.declared.moved.FileAfter.{FileAfter}
@@ -31,7 +32,7 @@ use Rattle.dwz_run_files.proofs.FileFacts.{file_here, is_planned, lists_are, ope
 use Rattle.dwz_run_files.proofs.FirstNarrow.{begin_after, listed_first, numbers_new, spoken_first, targets_are, units_mean}
 use Rattle.dwz_run_files.proofs.LowBytes.{low}
 
-module _ (f : RunFacts) (w : LaidRun) (m : FileAfter) (is : IsMoved f w m) where
+module _ (f : RunFacts Alone) (w : LaidRun) (m : FileAfter) (is : IsMoved f w m) where
   abbrev us : List RawUnit
   us = raw f w m is
 
@@ -74,7 +75,7 @@ module _ (f : RunFacts) (w : LaidRun) (m : FileAfter) (is : IsMoved f w m) where
 
     pub listed_found : (ops : List OperandOfCode) (at numbers ns : List ℕ) (first : Option ℕ) → ops ≡ operands f w m is
         → at ≡ w.layout.now.places → ns ≡ numbers
-        → ((ds : List (Doc ℕ)) (by : Rule) (names : List EntryName) → IsPlanned ds by (plan f w m is) w.tops.now
+        → ((ds : List (Doc ℕ)) (by : Move) (names : List EntryName) → IsPlanned ds by (plan f w m is) w.tops.now
         → IsFile ds names m.index.now m.start
         → AreNewNumbers ds by names at units_at ops numbers)
         → ((us : List RawUnit) (number : ListOperand → ℕ) → ns ≡ map (λ o. number (operand_view us o)) ops
@@ -82,10 +83,10 @@ module _ (f : RunFacts) (w : LaidRun) (m : FileAfter) (is : IsMoved f w m) where
         → FirstPlace (number_by after) (listed (run f) m.number) first
     listed_found ops at numbers ns first same places are news finds =
         let have : (names : List EntryName) → IsFile (docs f) names m.index.now m.start
-        → AreNewNumbers (docs f) (rule f) names w.layout.now.places units_at (operands f w m is) numbers =
-        λ names of. subst (λ (ps : List ℕ). AreNewNumbers (docs f) (rule f) names ps units_at (operands f w m is) numbers) places
-        (subst (λ (os : List OperandOfCode). AreNewNumbers (docs f) (rule f) names at units_at os numbers) same (news (docs f)
-        (rule f) names (is_planned f w m is) of)) in
+        → AreNewNumbers (docs f) (move f) names w.layout.now.places units_at (operands f w m is) numbers =
+        λ names of. subst (λ (ps : List ℕ). AreNewNumbers (docs f) (move f) names ps units_at (operands f w m is) numbers) places
+        (subst (λ (os : List OperandOfCode). AreNewNumbers (docs f) (move f) names at units_at os numbers) same (news (docs f)
+        (move f) names (is_planned f w m is) of)) in
         let new = numbers_new f w m is units_at begin numbers have in
         let found = finds us (number_by after) (are ∙ new ∙ ap (λ (os : List OperandOfCode). map (λ o. number_by after
         (operand_view us o)) os) (sym same)) in
@@ -94,17 +95,17 @@ module _ (f : RunFacts) (w : LaidRun) (m : FileAfter) (is : IsMoved f w m) where
 
     pub lists_found : {E : Type 0} (ops : List OperandOfCode) (at : List ℕ) (r : Result (Vec ℕ Global) E) → ops ≡ operands f w m is
         → at ≡ w.layout.now.places
-        → ((ds : List (Doc ℕ)) (by : Rule) (names : List EntryName) → IsPlanned ds by (plan f w m is) w.tops.now
+        → ((ds : List (Doc ℕ)) (by : Move) (names : List EntryName) → IsPlanned ds by (plan f w m is) w.tops.now
         → IsFile ds names m.index.now m.start
         → IfOk r (λ out. HasNewNumbers ds by names at units_at ops (x f w m is).sections.lists.now out.items))
         → IfOk r (λ out. out.items ≡ lists_after (run f) m.number)
     lists_found ops at (Ok out) same places news =
         lists_are f w m is units_at begin out.items (λ names of.
-        subst (λ (ps : List ℕ). HasNewNumbers (docs f) (rule f) names ps units_at (operands f w m is)
+        subst (λ (ps : List ℕ). HasNewNumbers (docs f) (move f) names ps units_at (operands f w m is)
         (x f w m is).sections.lists.now out.items) places
-        (subst (λ (os : List OperandOfCode). HasNewNumbers (docs f) (rule f) names at units_at os
+        (subst (λ (os : List OperandOfCode). HasNewNumbers (docs f) (move f) names at units_at os
         (x f w m is).sections.lists.now out.items) same
-        (news (docs f) (rule f) names (is_planned f w m is) of)))
+        (news (docs f) (move f) names (is_planned f w m is) of)))
     lists_found ops at (Err e) same places news = tt
 
     pub ranges_found : {E : Type 0} (starts lows : List ℕ) (r : Result (Vec ℕ Global) E) → length units_at ≡ length us

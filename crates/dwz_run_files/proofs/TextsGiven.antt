@@ -9,6 +9,7 @@ use Rattle.dwz_layout_order.specs.declared.orders.Settled.{Settled}
 use Rattle.dwz_layout_order.specs.Ordered.{AreOrders}
 use Rattle.dwz_layout.specs.declared.known.EntryTable.{EntryTable}
 use Rattle.dwz_layout.specs.declared.order.UnitItems.{UnitItems}
+use Rattle.dwz_law_layout.specs.Beside.{Alone}
 use Rattle.dwz_law_layout.specs.Facts.{RunFacts, docs, files_written, move, run, units}
 use Rattle.dwz_law_layout.specs.Laid.{TextsKnown}
 use Rattle.dwz_law_layout.specs.Listed.{AreListed, TextsAt}
@@ -31,11 +32,11 @@ use Rattle.dwz_run_files.proofs.OwnedTexts.{names_owned, order_owned}
 use Rattle.dwz_run_files.proofs.SharedFiles.{files_shared}
 
 -- the texts of the entries of each unit
-entries_pooled : (f : RunFacts) (k : EntryTable) (order : List UnitItems) → Each (Pools f k) order → Each (PoolsUnit f k) order
+entries_pooled : (f : RunFacts Alone) (k : EntryTable) (order : List UnitItems) → Each (Pools f k) order → Each (PoolsUnit f k) order
 entries_pooled f k [] all = tt
 entries_pooled f k (o ∷ order) all = (λ n bytes x index h i r d read writes. all.0.entries n bytes x index h i r d read writes, entries_pooled f k order all.1)
 
-module _ (f : RunFacts) (s : Settled) (t : TextsAt) (before : EntryTable) (orders : List (List UnitItems)) (p : ArePrepared f s t before orders)
+module _ (f : RunFacts Alone) (s : Settled) (t : TextsAt) (before : EntryTable) (orders : List (List UnitItems)) (p : ArePrepared f s t before orders)
     (as_read : StandAsRead f t) where
   -- the first order is that of the common file
   pub common_order : (common : List UnitItems) (others : List (List UnitItems)) → orders ≡ common ∷ others → IsCommonOrder f before common

@@ -11,7 +11,7 @@ use Rattle.dwz_def_reading.specs.Meanings.{MeaningContext, MeansKind, MeansUnit,
 use Rattle.dwz_def_reading.proofs.MeaningUnits.{unit_agrees}
 use Rattle.dwz_def_tops.specs.Spots.{EntryName, FileUnit, RootOf, UnitOf, in_file}
 use Rattle.dwz_def_tops.specs.Lists.{Nth}
-use Rattle.dwz_def_plan.specs.Plan.{image}
+use Rattle.dwz_def_plan.specs.Moves.{image_in}
 use Rattle.dwz_def_encoding.specs.Writing.{written_header_size}
 use Rattle.dwz_def_readback.specs.Files.{name_after, places}
 use Rattle.dwz_unit.specs.Rows.{EntryRow, rows_of, units_of as raw_units}
@@ -27,7 +27,8 @@ use Rattle.dwz_layout_numbers.specs.Images.{starts_from}
 use Rattle.dwz_layout_numbers.specs.Names.{all_names}
 use Rattle.dwz_layout.specs.declared.known.EntryTable.{EntryTable}
 use Rattle.dwz_layout.specs.Laid.{made_of}
-use Rattle.dwz_law_layout.specs.Facts.{AreFacts, RunFacts, docs, rule, run, units}
+use Rattle.dwz_law_layout.specs.Beside.{Alone}
+use Rattle.dwz_law_layout.specs.Facts.{AreFacts, RunFacts, docs, move, run, units}
 use Rattle.dwz_law_layout.proofs.FileEntries.{IsHere, here, named, named_all}
 use Rattle.dwz_law_layout.proofs.ImagesStand.{old}
 use Rattle.dwz_law_layout.proofs.EntriesPlaced.{run_roots}
@@ -49,7 +50,7 @@ mapped_size g Partial = refl
 
 -- ---- roots
 
-module _ (f : RunFacts) (k : EntryTable) (facts : AreFacts f) (n : ℕ) (x : File) (index : Index) (o : IsHere f k n x index) where
+module _ (f : RunFacts Alone) (k : EntryTable) (facts : AreFacts f) (n : ℕ) (x : File) (index : Index) (o : IsHere f k n x index) where
   abbrev raw : List RawUnit
   raw = raw_units x.units
 
@@ -101,7 +102,7 @@ unit_begins f t k orders lay n bytes x index h changed start start_is j lt =
     let number = index.starts.unit + j in
     let begins : o.start ≡ start = same_got (starts_from 0 f.indexes) n o.start start o.start_is start_is in
     let name : name_after (run f) n (place_at raw e) ≡ RootOf number =
-    ap (image (rule f) (units f)) (o.among.names (place_at raw e) ∙ w.name) in
+    ap (image_in (move f)) (o.among.names (place_at raw e) ∙ w.name) in
     let there : slice_get (all_names (docs f)) (start + e) ≡ Some (name_after (run f) n (place_at raw e)) =
     ap (λ (m : ℕ). slice_get (all_names (docs f)) (m + e)) (sym begins)
     ∙ named_all f k n x index o e w.low

@@ -12,6 +12,7 @@ use Rattle.dwz_layout_numbers.proofs.WholeLemmas.{all_inside}
 use Rattle.dwz_layout_input.proofs.Fits.{whole}
 use Rattle.dwz_layout.specs.declared.order.UnitItems.{UnitItems}
 use Rattle.dwz_layout.specs.Laid.{made_of}
+use Rattle.dwz_law_layout.specs.Beside.{Alone}
 use Rattle.dwz_law_layout.specs.Facts.{AreFacts, RunFacts, docs, run}
 use Rattle.dwz_run_files.specs.Prepared.{IsRank}
 use Rattle.dwz_run_files.specs.declared.prepared.PreparedFiles.{PreparedFiles}
@@ -46,7 +47,7 @@ pub parts_few : (contents : List (List ℕ)) (prunes : List Bool) (all : ReadyRu
 parts_few contents prunes all r = (let fits = r.ready.fits in let parts = fits.few_parts in let rows = fits.few_rows in omega
     (arith, parts, rows))
 
-module _ (f : RunFacts) (p : PreparedFiles) (works : WorksOf f p) (xs : List Index) (same : xs ≡ p.run.indexes.now) where
+module _ (f : RunFacts Alone) (p : PreparedFiles) (works : WorksOf f p) (xs : List Index) (same : xs ≡ p.run.indexes.now) where
   facts : AreFacts f
   facts = works.ready.can.facts
 
@@ -65,7 +66,7 @@ module _ (f : RunFacts) (p : PreparedFiles) (works : WorksOf f p) (xs : List Ind
       (all_inside (docs f) f.indexes facts.indexed (whole f.contents f.files facts.kept))
 
 -- the files are laid by these lists
-pub work_made : (f : RunFacts) (w : LaidRun) → WorksOf f w.prepared.now → (xs : List Index) (os : List (List UnitItems)) (ss ts : List ℕ)
+pub work_made : (f : RunFacts Alone) (w : LaidRun) → WorksOf f w.prepared.now → (xs : List Index) (os : List (List UnitItems)) (ss ts : List ℕ)
     → xs ≡ w.prepared.now.run.indexes.now → os ≡ w.prepared.now.ordered.orders.items → w.layout.now ≡ made_of w.prepared.now.known os
     → w.starts.now ≡ ss → ss ≡ starts_from 0 xs → w.tops.now ≡ ts → ts ≡ tops_from 0 xs → IsWork f w
 work_made f w works xs os ss ts indexes orders layout starts begin tops there =
@@ -79,7 +80,7 @@ work_made f w works xs os ss ts indexes orders layout starts begin tops there =
 
 -- ---- file by file
 
-module _ (f : RunFacts) (w : LaidRun) (is : IsWork f w) (ranks : List (Option ℕ)) (same : ranks ≡ w.prepared.now.ordered.ranks.items) where
+module _ (f : RunFacts Alone) (w : LaidRun) (is : IsWork f w) (ranks : List (Option ℕ)) (same : ranks ≡ w.prepared.now.ordered.ranks.items) where
   pub rank_found : (n : ℕ) (rank : Option ℕ) → n < length ranks → rank ≡ get_or ranks n None → IsRank f n rank
   rank_found n rank less at =
       let there : slice_get w.prepared.now.ordered.ranks.items n ≡ Some rank =

@@ -9,6 +9,7 @@ use Rattle.dwz_graph.specs.declared.file.File.{File}
 use Rattle.dwz_layout_order.specs.declared.orders.Settled.{Settled}
 use Rattle.dwz_layout.specs.declared.known.EntryTable.{EntryTable}
 use Rattle.dwz_layout.specs.declared.order.UnitItems.{UnitItems}
+use Rattle.dwz_law_layout.specs.Beside.{Alone}
 use Rattle.dwz_law_layout.specs.Facts.{RunFacts, docs, move, run, units}
 use Rattle.dwz_law_layout.specs.Listed.{TextsAt}
 use Rattle.dwz_encode_texts.specs.TextLaws.{StandAsRead}
@@ -21,7 +22,7 @@ use Rattle.dwz_run_files.specs.Whole.{StandWhole}
 -- file that says whether it imports from the common file.
 pub record StandBefore (contents : List (List ℕ)) (files : List File) (importing : List Bool) (k : EntryTable) (orders : List (List
     UnitItems))
-    (f : RunFacts) (s : Settled) (t : TextsAt) : Type 0 where
+    (f : RunFacts Alone) (s : Settled) (t : TextsAt) : Type 0 where
   pub contents_are : f.contents ≡ contents
   pub files_are : f.files ≡ files
   pub importing_are : importing ≡ map (imports_common (move f) (units f)) (file_numbers 0 (docs f))
@@ -40,7 +41,7 @@ bytes_if_some (b ∷ bytes) = Some (b ∷ bytes)
 
 -- The lists are still those of the files; all texts stand where the definitions say while none is taken out, and those of the common file
 -- are few.
-pub record AreWhole (f : RunFacts) (s : Settled) (orders : List (List UnitItems)) (w : WholeLists) : Type 0 where
+pub record AreWhole (f : RunFacts Alone) (s : Settled) (orders : List (List UnitItems)) (w : WholeLists) : Type 0 where
   pub texts : TextsAt
   pub prepared : ArePrepared f s texts w.known orders
   pub stand : StandWhole f w.known orders

@@ -7,6 +7,7 @@ use Rattle.dwz_def_readback.specs.Sound.{FewTexts}
 use Rattle.dwz_layout.specs.declared.known.EntryTable.{EntryTable}
 use Rattle.dwz_layout.specs.declared.order.UnitItems.{UnitItems}
 use Rattle.dwz_layout_order.specs.declared.orders.Settled.{Settled}
+use Rattle.dwz_law_layout.specs.Beside.{Alone}
 use Rattle.dwz_law_layout.specs.Facts.{RunFacts, run}
 use Rattle.dwz_law_layout.specs.Listed.{TextsAt}
 use Rattle.dwz_law_layout.specs.Laid.{TextsKnown, run_numbers}
@@ -20,7 +21,7 @@ use Rattle.dwz_run_files.specs.Whole.{StandWhole}
 -- are those that its units after use, and each names a text of the file.
 abbrev pub UsesLaw : Type 0
 UsesLaw =
-    (f : RunFacts) (s : Settled) (t : TextsAt) (k : EntryTable) (orders : List (List UnitItems)) → ArePrepared f s t k orders
+    (f : RunFacts Alone) (s : Settled) (t : TextsAt) (k : EntryTable) (orders : List (List UnitItems)) → ArePrepared f s t k orders
     → StandWhole f k orders → FewTexts (run f) → (n rank first : ℕ) (order : List UnitItems) → IsOrdered f orders n rank first order
     → (order_uses k first order ≡ units_uses (formed (run f) n))
     × All (λ used. IsSome (text_at (sources (run f) n).strs used)) (order_uses k first order)
@@ -29,14 +30,14 @@ UsesLaw =
 -- definitions say, with the new numbers of the run.
 abbrev pub MovedLaw : Type 0
 MovedLaw =
-    (f : RunFacts) (s : Settled) (t : TextsAt) (k : EntryTable) (orders : List (List UnitItems)) → ArePrepared f s t k orders
+    (f : RunFacts Alone) (s : Settled) (t : TextsAt) (k : EntryTable) (orders : List (List UnitItems)) → ArePrepared f s t k orders
     → StandWhole f k orders → (pruned : List (Option PrunedFile)) → ArePruned f k orders pruned
     → (moved : EntryTable) → AreMoved pruned k moved
-    → (after : TextsAt) × ArePrepared f s after moved orders × TextsKnown f moved (run_numbers (run f)) orders
+    → (after : TextsAt) × ArePrepared f s after moved orders × TextsKnown f moved (run_numbers f) orders
 
 -- So what is settled can be laid.
 abbrev pub OrderLaw : Type 0
 OrderLaw =
-    (f : RunFacts) (s : Settled) (t : TextsAt) (k : EntryTable) (orders : List (List UnitItems)) → ArePrepared f s t k orders
+    (f : RunFacts Alone) (s : Settled) (t : TextsAt) (k : EntryTable) (orders : List (List UnitItems)) → ArePrepared f s t k orders
     → StandWhole f k orders → FewTexts (run f) → (pruned : List (Option PrunedFile)) → ArePruned f k orders pruned
     → (moved : EntryTable) → AreMoved pruned k moved → (after : TextsAt) × CanLay f after moved orders

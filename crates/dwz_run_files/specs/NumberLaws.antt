@@ -12,6 +12,7 @@ use Rattle.dwz_layout_input.specs.PlannedFiles.{PlannedFiles}
 use Rattle.dwz_layout_input.specs.Fits.{FitsFiles}
 use Rattle.dwz_layout_numbers.specs.declared.numbers.UnitNumbers.{UnitNumbers}
 use Rattle.dwz_layout_numbers.specs.Images.{entry_count}
+use Rattle.dwz_law_layout.specs.Beside.{Alone}
 use Rattle.dwz_law_layout.specs.Facts.{AreFacts, RunFacts, written}
 use Rattle.dwz_layout_order.specs.declared.orders.Settled.{Settled as Lent}
 use Rattle.dwz_law_layout.specs.Settled.{IsSettled}
@@ -39,20 +40,20 @@ EntriesLaw =
 pub record HasFlags (contents : List (List ℕ)) (indexes : List Index) (sharing : Scope) (p : PlannedFiles) (r : SettledFiles)
     : Type 0 where
   pub many : length r.written.items ≡ length contents
-  pub are : (f : RunFacts) → AreFactsOf contents indexes sharing p f → r.written.items ≡ written f
+  pub are : (f : RunFacts Alone) → AreFactsOf contents indexes sharing p f → r.written.items ≡ written f
 
 -- what is settled of planned files, and lent, has them
 abbrev pub FlagsLaw : Type 0
 FlagsLaw =
     (contents : List (List ℕ)) (files : List File) (indexes : List Index) (sharing : Scope) (p : PlannedFiles) (r : SettledFiles)
     (s : Lent)
-    → AreKept contents files → Lends r s → ((f : RunFacts) (t : Lent) → AreFactsOf contents indexes sharing p f → Lends r t → IsSettled f t)
+    → AreKept contents files → Lends r s → ((f : RunFacts Alone) (t : Lent) → AreFactsOf contents indexes sharing p f → Lends r t → IsSettled f t)
     → HasFlags contents indexes sharing p r
 
 -- ---- facts
 
 -- the facts have these numbers of units
-pub record HasNumbers (f : RunFacts) (n : UnitNumbers) : Type 0 where
+pub record HasNumbers (f : RunFacts Alone) (n : UnitNumbers) : Type 0 where
   pub commons : f.commons ≡ n.commons
   pub parts : f.parts ≡ n.parts.items
   pub olds : f.olds ≡ n.olds.items
@@ -60,7 +61,7 @@ pub record HasNumbers (f : RunFacts) (n : UnitNumbers) : Type 0 where
 -- facts of stored files and their plan are facts, with the numbers of their units by the flags of the files that are written
 abbrev pub PlannedFactsLaw : Type 0
 PlannedFactsLaw =
-    (contents : List (List ℕ)) (indexes : List Index) (sharing : Scope) (p : PlannedFiles) (f : RunFacts)
+    (contents : List (List ℕ)) (indexes : List Index) (sharing : Scope) (p : PlannedFiles) (f : RunFacts Alone)
     → ArePlanned sharing (docs_of contents) p → AreFactsOf contents indexes sharing p f → AreStored f
     → (flags : List Bool) (n : UnitNumbers) → flags ≡ written f → AreNumbersOf (docs_of contents) p.plan flags n → HasNumbers f n
     → AreFacts f
@@ -68,7 +69,7 @@ PlannedFactsLaw =
 -- so are those of what is settled, with the numbers by its plan and its flags
 abbrev pub SettledFactsLaw : Type 0
 SettledFactsLaw =
-    (contents : List (List ℕ)) (indexes : List Index) (sharing : Scope) (p : PlannedFiles) (r : SettledFiles) (f : RunFacts)
+    (contents : List (List ℕ)) (indexes : List Index) (sharing : Scope) (p : PlannedFiles) (r : SettledFiles) (f : RunFacts Alone)
     → ArePlanned sharing (docs_of contents) p → r.planned ≡ p → HasFlags contents indexes sharing p r
     → AreFactsOf contents indexes sharing p f → AreStored f
     → (n : UnitNumbers) → AreNumbersOf (docs_of contents) r.planned.plan r.written.items n → HasNumbers f n → AreFacts f

@@ -8,6 +8,7 @@ use Rattle.dwz_layout.specs.declared.known.EntryTable.{EntryTable}
 use Rattle.dwz_layout.specs.declared.order.UnitItems.{UnitItems}
 use Rattle.dwz_encode.specs.Laws.{IsOrderOf}
 use Rattle.dwz_encode.specs.Shown.{unit_count}
+use Rattle.dwz_law_layout.specs.Beside.{Alone}
 use Rattle.dwz_law_layout.specs.Facts.{AreFacts, RunFacts, docs, files_written, move, units}
 use Rattle.dwz_law_layout.specs.Listed.{AreListed, TextsAt}
 use Rattle.dwz_law_layout.specs.Named.{keys}
@@ -15,7 +16,7 @@ use Rattle.dwz_law_layout.specs.Laid.{written_out}
 use Rattle.dwz_law_layout.specs.Settled.{IsSettled}
 
 -- The order is that of what is settled, and the lists are of the files, whose texts stand there.
-pub record ArePrepared (f : RunFacts) (s : Settled) (t : TextsAt) (k : EntryTable) (orders : List (List UnitItems)) : Type 0 where
+pub record ArePrepared (f : RunFacts Alone) (s : Settled) (t : TextsAt) (k : EntryTable) (orders : List (List UnitItems)) : Type 0 where
   pub facts : AreFacts f
   pub read : AreRead f.input (docs f)
   pub settled : IsSettled f s
@@ -24,7 +25,7 @@ pub record ArePrepared (f : RunFacts) (s : Settled) (t : TextsAt) (k : EntryTabl
 
 -- The file with that number is written, and has that rank among those that are. Its units are in this order, and the first of them has
 -- that number among all units that are written. The common file has the first order.
-pub record IsOrdered (f : RunFacts) (orders : List (List UnitItems)) (n rank first : ℕ) (order : List UnitItems) : Type 0 where
+pub record IsOrdered (f : RunFacts Alone) (orders : List (List UnitItems)) (n rank first : ℕ) (order : List UnitItems) : Type 0 where
   pub file : slice_get (files_written f) rank ≡ Some n
   pub order_is : slice_get orders (suc rank) ≡ Some order
   pub first_is : first ≡ unit_count (take (suc rank) orders)
@@ -32,12 +33,12 @@ pub record IsOrdered (f : RunFacts) (orders : List (List UnitItems)) (n rank fir
 -- ---- which files are written
 
 -- the rank of the file with that number, or none where nothing of it moves
-abbrev pub IsRank : RunFacts → ℕ → Option ℕ → Type 0
+abbrev pub IsRank : RunFacts Alone → ℕ → Option ℕ → Type 0
 IsRank f n None = changes (move f) (units f) n ≡ false
 IsRank f n (Some rank) = (changes (move f) (units f) n ≡ true) × (slice_get (files_written f) rank ≡ Some n)
 
 -- there is an answer for each file
-pub record AreRanks (f : RunFacts) (ranks : List (Option ℕ)) : Type 0 where
+pub record AreRanks (f : RunFacts Alone) (ranks : List (Option ℕ)) : Type 0 where
   pub many : length ranks ≡ length (docs f)
   pub each : (n : ℕ) (rank : Option ℕ) → slice_get ranks n ≡ Some rank → IsRank f n rank
 
@@ -49,7 +50,7 @@ firsts_from first (order ∷ orders) = first ∷ firsts_from (first + length ord
 -- ---- in the end
 
 -- The order is one of the common file and the files that are written, with what is in these lists. So it can be laid.
-pub record CanLay (f : RunFacts) (t : TextsAt) (k : EntryTable) (orders : List (List UnitItems)) : Type 0 where
+pub record CanLay (f : RunFacts Alone) (t : TextsAt) (k : EntryTable) (orders : List (List UnitItems)) : Type 0 where
   pub facts : AreFacts f
   pub read : AreRead f.input (docs f)
   pub listed : AreListed f t k

@@ -4,6 +4,7 @@ use Rattle.dwz_def_tops.specs.Spots.{file_numbers}
 use Rattle.dwz_def_images.specs.Units.{changes}
 use Rattle.dwz_def_readback.specs.Files.{Run, imports_common}
 use Rattle.dwz_def_output.specs.Written.{stored_of}
+use Rattle.dwz_law_layout.specs.Beside.{Alone}
 use Rattle.dwz_law_layout.specs.Facts.{RunFacts, docs, move, run, units}
 use Rattle.dwz_law_layout.specs.Listed.{TextsAt}
 use Rattle.dwz_run_files.specs.Moved.{pruned_at}
@@ -18,7 +19,7 @@ use Rattle.dwz_run_files.specs.declared.prepared.ReadyRun.{ReadyRun}
 use Rattle.dwz_run_files.specs.Common.{HasTexts}
 
 -- the facts are of files with these contents, which share so, are stored with these flags, and are prepared so
-pub record AreFactsOf (contents : List (List ℕ)) (prunes : List Bool) (p : PreparedFiles) (f : RunFacts) : Type 0 where
+pub record AreFactsOf (contents : List (List ℕ)) (prunes : List Bool) (p : PreparedFiles) (f : RunFacts Alone) : Type 0 where
   pub contents_are : f.contents ≡ contents
   pub input_is : f.input ≡ stored_of contents prunes
   pub rule_is : f.rule ≡ rule_by p.run.settled.scope (docs_of contents)
@@ -33,7 +34,7 @@ IsPruned r n (Some p) = (r.input.prunes n ≡ true) × ArePruned r n p
 
 -- What is written of these files can be laid, in this order and with these lists, where the texts stand that stay; and there is a flag for
 -- each that says whether it imports from the common file.
-pub record IsReady (f : RunFacts) (p : PreparedFiles) : Type 0 where
+pub record IsReady (f : RunFacts Alone) (p : PreparedFiles) : Type 0 where
   pub texts : TextsAt
   pub can : CanLay f texts p.known p.ordered.orders.items
   pub fits : FitsFiles p.run.settled.scope (docs_of f.contents) p.run.settled.planned.tops p.run.settled.planned.plan
@@ -44,7 +45,7 @@ pub record IsReady (f : RunFacts) (p : PreparedFiles) : Type 0 where
 
 -- there are such facts, with these texts of the common file
 pub record AreReady (contents : List (List ℕ)) (prunes : List Bool) (r : ReadyRun) : Type 0 where
-  pub facts : RunFacts
+  pub facts : RunFacts Alone
   pub theirs : AreFactsOf contents prunes r.files facts
   pub ready : IsReady facts r.files
   pub texts : HasTexts (run facts) r.common

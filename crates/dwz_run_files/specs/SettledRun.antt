@@ -8,6 +8,7 @@ use Rattle.dwz_graph.specs.Indexed.{AreIndexes}
 use Rattle.dwz_layout.specs.declared.known.EntryTable.{EntryTable}
 use Rattle.dwz_layout.specs.declared.order.UnitItems.{UnitItems}
 use Rattle.dwz_layout_numbers.specs.declared.numbers.UnitNumbers.{UnitNumbers}
+use Rattle.dwz_law_layout.specs.Beside.{Alone}
 use Rattle.dwz_law_layout.specs.Facts.{RunFacts, docs, move, units, written}
 use Rattle.dwz_law_layout.specs.Listed.{AreListed, TextsAt}
 use Rattle.dwz_layout_order.specs.declared.orders.Settled.{Settled}
@@ -24,7 +25,7 @@ use Rattle.dwz_run_files.specs.declared.settled.SettledRun.{SettledRun}
 use Rattle.dwz_run_files.specs.declared.ordered.OrderedFiles.{OrderedFiles}
 
 -- facts of these files, which share so
-abbrev pub AreTheirs : List (List ℕ) → SettledRun → RunFacts → Type 0
+abbrev pub AreTheirs : List (List ℕ) → SettledRun → RunFacts Alone → Type 0
 AreTheirs contents a f = AreFactsOf contents a.indexes.now a.settled.scope a.settled.planned f
 
 -- The files with these contents have these indexes, and they are planned and settled, in that scope; and there is a flag for each that
@@ -32,10 +33,10 @@ AreTheirs contents a f = AreFactsOf contents a.indexes.now a.settled.scope a.set
 pub record IsSettledRun (contents : List (List ℕ)) (a : SettledRun) : Type 0 where
   pub indexed : AreIndexes (docs_of contents) a.indexes.now
   pub planned : ArePlanned a.settled.scope (docs_of contents) a.settled.planned
-  pub settled : (f : RunFacts) (s : Settled) → AreTheirs contents a f → Lends a.settled s → IsSettled f s
+  pub settled : (f : RunFacts Alone) (s : Settled) → AreTheirs contents a f → Lends a.settled s → IsSettled f s
   pub fits : (s : Settled) → Lends a.settled s → AreSettled s
   pub flags : HasFlags contents a.indexes.now a.settled.scope a.settled.planned a.settled
-  pub importing : (f : RunFacts) → AreTheirs contents a f
+  pub importing : (f : RunFacts Alone) → AreTheirs contents a f
       → a.settled.importing.items ≡ map (imports_common (move f) (units f)) (file_numbers 0 (docs f))
 
 -- what is settled of them is written in this order
@@ -47,7 +48,7 @@ pub record IsInOrder (contents : List (List ℕ)) (a : SettledRun) (orders : Lis
 -- so it is, and the files have these ranks and the orders these first units
 pub record AreOrdered (contents : List (List ℕ)) (a : SettledRun) (o : OrderedFiles) : Type 0 where
   pub order : IsInOrder contents a o.orders.items
-  pub ranks : (f : RunFacts) → a.settled.written.items ≡ written f → AreRanks f o.ranks.items
+  pub ranks : (f : RunFacts Alone) → a.settled.written.items ≡ written f → AreRanks f o.ranks.items
   pub firsts : o.firsts.items ≡ firsts_from 0 o.orders.items
 
 -- The lists are those of the files, with these numbers of units, and the texts stand in them where they were read. What they have of texts
@@ -58,4 +59,4 @@ pub record AreListedAsRead (contents : List (List ℕ)) (files : List File) (a :
   pub texts : TextsAt
   pub texts_are : texts.files ≡ map texts_in_file files
   pub names : HaveNames contents a.indexes.now texts.spaces
-  pub listed : (f : RunFacts) → AreMade f files a.indexes.now a.settled.planned.plan numbers → AreListed f texts k
+  pub listed : (f : RunFacts Alone) → AreMade f files a.indexes.now a.settled.planned.plan numbers → AreListed f texts k

@@ -9,6 +9,7 @@ use Rattle.dwz_layout_numbers.specs.Images.{starts_from}
 use Rattle.dwz_layout.specs.declared.known.EntryTable.{EntryTable}
 use Rattle.dwz_layout.specs.declared.order.UnitItems.{UnitItems}
 use Rattle.dwz_layout.specs.Laid.{made_of}
+use Rattle.dwz_law_layout.specs.Beside.{Alone}
 use Rattle.dwz_law_layout.specs.Facts.{HasFile, RunFacts, move, units}
 use Rattle.dwz_law_layout.specs.Listed.{TextsAt}
 use Rattle.dwz_run_files.specs.Prepared.{CanLay}
@@ -28,9 +29,9 @@ unit_places_from first places (u ∷ units) =
 -- ---- laws
 
 -- P holds of each file of which something moves, where what is written can be laid
-abbrev pub OfWritten : (RunFacts → EntryTable → List (List UnitItems) → ℕ → File → Index → Type 0) → Type 0
+abbrev pub OfWritten : (RunFacts Alone → EntryTable → List (List UnitItems) → ℕ → File → Index → Type 0) → Type 0
 OfWritten P =
-    (f : RunFacts) (t : TextsAt) (k : EntryTable) (orders : List (List UnitItems)) → CanLay f t k orders
+    (f : RunFacts Alone) (t : TextsAt) (k : EntryTable) (orders : List (List UnitItems)) → CanLay f t k orders
     → (n : ℕ) (bytes : List ℕ) (x : File) (index : Index) → HasFile f n bytes x index → changes (move f) (units f) n ≡ true
     → P f k orders n x index
 

@@ -10,6 +10,7 @@ use Rattle.dwz_layout.specs.declared.known.TextAt.{TextAt}
 use Rattle.dwz_layout.specs.declared.order.UnitItems.{UnitItems}
 use Rattle.dwz_layout.specs.Known.{space_at, text_at}
 use Rattle.dwz_law_layout.specs.Knows.{EachFrom, IsRead, Writes, firsts_at, texts_in}
+use Rattle.dwz_law_layout.specs.Beside.{Alone}
 use Rattle.dwz_law_layout.specs.Facts.{HasFile, RunFacts, file_read}
 use Rattle.dwz_law_layout.specs.Laid.{TextsKnown}
 use Rattle.dwz_law_layout.specs.Listed.{entry_row, space_entries}
@@ -17,7 +18,7 @@ use Rattle.dwz_encode_texts.specs.MovedTexts.{IsPooled}
 use Rattle.dwz_run_files.specs.Prepared.{IsOrdered}
 
 -- P holds of the place of each text that a unit writes of an entry of the file with that number
-abbrev pub EachText : (TextAt → Type 0) → RunFacts → EntryTable → UnitItems → ℕ → Type 0
+abbrev pub EachText : (TextAt → Type 0) → RunFacts Alone → EntryTable → UnitItems → ℕ → Type 0
 EachText P f k o n =
     (bytes : List ℕ) (x : File) (index : Index) → HasFile f n bytes x index
     → (i : ℕ) (r : EntryRow) (d : Node ℕ) → IsRead (file_read f n bytes x) i r d → Writes k o (file_read f n bytes x) i
@@ -25,7 +26,7 @@ EachText P f k o n =
     (texts_in (node_map (file_read f n bytes x).after d).attrs)
 
 -- all that a unit writes of entries of any file are texts of the common file, in a unit of that file
-abbrev pub PoolsUnit : RunFacts → EntryTable → UnitItems → Type 0
+abbrev pub PoolsUnit : RunFacts Alone → EntryTable → UnitItems → Type 0
 PoolsUnit f k o = (n : ℕ) → EachText IsPooled f k o n
 
 -- the text isn't one that the common file holds
@@ -33,7 +34,7 @@ abbrev pub IsNotPooled : TextAt → Type 0
 IsNotPooled t = IsPooled t → ⊥
 
 -- the name of each space of the file with that number, in a partial unit of it, isn't one
-abbrev pub OwnsNames : RunFacts → EntryTable → ℕ → Type 0
+abbrev pub OwnsNames : RunFacts Alone → EntryTable → ℕ → Type 0
 OwnsNames f k n =
     (bytes : List ℕ) (x : File) (index : Index) → HasFile f n bytes x index → (space i : ℕ) (r : EntryRow) (d : Node ℕ)
     → slice_get (space_entries 0 f.indexes) space ≡ Some (entry_row n i) → IsRead (file_read f n bytes x) i r d
@@ -41,7 +42,7 @@ OwnsNames f k n =
 
 -- All texts stand where the definitions say while none is taken out. Those of units of the common file are its own texts, which no
 -- pruning of a file moves, and those of units of other files aren't.
-pub record StandWhole (f : RunFacts) (k : EntryTable) (orders : List (List UnitItems)) : Type 0 where
+pub record StandWhole (f : RunFacts Alone) (k : EntryTable) (orders : List (List UnitItems)) : Type 0 where
   pub known : TextsKnown f k (λ n. None) orders
   pub pooled : (common : List UnitItems) (others : List (List UnitItems)) → orders ≡ common ∷ others → Each (PoolsUnit f k) common
   pub owned : (n rank first : ℕ) (order : List UnitItems) → IsOrdered f orders n rank first order

@@ -9,6 +9,7 @@ use Rattle.dwz_unit.specs.Rows.{units_of as raw_units}
 use Rattle.dwz_layout_numbers.specs.Images.{starts_from, tops_from}
 use Rattle.dwz_layout.specs.Laid.{made_of}
 use Rattle.dwz_encode.specs.Pages.{units_page}
+use Rattle.dwz_law_layout.specs.Beside.{Alone}
 use Rattle.dwz_law_layout.specs.Facts.{HasFile, RunFacts, move, run, units}
 use Rattle.dwz_run_files.specs.Prepared.{IsRank}
 use Rattle.dwz_encode_operands.specs.NumberLaws.{AreUnitPlaces}
@@ -23,7 +24,7 @@ use Rattle.dwz_run_files.specs.declared.work.LaidRun.{LaidRun}
 -- ---- all files
 
 -- the facts are of these files, which are few and ready to be laid
-pub record WorksOf (f : RunFacts) (p : PreparedFiles) : Type 0 where
+pub record WorksOf (f : RunFacts Alone) (p : PreparedFiles) : Type 0 where
   pub ready : IsReady f p
   pub few : length p.files.now < 2 ^ 32
   pub files_are : f.files ≡ p.files.now
@@ -31,21 +32,21 @@ pub record WorksOf (f : RunFacts) (p : PreparedFiles) : Type 0 where
   pub plan_is : f.planned ≡ p.run.settled.planned.plan
 
 -- they are laid, and their entries and tops are counted so
-pub record IsWork (f : RunFacts) (w : LaidRun) : Type 0 where
+pub record IsWork (f : RunFacts Alone) (w : LaidRun) : Type 0 where
   pub works : WorksOf f w.prepared.now
   pub layout_is : w.layout.now ≡ made_of w.prepared.now.known w.prepared.now.ordered.orders.items
   pub starts_are : w.starts.now ≡ starts_from 0 f.indexes
   pub tops_are : w.tops.now ≡ tops_from 0 f.indexes
 
 -- the file with that number is written, and has that rank among those that are
-abbrev pub HasRank : RunFacts → ℕ → ℕ → Type 0
+abbrev pub HasRank : RunFacts Alone → ℕ → ℕ → Type 0
 HasRank f number rank = IsRank f number (Some rank)
 
 -- ---- one file
 
 -- It is one of the files, with its index and where it is counted and laid, and something of it moves. The bytes of its units and its
 -- tables are those of the run.
-pub record IsMoved (f : RunFacts) (w : LaidRun) (m : FileAfter) : Type 0 where
+pub record IsMoved (f : RunFacts Alone) (w : LaidRun) (m : FileAfter) : Type 0 where
   pub works : IsWork f w
   pub moves : changes (move f) (units f) m.number ≡ true
   pub bytes : List ℕ
@@ -56,7 +57,7 @@ pub record IsMoved (f : RunFacts) (w : LaidRun) (m : FileAfter) : Type 0 where
   pub abbrevs : joined m.laid.now.tables ≡ (sections_of (run f) m.number).abbrevs
 
 -- each unit of the file has the place where it begins after
-abbrev pub HaveUnitPlaces : RunFacts → FileAfter → List ℕ → Type 0
+abbrev pub HaveUnitPlaces : RunFacts Alone → FileAfter → List ℕ → Type 0
 HaveUnitPlaces f m units_at = AreUnitPlaces f m.index.now.starts.unit (raw_units m.file.now.units) units_at
 
 -- the sections of texts and of their slots, where some texts are taken out

@@ -2,6 +2,7 @@
 
 ghost use Rattle.std.specs.Prelude.{◌≡◌, ◌<◌, ◌^◌, IfOk, length};
 ghost use Rattle.dwz_def_reading.specs.ElfLayout.{too_large};
+ghost use Rattle.dwz_law_layout.specs.Beside.{Alone};
 ghost use Rattle.dwz_law_layout.specs.Facts.{RunFacts};
 ghost use Rattle.dwz_law_layout.specs.Listed.{TextsAt};
 ghost use Rattle.dwz_layout_order.specs.declared.orders.Settled.{Settled};
@@ -53,8 +54,8 @@ fn with_texts<'u, 'a>(
     orders: &[FileItems],
     known: EntryTable<'u, 'a>,
 ) -> Result<WholeLists<'u, 'a>, NoMemory>
-    requires { (f : RunFacts) × (s : Settled) × (t : TextsAt) × StandBefore graph.now.given files.now importing.now known orders.now f s t }
-    ensures { (f : RunFacts) (s : Settled) (t : TextsAt) → StandBefore graph.now.given files.now importing.now known.entry orders.now f s t
+    requires { (f : RunFacts Alone) × (s : Settled) × (t : TextsAt) × StandBefore graph.now.given files.now importing.now known orders.now f s t }
+    ensures { (f : RunFacts Alone) (s : Settled) (t : TextsAt) → StandBefore graph.now.given files.now importing.now known.entry orders.now f s t
         → 0 < known.entry.commons → IfOk result (AreWhole f s orders.now) }
 {
     let order = orders[0].as_slice();
@@ -82,8 +83,8 @@ pub(crate) fn whole_lists<'u, 'a>(
     orders: &[FileItems],
     known: EntryTable<'u, 'a>,
 ) -> Result<WholeLists<'u, 'a>, NoMemory>
-    requires { (f : RunFacts) × (s : Settled) × (t : TextsAt) × StandBefore graph.now.given files.now importing.now known orders.now f s t }
-    ensures { (f : RunFacts) (s : Settled) (t : TextsAt) → StandBefore graph.now.given files.now importing.now known.entry orders.now f s t
+    requires { (f : RunFacts Alone) × (s : Settled) × (t : TextsAt) × StandBefore graph.now.given files.now importing.now known orders.now f s t }
+    ensures { (f : RunFacts Alone) (s : Settled) (t : TextsAt) → StandBefore graph.now.given files.now importing.now known.entry orders.now f s t
         → IfOk result (AreWhole f s orders.now) }
 {
     if known.commons == 0 {

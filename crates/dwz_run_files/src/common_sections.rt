@@ -2,6 +2,7 @@
 
 ghost use Rattle.std.specs.Prelude.{◌≡◌, Some, IfOk};
 ghost use Rattle.dwz_def_output.specs.NewFiles.{IsNewCommon};
+ghost use Rattle.dwz_law_layout.specs.Beside.{Alone};
 ghost use Rattle.dwz_law_layout.specs.Facts.{RunFacts, run};
 ghost use Rattle.dwz_def_output.specs.Contents.{common_after};
 ghost use Rattle.dwz_run_files.specs.Common.{HasTexts, bytes_if_some};
@@ -32,8 +33,8 @@ fn sections_of<R: Threads + Sync>(
     texts: CommonTexts,
     workers: u32,
 ) -> Result<Sections, NoMemory>
-    requires { (f : RunFacts) × IsWork f work.now }
-    ensures { (f : RunFacts) → IsWork f work.now → HasTexts (run f) (Some texts) → IfOk result (λ s. s ≡ common_after (run f)) }
+    requires { (f : RunFacts Alone) × IsWork f work.now }
+    ensures { (f : RunFacts Alone) → IsWork f work.now → HasTexts (run f) (Some texts) → IfOk result (λ s. s ≡ common_after (run f)) }
 {
     let units = work.prepared.ordered.orders[0].as_slice();
     let laid = work.layout.file(0);
@@ -59,8 +60,8 @@ pub(crate) fn new_common<R: Threads + Sync>(
     texts: Option<CommonTexts>,
     workers: u32,
 ) -> Result<Option<Sections>, NoMemory>
-    requires work { (f : RunFacts) × IsWork f work.now × HasTexts (run f) texts }
-    ensures { (f : RunFacts) → IsWork f work.now → HasTexts (run f) texts → IfOk result (IsNewCommon (run f)) }
+    requires work { (f : RunFacts Alone) × IsWork f work.now × HasTexts (run f) texts }
+    ensures { (f : RunFacts Alone) → IsWork f work.now → HasTexts (run f) texts → IfOk result (IsNewCommon (run f)) }
 {
     match texts {
         Some(texts) => {

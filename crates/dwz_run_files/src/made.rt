@@ -3,6 +3,7 @@
 ghost use Rattle.std.specs.Prelude.{◌≡◌, ◌<◌, ◌≤◌, ◌^◌, length, map, IfOk};
 ghost use Rattle.dwz_def_output.specs.NewFiles.{AreNew, IsNewCommon};
 ghost use Rattle.dwz_def_readback.specs.Back.{run_of};
+ghost use Rattle.dwz_law_layout.specs.Beside.{Alone};
 ghost use Rattle.dwz_law_layout.specs.Facts.{RunFacts, run};
 ghost use Rattle.dwz_graph.specs.Files.{docs_of};
 ghost use Rattle.dwz_def_output.specs.Written.{ArePrunable, stored_of};
@@ -51,11 +52,11 @@ fn lay_files<R: Threads + Sync>(
     texts: Option<CommonTexts>,
     workers: u32,
 ) -> Result<Laid, NoMemory>
-    requires works { (f : RunFacts) × WorksOf f prepared.now × HasTexts (run f) texts }
+    requires works { (f : RunFacts Alone) × WorksOf f prepared.now × HasTexts (run f) texts }
     requires workers { (0 < workers) × (workers ≤ 64) }
-    ensures common { (f : RunFacts) → WorksOf f prepared.now → HasTexts (run f) texts
+    ensures common { (f : RunFacts Alone) → WorksOf f prepared.now → HasTexts (run f) texts
         → IfOk result (λ laid. IsNewCommon (run f) laid.common) }
-    ensures files { (f : RunFacts) → WorksOf f prepared.now → IfOk result (λ laid. AreNewFiles (run f) laid.files.items) }
+    ensures files { (f : RunFacts Alone) → WorksOf f prepared.now → IfOk result (λ laid. AreNewFiles (run f) laid.files.items) }
 {
     let indexes = prepared.run.indexes;
     let layout = Layout::make(alloc, &prepared.known, &prepared.ordered.orders)?;

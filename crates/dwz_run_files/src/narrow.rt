@@ -5,6 +5,7 @@
 
 ghost use Rattle.std.specs.Prelude.{◌≡◌, ℕ, length, IfOk};
 ghost use Rattle.dwz_def_output.specs.NewFiles.{IsFound, NarrowFault};
+ghost use Rattle.dwz_law_layout.specs.Beside.{Alone};
 ghost use Rattle.dwz_law_layout.specs.Facts.{RunFacts, run};
 ghost use Rattle.dwz_encode_operands.specs.Narrow.{FirstPlace, after_in, number_by};
 ghost use Rattle.dwz_def_output.specs.Contents;
@@ -26,9 +27,9 @@ fn first_in_info(
     moved: &FileAfter,
     units_at: &[u64],
 ) -> Result<Option<u64>, NoMemory>
-    requires moved { (f : RunFacts) × IsMoved f work.now moved.now }
+    requires moved { (f : RunFacts Alone) × IsMoved f work.now moved.now }
     requires many { length units_at.now ≡ length (raw_units moved.now.file.now.units) }
-    ensures { (f : RunFacts) → IsMoved f work.now moved.now → HaveUnitPlaces f moved.now units_at.now
+    ensures { (f : RunFacts Alone) → IsMoved f work.now moved.now → HaveUnitPlaces f moved.now units_at.now
         → IfOk result (FirstPlace (number_by (after_in (run f) moved.now.number)) (Refusals.spoken (run f) moved.now.number)) }
 {
     let places = work.layout.spots().places.as_slice();
@@ -44,8 +45,8 @@ fn first_in_lists(
     moved: &FileAfter,
     units_at: &[u64],
 ) -> Result<Option<u64>, NoMemory>
-    requires { (f : RunFacts) × IsMoved f work.now moved.now }
-    ensures { (f : RunFacts) → IsMoved f work.now moved.now → HaveUnitPlaces f moved.now units_at.now
+    requires { (f : RunFacts Alone) × IsMoved f work.now moved.now }
+    ensures { (f : RunFacts Alone) → IsMoved f work.now moved.now → HaveUnitPlaces f moved.now units_at.now
         → IfOk result (FirstPlace (number_by (after_in (run f) moved.now.number)) (Contents.listed (run f) moved.now.number)) }
 {
     let operands = moved.file.resolved.operands.as_slice();
@@ -80,9 +81,9 @@ pub(crate) fn narrow_fault(
     moved: &FileAfter,
     units_at: &[u64],
 ) -> Result<Option<Fault>, NoMemory>
-    requires moved { (f : RunFacts) × IsMoved f work.now moved.now }
+    requires moved { (f : RunFacts Alone) × IsMoved f work.now moved.now }
     requires many { length units_at.now ≡ length (raw_units moved.now.file.now.units) }
-    ensures { (f : RunFacts) → IsMoved f work.now moved.now → HaveUnitPlaces f moved.now units_at.now
+    ensures { (f : RunFacts Alone) → IsMoved f work.now moved.now → HaveUnitPlaces f moved.now units_at.now
         → IfOk result (IsFound (NarrowFault (run f) moved.now.number)) }
 {
     if let Some(at) = first_in_info(alloc, work, moved, units_at)? {

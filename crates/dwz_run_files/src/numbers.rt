@@ -5,6 +5,7 @@
 
 ghost use Rattle.std.specs.Prelude.{◌≡◌, ◌%◌, ◌^◌, ℕ, length, map, IfOk};
 ghost use Rattle.dwz_def_reading.specs.Units.{RawUnit};
+ghost use Rattle.dwz_law_layout.specs.Beside.{Alone};
 ghost use Rattle.dwz_law_layout.specs.Facts.{RunFacts, run};
 ghost use Rattle.dwz_def_output.specs.Contents.{lists_after, ranges_after};
 ghost use Rattle.dwz_encode_texts.specs.declared.pruning.PrunedFile.{PrunedFile};
@@ -59,8 +60,8 @@ pub(crate) fn lists(
     moved: &FileAfter,
     units_at: &[u64],
 ) -> Result<Vec<u8>, NoMemory>
-    requires { (f : RunFacts) × IsMoved f work.now moved.now }
-    ensures { (f : RunFacts) → IsMoved f work.now moved.now → HaveUnitPlaces f moved.now units_at.now
+    requires { (f : RunFacts Alone) × IsMoved f work.now moved.now }
+    ensures { (f : RunFacts Alone) → IsMoved f work.now moved.now → HaveUnitPlaces f moved.now units_at.now
         → IfOk result (λ out. out.items ≡ lists_after (run f) moved.now.number) }
 {
     let file = moved.file;
@@ -113,9 +114,9 @@ pub(crate) fn address_ranges(
     moved: &FileAfter,
     units_at: &[u64],
 ) -> Result<Vec<u8>, NoMemory>
-    requires moved { (f : RunFacts) × IsMoved f work.now moved.now }
+    requires moved { (f : RunFacts Alone) × IsMoved f work.now moved.now }
     requires many { length units_at.now ≡ length (raw_units moved.now.file.now.units) }
-    ensures { (f : RunFacts) → IsMoved f work.now moved.now → HaveUnitPlaces f moved.now units_at.now
+    ensures { (f : RunFacts Alone) → IsMoved f work.now moved.now → HaveUnitPlaces f moved.now units_at.now
         → IfOk result (λ out. out.items ≡ ranges_after (run f) moved.now.number) }
 {
     let file = moved.file;

@@ -4,6 +4,7 @@
 //! one further, since the common file has the first order.
 
 ghost use Rattle.std.specs.Prelude.{◌≡◌, ◌<◌, ◌^◌, length, IfOk};
+ghost use Rattle.dwz_law_layout.specs.Beside.{Alone};
 ghost use Rattle.dwz_law_layout.specs.Facts.{RunFacts, written as written_of};
 ghost use Rattle.dwz_run_files.specs.Prepared.{AreRanks, firsts_from};
 
@@ -15,7 +16,7 @@ use std::alloc::Global;
 pub fn ranks_of(alloc: Global, written: &[bool]) -> Result<Vec<Option<u32>>, NoMemory>
     requires { length written.now < 2 ^ 32 }
     ensures many { IfOk result (λ ranks. length ranks.items ≡ length written.now) }
-    ensures ranks { (f : RunFacts) → written.now ≡ written_of f → IfOk result (λ ranks. AreRanks f ranks.items) }
+    ensures ranks { (f : RunFacts Alone) → written.now ≡ written_of f → IfOk result (λ ranks. AreRanks f ranks.items) }
 {
     let mut ranks = Vec::with_capacity(alloc, written.len())?;
     let mut next = 0;

@@ -99,7 +99,7 @@ module _ (docs : List (Doc ℕ)) (common : Doc ℕ) (fixed : Fixed) (p : ArePlac
   file_origins : (file : ℕ) (i : ℕ) (u : FileUnit EntryName) → Nth 0 (units_of docs) i u → u.file ≡ file → CarriedUnit (OfFile (sources r file)) (bases_in u.unit) u.unit
   file_origins file i u nth of_file = subst (λ (n : ℕ). CarriedUnit (OfFile (sources_of (input.bytes n))) (bases_in u.unit) u.unit) of_file (unit_read i u nth)
 
-  file_operands : (file : ℕ) → Each (λ v. CarriedUnit (OfFile (sources r file)) (origin_in r.move r.units v.at) v) (out_units r.move r.units file)
+  pub file_operands : (file : ℕ) → Each (λ v. CarriedUnit (OfFile (sources r file)) (origin_in r.move r.units v.at) v) (out_units r.move r.units file)
       → Each (OperandsStand (tells_by cf r file)) (out_units r.move r.units file)
   file_operands file carried =
       let name : ℕ → EntryName = λ n. name_of_place docs (at_file file n) in
@@ -119,7 +119,7 @@ module _ (docs : List (Doc ℕ)) (common : Doc ℕ) (fixed : Fixed) (p : ArePlac
   file_lists : (file : ℕ) → In file r.files → NoneShared (lists_named r file)
   file_lists file there = (let o = number_nth 0 docs file there in (are file o.0 o.1).reads.lists)
 
-  file_bases : (file : ℕ) → Each (BasesStand (file_forms_by cf r file)) (out_units r.move r.units file)
+  pub file_bases : (file : ℕ) → Each (BasesStand (file_forms_by cf r file)) (out_units r.move r.units file)
   file_bases file =
       each_more (BasesStand (file_forms r file)) (BasesStand (file_forms_by cf r file)) (out_units r.move r.units file) (λ v b. record { own = b.own; root = b.root; below = b.below })
       (out_bases r file old

@@ -1,0 +1,3 @@
+pub mod OverFacts
+pub mod OverMoves
+pub mod OverWhole

@@ -1,0 +1,13 @@
+use Rattle.dwz_law_over.proofs.OverFacts.{are_facts}
+use Rattle.dwz_law_over.proofs.OverMoves.{over_moves}
+use Rattle.dwz_law_over.proofs.OverWhole.{over_whole}
+use Rattle.dwz_law_over.proofs.over_laws.Goals as goal
+
+pub returns-clause-moves : goal.returns-clause-moves
+returns-clause-moves c = over_moves
+
+pub returns-clause-whole : goal.returns-clause-whole
+returns-clause-whole c = over_whole
+
+pub returns-clause-facts : goal.returns-clause-facts
+returns-clause-facts c = are_facts

@@ -86,4 +86,3 @@ run_laid f k orders facts order =
     let all = made_of k orders in
     files_are (numbering same_spot (written_out f)) (places_of f) k all.places all.roots 0 orders all.files (written_out f) (sections_are (keys f) k orders (written_out f) order)
     (λ x there. same_laid f facts x there)
-

@@ -33,7 +33,7 @@ use Rattle.dwz_layout.specs.declared.known.EntryTable.{EntryTable}
 use Rattle.dwz_layout.specs.declared.order.UnitItems.{UnitItems}
 use Rattle.dwz_layout.specs.Laid.{AllMade, made_of}
 use Rattle.dwz_law_layout.specs.Beside.{Alone}
-use Rattle.dwz_law_layout.specs.Facts.{AreFacts, RunFacts, docs, move, run}
+use Rattle.dwz_law_layout.specs.Facts.{AreFacts, RunFacts, docs, every, move, run}
 use Rattle.dwz_law_layout.proofs.FileEntries.{IsHere, here}
 use Rattle.dwz_run_files.specs.Prepared.{CanLay}
 use Rattle.dwz_encode_operands.specs.NumberLaws.{ArePlaces}

@@ -21,7 +21,7 @@ use Rattle.dwz_law_layout.specs.Named.{keys}
 use Rattle.dwz_law_layout.specs.Trees.{IsReadFile}
 use Rattle.dwz_law_layout.proofs.PartHomes.{file_read_there}
 use Rattle.dwz_law_layout.specs.Laid.{written_out}
-use Rattle.dwz_law_layout.proofs.FilesLaid.{run_laid}
+use Rattle.dwz_law_layout.proofs.SectionsLaid.{run_laid}
 use Rattle.dwz_layout_input.proofs.RowSteps.{starts_many}
 use Rattle.dwz_run_files.specs.declared.prepared.PreparedFiles.{PreparedFiles}
 use Rattle.dwz_run_files.proofs.RanksRead.{first_behind, firsts_many, shown_many}

@@ -1,3 +1,4 @@
+pub mod AddsLemmas
 pub mod ApartLemmas
 pub mod FoundLemmas
 pub mod MarkCodes

@@ -74,7 +74,7 @@ front_none : (xs ys : List ℕ) → xs ++ ys ≡ [] → xs ≡ []
 front_none [] ys e = refl
 front_none (x ∷ xs) ys e = absurd cc
 
-some_byte : (n : ℕ) (rest : List ℕ) → number n ++ rest ≡ [] → ⊥
+pub some_byte : (n : ℕ) (rest : List ℕ) → number n ++ rest ≡ [] → ⊥
 some_byte n rest e =
     let none = front_none (number n) rest e in
     let whole : number n ++ number (suc n) ≡ number (suc n) ++ [] = ap (λ (x : List ℕ). x ++ number (suc n)) none ∙ sym (append-nil (number (suc n))) in

@@ -1,6 +1,6 @@
 //! Names: bytes that have numbers.
 
-ghost use Rattle.std.specs.Prelude.{◌≡◌, [], Some, IfOk};
+ghost use Rattle.std.specs.Prelude.{◌≡◌, ◌<◌, [], Some, IfOk, length, slice_get};
 ghost use Rattle.dwz_def_reading.specs.TextRows.{text_number};
 ghost use Rattle.dwz_label_marks.specs.Told.{Keeps};
 
@@ -30,6 +30,24 @@ impl Names {
     {
         Names {
             texts: Texts::new(alloc),
+        }
+    }
+
+    /// How many there are.
+    pub fn len(&self) -> u32
+        ensures { result ≡ length self.now }
+    {
+        self.texts.len()
+    }
+
+    /// The bytes with a number.
+    pub fn bytes(&self, number: u32) -> &[u8]
+        requires { number < length self.now }
+        ensures { slice_get self.now number ≡ Some result.now }
+    {
+        match self.texts.text(number) {
+            Some(bytes) => bytes,
+            None => &[],
         }
     }
 

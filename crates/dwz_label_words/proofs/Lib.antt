@@ -1,10 +1,11 @@
-pub mod AddsLemmas
 pub mod AttrLemmas
 pub mod NumLemmas
 pub mod RowLemmas
 pub mod RowsLemmas
 pub mod ShapeLemmas
+pub mod StepsLemmas
 pub mod TargetLemmas
 pub mod TopLemmas
 pub mod UsualLemmas
+pub mod UsualTops
 pub mod ValueLemmas

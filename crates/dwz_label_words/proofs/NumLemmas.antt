@@ -5,7 +5,7 @@ use Rattle.dwz_def_reading.specs.TextRows.{text_number}
 use Rattle.dwz_label.specs.Labels.{number, plain_label}
 use Rattle.dwz_label_marks.specs.Marks.{direct, mark_or, plain_mark}
 use Rattle.dwz_label_marks.specs.Told.{Adds}
-use Rattle.dwz_label_words.proofs.AddsLemmas.{adds_named}
+use Rattle.dwz_label_marks.proofs.AddsLemmas.{adds_named}
 
 pub wide_named : (width : ℕ) (z : ℤ) → (width ≡ 0 → ⊥) → direct (Num width z) ≡ None
 wide_named zero z ne = absurd (ne refl)

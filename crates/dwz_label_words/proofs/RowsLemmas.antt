@@ -11,7 +11,7 @@ use Rattle.dwz_graph.proofs.StepLemmas.{no_row, row}
 use Rattle.dwz_label_marks.specs.Marks.{Mark, node_marks}
 use Rattle.dwz_label_marks.specs.Told.{Adds, Keeps}
 use Rattle.dwz_label_words.specs.Told.{AreUsual, IsUsual, TellsEntry, rows_marks}
-use Rattle.dwz_label_words.proofs.AddsLemmas.{adds_both, adds_kept, adds_none}
+use Rattle.dwz_label_marks.proofs.AddsLemmas.{adds_both, adds_kept, adds_none}
 use Rattle.dwz_unit.specs.Rows.{EntryRow}
 
 module _ (raw : List RawUnit) (s : MeaningContext ℕ) (name : ℕ → EntryName) (n end : ℕ) (after : List EntryRow) (old : List ℕ) (all : List Mark) where

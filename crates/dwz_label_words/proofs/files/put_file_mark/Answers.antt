@@ -5,7 +5,7 @@ use Rattle.dwz_def_reading.specs.Meanings.{stmt_list}
 use Rattle.dwz_label_entries.specs.Plain.{KnowsLine}
 use Rattle.dwz_label_marks.specs.Marks.{plain_mark}
 use Rattle.dwz_label_marks.specs.Told.{Adds}
-use Rattle.dwz_label_words.proofs.AddsLemmas.{adds_plainly}
+use Rattle.dwz_label_marks.proofs.AddsLemmas.{adds_plainly}
 use Rattle.dwz_label_words.proofs.RowLemmas.{no_file}
 use Rattle.dwz_label_words.proofs.files.put_file_mark.Goals as goal
 

@@ -3,7 +3,7 @@ use Rattle.std.proofs.lemmas.Result.{on_ok_weaker}
 use Rattle.dwz_def_reading.specs.Documents.{Flag}
 use Rattle.dwz_label_marks.specs.Marks.{plain_mark}
 use Rattle.dwz_label_marks.specs.Told.{Adds}
-use Rattle.dwz_label_words.proofs.AddsLemmas.{adds_plainly}
+use Rattle.dwz_label_marks.proofs.AddsLemmas.{adds_plainly}
 use Rattle.dwz_label_words.proofs.numbers.put_flag_mark.Goals as goal
 
 pub returns-then-flag : goal.returns-then-flag

@@ -2,7 +2,7 @@ use Rattle.std.proofs.Common.{◌∙◌, ◌/◌, ◌%◌, ◌+◌, ◌*◌, ◌
 use Rattle.std.proofs.lemmas.List.{append_assoc}
 use Rattle.std.proofs.lemmas.Result.{on_ok_weaker}
 use Rattle.dwz_label.specs.Labels.{number}
-use Rattle.dwz_label_words.proofs.AddsLemmas.{large}
+use Rattle.dwz_label_words.proofs.StepsLemmas.{large}
 use Rattle.dwz_label_words.proofs.numbers.put_large.Goals as goal
 
 pub returns : goal.returns

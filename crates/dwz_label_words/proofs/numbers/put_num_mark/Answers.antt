@@ -5,7 +5,7 @@ use Rattle.std.proofs.lemmas.Result.{on_ok_weaker}
 use Rattle.dwz_def_reading.specs.Documents.{Num}
 use Rattle.dwz_label_marks.specs.Marks.{plain_mark}
 use Rattle.dwz_label_marks.specs.Told.{Adds}
-use Rattle.dwz_label_words.proofs.AddsLemmas.{adds_plainly}
+use Rattle.dwz_label_marks.proofs.AddsLemmas.{adds_plainly}
 use Rattle.dwz_label_words.proofs.numbers.put_num_mark.Goals as goal
 
 pub returns-clause-told : goal.returns-clause-told

@@ -3,7 +3,8 @@ use Rattle.std.proofs.lemmas.Result.{on_ok_weaker}
 use Rattle.dwz_graph.specs.Names.{path_in}
 use Rattle.dwz_label_marks.specs.Marks.{Mark}
 use Rattle.dwz_label_marks.specs.Told.{Adds}
-use Rattle.dwz_label_words.proofs.AddsLemmas.{adds_path, adds_plainly}
+use Rattle.dwz_label_marks.proofs.AddsLemmas.{adds_plainly}
+use Rattle.dwz_label_words.proofs.StepsLemmas.{adds_path}
 use Rattle.dwz_label_words.proofs.TargetLemmas.{no_path, some_path}
 use Rattle.dwz_label_words.proofs.targets.put_target.Goals as goal
 

@@ -8,7 +8,7 @@ use Rattle.dwz_label.specs.Labels.{place_label}
 use Rattle.dwz_label_entries.specs.Sources.{raw_of, scope_at}
 use Rattle.dwz_label_marks.specs.Marks.{Mark, Named, entries_marks, marks_of, node_marks}
 use Rattle.dwz_label_marks.specs.Told.{Adds}
-use Rattle.dwz_label_words.proofs.AddsLemmas.{adds_both, adds_kept, adds_named}
+use Rattle.dwz_label_marks.proofs.AddsLemmas.{adds_both, adds_kept, adds_named}
 use Rattle.dwz_label_words.proofs.ShapeLemmas.{both_ok}
 use Rattle.dwz_label_words.proofs.TopLemmas.{top_marks}
 use Rattle.dwz_label_words.proofs.ValueLemmas.{weaker}

@@ -4,7 +4,7 @@ use Rattle.dwz_def_reading.proofs.ListFacts.{drop_pairs}
 use Rattle.dwz_graph.specs.Rows.{AreTargets}
 use Rattle.dwz_label_entries.proofs.TargetLemmas.{name_there}
 use Rattle.dwz_label_marks.specs.Marks.{Plainly, target_marks}
-use Rattle.dwz_label_words.proofs.AddsLemmas.{adds_both, adds_plainly}
+use Rattle.dwz_label_marks.proofs.AddsLemmas.{adds_both, adds_plainly}
 use Rattle.dwz_label_words.proofs.values.put_entry.Goals as goal
 
 pub returns : goal.returns

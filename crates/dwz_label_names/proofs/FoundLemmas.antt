@@ -28,7 +28,7 @@ pub none_found : (names : List (List ℕ)) (strs : List ℕ) (tables : List File
 none_found names strs tables d texts paths shapes a b c = record {
   texts_are = λ key n text h t. absurd (a key n h);
   paths_are = λ table row n t path low h g p. absurd (b (4096 * table + row) n h);
-  shapes_are = λ decl tag n low h pairs g. absurd (c (65536 * decl + tag) n h);
+  shapes_are = λ decl tag n low h pairs g. absurd (c (4294967296 * tag + decl) n h);
 }
 
 pub stays_named : (old : FileNames) (strs : List ℕ) (tables : List FileTable) (d : Declarations) (names more : List (List ℕ))
@@ -79,13 +79,13 @@ module _ (names : List (List ℕ)) (strs : List ℕ) (tables : List FileTable) (
     shapes_are = f.shapes_are;
   }
 
-  pub shape_kept : (slots : List Slot) (decl tag number : ℕ) → tag < 65536
+  pub shape_kept : (slots : List Slot) (decl tag number : ℕ) → decl < 4294967296
       → ((pairs : List Pair) → slice_get d.pairs decl ≡ Some pairs → text_number names (pairs_shape tag pairs) ≡ Some number)
-      → Puts shapes slots (65536 * decl + tag) number → AreFound names strs tables d texts paths slots
+      → Puts shapes slots (4294967296 * tag + decl) number → AreFound names strs tables d texts paths slots
   shape_kept slots decl tag number below is puts = record {
     texts_are = f.texts_are;
     paths_are = f.paths_are;
-    shapes_are = λ other kind n low h pairs g. elim (puts (65536 * other + kind) n h) [
+    shapes_are = λ other kind n low h pairs g. elim (puts (4294967296 * kind + other) n h) [
       | inl old ↦ f.shapes_are other kind n low old pairs g
       | inr new ↦
           let key = new.0 in

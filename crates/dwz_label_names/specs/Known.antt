@@ -42,10 +42,10 @@ ArePaths names tables slots =
     (table row n : ℕ) (t : FileTable) (path : List ℕ) → row < 4096 → Has slots (4096 * table + row) n → slice_get tables table ≡ Some t
     → nth_path t.paths row ≡ Some path → text_number names (plain_label (File (Some path))) ≡ Some n
 
--- of a shape by the number of the declaration and the tag, which has two bytes
+-- of a shape by the tag and the number of the declaration, which is below 2^32
 abbrev pub AreShapes : List (List ℕ) → Declarations → List Slot → Type 0
 AreShapes names declarations slots =
-    (decl tag n : ℕ) → tag < 65536 → Has slots (65536 * decl + tag) n
+    (decl tag n : ℕ) → decl < 4294967296 → Has slots (4294967296 * tag + decl) n
     → (pairs : List Pair) → slice_get declarations.pairs decl ≡ Some pairs → text_number names (pairs_shape tag pairs) ≡ Some n
 
 pub record AreFound (names : List (List ℕ)) (strs : List ℕ) (tables : List FileTable) (declarations : Declarations) (texts paths shapes : List Slot) : Type 0

@@ -19,7 +19,7 @@ use dwz_unit::Declarations;
 use std::alloc::Global;
 use std::marker::Model;
 
-// How many numbers of texts, of paths and of shapes are kept.
+// How many numbers of texts, of paths and of shapes are kept at most.
 const TEXTS: usize = 1 << 16;
 
 const PATHS: usize = 1 << 12;
@@ -33,6 +33,18 @@ const ROWS: u64 = 4096;
 const TABLES: usize = 1 << 32;
 
 const DECLARATIONS: usize = 1 << 32;
+
+// For how many numbers there is room where so many are told apart: half of the most, or a half of that, and so on.
+fn room_for(count: usize, most: usize) -> usize
+    requires { 0 < most }
+    ensures { 0 < result }
+{
+    let mut room = most;
+    'halving: while room > 16 && room / 2 >= count {
+        room /= 2;
+    }
+    room
+}
 
 // The table with a number.
 #[inline(always)]
@@ -79,14 +91,17 @@ impl<'s, 'a> FileNames<'s, 'a> {
     ) -> Result<FileNames<'s, 'a>, NoMemory>
         ensures { IfOk result (λ f. f ≡ record { strs = strs.now; tables = tables.now; declarations = declarations.entry; names = names }) }
     {
+        let texts = room_for(strs.len() / 8, TEXTS);
+        let paths = room_for(tables.len().saturating_mul(64), PATHS);
+        let shapes = room_for(declarations.len().saturating_mul(2), SHAPES);
         Ok(FileNames {
             strs,
             tables,
             declarations,
             names,
-            texts: Found::new(alloc, TEXTS)?,
-            paths: Found::new(alloc, PATHS)?,
-            shapes: Found::new(alloc, SHAPES)?,
+            texts: Found::new(alloc, texts)?,
+            paths: Found::new(alloc, paths)?,
+            shapes: Found::new(alloc, shapes)?,
             made: Vec::new(alloc),
         })
     }
@@ -183,7 +198,7 @@ impl<'s, 'a> FileNames<'s, 'a> {
         if decl >= DECLARATIONS {
             return self.new_shape(decl, tag);
         }
-        let key = 65536 * decl as u64 + tag as u64;
+        let key = DECLARATIONS as u64 * tag as u64 + decl as u64;
         if let Some(number) = self.shapes.get(key) {
             return Ok(number);
         }

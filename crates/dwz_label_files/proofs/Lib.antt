@@ -5,3 +5,4 @@ pub mod SpaceLemmas
 pub mod TopLemmas
 pub mod LabelLemmas
 pub mod BareLemmas
+pub mod MarkedLemmas

@@ -9,7 +9,7 @@ ghost use Rattle.dwz_label.specs.Nodes.{AreLeast, AreTopNodes};
 
 use crate::least_alike;
 use crate::least_tops::nodes_of;
-use crate::tops::labels;
+use crate::marked::marked_labels;
 use dwz_gate::Gate;
 use dwz_graph::Graph;
 use dwz_groups::Tops;
@@ -36,7 +36,7 @@ pub fn nodes<R: Threads + Sync>(
         → IfOk result (λ nodes. AreTopNodes (units_of (docs_of graph.now.given)) nodes) }
 {
     let tops = tops_by(rt, alloc, graph, workers)?;
-    let labels = labels(rt, alloc, graph, movable, workers)?;
+    let labels = marked_labels(rt, alloc, graph, movable, workers)?;
     nodes_of(alloc, &labels, movable, &tops.targets)
 }
 
@@ -59,6 +59,6 @@ pub fn least<R: Threads + Sync, G: Gate>(
     ensures { ShowTargets (units_of (docs_of graph.now.given)) movable.now tops.now.targets
         → IfOk result (λ least. AreLeast (units_of (docs_of graph.now.given)) least) }
 {
-    let labels = labels(rt, alloc, graph, movable, workers)?;
+    let labels = marked_labels(rt, alloc, graph, movable, workers)?;
     least_alike(rt, alloc, &labels, movable, &tops.targets, workers, gate)
 }

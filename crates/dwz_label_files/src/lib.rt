@@ -15,11 +15,14 @@
 mod classes;
 mod laws;
 mod least_tops;
+mod marked;
+mod marks;
 mod numbered;
 mod run;
 mod search;
 mod spaces;
 mod spot;
+mod stretch;
 mod top;
 mod tops;
 mod unit;

@@ -39,6 +39,17 @@ pub(crate) fn entry_of(run: &Run, file: usize, n: usize) -> TopEntry
     index.tops()[n - first]
 }
 
+/// The number behind that of the last top of a file, by the number of one of its tops.
+pub(crate) fn end_of(run: &Run, file: usize, n: usize) -> usize
+    requires run { IsRun run.now }
+    requires there { IsInFile run.now.files.now run.now.indexes.now file n }
+    ensures behind { n < result }
+    ensures all { (m : ℕ) → n ≤ m → m < result → IsInFile run.now.files.now run.now.indexes.now file m }
+{
+    let index = index_at(run, file);
+    index.starts().top as usize + index.tops().len()
+}
+
 /// How many tops all files have.
 pub(crate) fn top_count(run: &Run) -> usize
     requires { IsRun run.now }

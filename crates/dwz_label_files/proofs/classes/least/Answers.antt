@@ -3,7 +3,7 @@ use Rattle.dwz_def_tops.specs.Spots.{units_of}
 use Rattle.dwz_graph.specs.Files.{docs_of}
 use Rattle.dwz_label.specs.Nodes.{AreLeast}
 use Rattle.dwz_label_files.specs.LeastLaws.{GivesLeast}
-use Rattle.dwz_label_files.proofs.LabelLemmas.{all_shown}
+use Rattle.dwz_label_files.proofs.MarkedLemmas.{apart_shown}
 use Rattle.dwz_label_files.proofs.classes.least.Goals as goal
 
 pub returns : goal.returns
@@ -13,4 +13,4 @@ returns g c = λ show. (
     let targets = c.args.tops.now.targets in
     let units = units_of (docs_of c.args.graph.now.given) in
     IfOk-weaker c.least_alike.result (λ least. GivesLeast labels movable targets least) (λ least. AreLeast units least)
-    (λ least gives. gives units (all_shown c.args.graph.now.given labels movable targets c.in_ok-labels.ensures.labels c.requires.targets show)) c.least_alike.ensures)
+    (λ least gives. gives units (apart_shown units labels movable targets (c.in_ok-labels.ensures.apart show.flags) c.requires.targets show)) c.least_alike.ensures)

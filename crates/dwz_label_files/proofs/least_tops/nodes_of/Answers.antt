@@ -1,7 +1,8 @@
 use Rattle.std.proofs.Common.{ℕ, List, sym, subst, ◌∙◌}
 use Rattle.std.proofs.lemmas.Result.{IfOk-weaker}
 use Rattle.dwz_label.specs.Shown.{AreMadeOf}
-use Rattle.dwz_label.proofs.MadeLemmas.{made_closed, made_nodes}
+use Rattle.dwz_label.proofs.MadeLemmas.{made_closed}
+use Rattle.dwz_label_marks.proofs.ApartLemmas.{made_apart}
 use Rattle.dwz_label_files.proofs.least_tops.nodes_of.Goals as goal
 
 pub returns-clause-nodes : goal.returns-clause-nodes
@@ -11,7 +12,7 @@ returns-clause-nodes c =
     let targets = c.args.targets.now in
     IfOk-weaker c.nodes.result _ _
     (λ g made units shown.
-    made_nodes units c.args.labels.now movable targets firsts g shown c.in_ok-firsts.ensures (subst (λ (fs : List ℕ). AreMadeOf fs movable targets g) c.as_slice.ensures.value made))
+    made_apart units c.args.labels.now movable targets firsts g shown c.in_ok-firsts.ensures (subst (λ (fs : List ℕ). AreMadeOf fs movable targets g) c.as_slice.ensures.value made))
     c.nodes.ensures
 
 pub returns-clause-closed : goal.returns-clause-closed

@@ -2,7 +2,7 @@
 """Measures the program on files that are made to be hard: an entry with 40,000 attributes, 4,000 units over the suffixes of one
 abbreviation table (in ascending, descending and random order of offset), units over each byte of a table at which a table is
 spelled, 4,000 units over tables that begin inside one declaration, 40,000 abbreviations whose shapes have one hash, beside as
-many that haven't, and 80,000 types whose labels have one hash, beside as many whose labels haven't. Others ask again and again for what is behind many things: for attributes of a root or of a namespace that come behind
+many that haven't, 80,000 types whose labels have one hash, beside as many whose labels haven't, and 1,000 types with one long name. Others ask again and again for what is behind many things: for attributes of a root or of a namespace that come behind
 thousands, of many units, or for many tops; for location lists, that are named by many units, or whose suffixes are lists as well; and
 for files of line tables, whose paths are long, or whose rows are those of other tables as well. And of files with long ways between their
 entries it is asked why two aren't shared (`--explain`).
@@ -25,7 +25,7 @@ from bench_runs import best_of
 from many_units import elf
 
 SIBLING, LOCATION, NAME, BYTE_SIZE, STMT_LIST, DECL_FILE, ENCODING, SPECIFICATION, TYPE, FIRST_USER_NAME = 0x01, 0x02, 0x03, 0x0B, 0x10, 0x3A, 0x3E, 0x47, 0x49, 0x2000
-ADDR, STRING, DATA1, REF4, SEC_OFFSET, FLAG_PRESENT, IMPLICIT_CONST = 0x01, 0x08, 0x0B, 0x13, 0x17, 0x19, 0x21
+ADDR, DATA4, STRING, DATA1, STRP, REF4, SEC_OFFSET, FLAG_PRESENT, IMPLICIT_CONST = 0x01, 0x06, 0x08, 0x0B, 0x0E, 0x13, 0x17, 0x19, 0x21
 COMPILE_UNIT, TYPEDEF, STRUCTURE, BASE_TYPE, VARIABLE, NAMESPACE, TYPE_UNIT, FIRST_USER_TAG = 0x11, 0x16, 0x13, 0x24, 0x34, 0x39, 0x41, 0x4080
 
 # The seconds after which a run over what was written is given up, and the most bytes that it may have.
@@ -270,6 +270,13 @@ def named_types(count, one_hash):
     return two_units(declaration(3, BASE_TYPE, 0, [(NAME, STRING)]), b"".join(body))
 
 
+def one_text(count, length):
+    """Types of two units, each with a size of its own, all of which have one name of so many bytes."""
+    table = declaration(1, COMPILE_UNIT, 1, []) + declaration(2, BASE_TYPE, 0, [(NAME, STRP), (BYTE_SIZE, DATA4)])
+    tops = b"".join(uleb(2) + struct.pack("<II", 0, number) for number in range(count))
+    return elf(2 * unit(0, uleb(1) + tops + b"\0"), table + b"\0", texts=bytes(length * [65]) + b"\0")
+
+
 # The place of the first top of a unit, in bytes from where the unit begins.
 FIRST_TOP = 13
 
@@ -360,6 +367,7 @@ def main():
         ("40,000 shapes of different hashes", many_shapes(40000, False)),
         ("80,000 labels of one hash", named_types(80000, True)),
         ("80,000 labels of different hashes", named_types(80000, False)),
+        ("1,000 types with one name of 1,400,000 bytes, in two units", one_text(1000, 1400000)),
     )
     for name, content in files:
         with tempfile.NamedTemporaryFile() as file:

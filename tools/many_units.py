@@ -45,10 +45,10 @@ def section_header(name, kind, at, size):
     return struct.pack("<IIQQQQIIQQ", name, kind, 0, 0, at, size, 0, 0, 1, 0)
 
 
-def elf(info, abbrev, lists=None, lines=None):
-    """A file of these sections; `lists` is `.debug_loclists`, and `lines` is `.debug_line`, if there is one."""
+def elf(info, abbrev, lists=None, lines=None, texts=None):
+    """A file of these sections; `lists` is `.debug_loclists`, `lines` is `.debug_line`, and `texts` is `.debug_str`, if there is one."""
     sections = [(b".debug_info", 1, info), (b".debug_abbrev", 1, abbrev)]
-    sections += [(name, 1, content) for name, content in ((b".debug_loclists", lists), (b".debug_line", lines)) if content is not None]
+    sections += [(name, 1, content) for name, content in ((b".debug_loclists", lists), (b".debug_line", lines), (b".debug_str", texts)) if content is not None]
     names = b"\0" + b"".join(name + b"\0" for name, *_ in sections) + b".shstrtab\0"
     headers, body = [bytes(64)], b""
     for name, kind, content in sections + [(b".shstrtab", 3, names)]:

@@ -1,6 +1,6 @@
 //! Expressions of values that were read before.
 
-ghost use Rattle.std.specs.Prelude.{◌≡◌, ◌-◌, Ok, IfOk, length};
+ghost use Rattle.std.specs.Prelude.{◌≡◌, ℕ, ◌-◌, Ok, IfOk, length};
 ghost use Rattle.dwz_def_reading.specs.Exprs.{Expression, expr_at};
 ghost use Rattle.dwz_def_reading.specs.Meanings;
 ghost use Rattle.dwz_def_reading.specs.Meanings.{MeaningContext, expr_context};

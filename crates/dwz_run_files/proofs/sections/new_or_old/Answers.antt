@@ -7,3 +7,6 @@ new_file-requires-clause-work g c κs within = (let r = c.requires.work in (r.0,
 
 pub returns-in-None : goal.returns-in-None
 returns-in-None g c f is rank = subst (IsRank f c.args.number) c.in-None.is rank
+
+pub returns-in_ok-new-in-Some : goal.returns-in_ok-new-in-Some
+returns-in_ok-new-in-Some g c f work rank = c.in_ok-new-in-Some.ensures f work (subst (IsRank f c.args.number) c.in-Some.is rank)

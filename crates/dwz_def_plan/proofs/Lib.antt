@@ -1,4 +1,5 @@
 pub mod UserLemmas
+pub mod FairLemmas
 pub mod HomeLemmas
 pub mod ImageLemmas
 pub mod StandLemmas

@@ -1,5 +1,6 @@
 pub mod Homes
 pub mod Groups
+pub mod Fair
 pub mod Gain
 pub mod Plan
 pub mod Moves

@@ -1,17 +1,19 @@
 //! What holds of users, of homes, of choices, of partial units and of what is kept.
 
+ghost use Rattle.dwz_def_plan.specs.Fair.{FairLaw};
 ghost use Rattle.dwz_def_plan.specs.PlanLaws.{AlikeTopsLaw, AllLaw, DecidedLaw, GainLaw, GainRuleLaw, HomeLaw, ImportsLaw, KeptLaw};
 ghost use Rattle.dwz_def_plan.specs.PlanLaws.{KeptOrderLaw, KeptRowLaw, OnePlanLaw, PartOrderLaw, PartRowLaw, PlanLaw, RepLaw, TargetsLaw, UsersLaw};
 
 /// Laws on which tops may be chosen to move, for any test that finds tops alike exactly where they are: all that have a home; and
 /// those whose groups gain. A chain of as many references as there are tops decides which groups gain. So the tests of alike tops and
-/// of gain make a rule as is asked, and each rule that is as is asked has the same plan.
+/// of gain make a rule as is asked, and each rule that is as is asked has the same plan. Such a rule is fair.
 pub fn choice_laws()
     ensures all { AllLaw }
     ensures gain { GainLaw }
     ensures decided { DecidedLaw }
     ensures rule { GainRuleLaw }
     ensures one { OnePlanLaw }
+    ensures fair { FairLaw }
 {}
 
 /// Laws on where tops go, for any test that finds tops alike exactly where they are, in either scope, and any choice of those that

@@ -14,7 +14,6 @@ pub mod Walks
 pub mod EveryNames
 pub mod ReadFiles
 pub mod FileEntries
-pub mod FairLemmas
 pub mod NoUnits
 pub mod WholeRuns
 pub mod OwnedEntries

@@ -13,10 +13,10 @@ use Rattle.dwz_def_plan.specs.Plan.{PartialUnit, partials}
 use Rattle.dwz_def_plan.proofs.PlanLemmas.{are_parts}
 use Rattle.dwz_def_plan.proofs.UserLemmas.{Fair as IsFair, move_stand, moves_self, rep_is, used, used_by}
 use Rattle.dwz_def_readback.proofs.OriginLemmas.{first_there, ordered}
-use Rattle.dwz_law_layout.specs.Fair.{Fair}
+use Rattle.dwz_def_plan.specs.Fair.{Fair}
 use Rattle.dwz_law_layout.specs.Moving.{MovesFrom}
 use Rattle.dwz_law_layout.specs.New.{TopUnitLaw}
-use Rattle.dwz_law_layout.proofs.FairLemmas.{is_fair}
+use Rattle.dwz_def_plan.proofs.FairLemmas.{is_fair}
 
 -- ---- the tops of a partial unit
 

@@ -12,9 +12,9 @@ use Rattle.dwz_def_plan.proofs.HomeLemmas.{file_of_top, home_is}
 use Rattle.dwz_def_plan.proofs.UserLemmas.{Fair as IsFair, home_same, move_stand, moves_same, moves_self, moving, rep_is, stands_same, stay_fixed, used}
 use Rattle.dwz_plan.specs.ShowsMove.{HoldsAt}
 use Rattle.dwz_def_images.proofs.HeldLemmas.{part_found, row_found}
-use Rattle.dwz_law_layout.specs.Fair.{Fair}
+use Rattle.dwz_def_plan.specs.Fair.{Fair}
 use Rattle.dwz_law_layout.specs.Moving.{MovesSoLaw}
-use Rattle.dwz_law_layout.proofs.FairLemmas.{is_fair}
+use Rattle.dwz_def_plan.proofs.FairLemmas.{is_fair}
 use Rattle.dwz_law_layout.proofs.PartUnits.{first_uses, part_is, part_tops}
 use Rattle.dwz_law_layout.proofs.Places.{used_homes}
 

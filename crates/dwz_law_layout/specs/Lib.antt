@@ -1,6 +1,5 @@
 pub mod Knows
 pub mod Fitted
-pub mod Fair
 pub mod Beside
 pub mod Moving
 pub mod Whole

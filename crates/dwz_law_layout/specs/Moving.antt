@@ -7,7 +7,7 @@ use Rattle.dwz_def_plan.specs.Homes.{Common, Home, Local, Rule, is_home}
 use Rattle.dwz_def_plan.specs.Moves.{Move, first_unit, line_attrs, plan}
 use Rattle.dwz_def_plan.specs.Plan.{PartialUnit, part_row}
 use Rattle.dwz_plan.specs.ShowsMove.{HoldsAt}
-use Rattle.dwz_law_layout.specs.Fair.{Fair}
+use Rattle.dwz_def_plan.specs.Fair.{Fair}
 
 -- a top that leaves its unit, stands for itself, and is of that unit
 pub record MovesFrom (m : Move) (units : List (FileUnit EntryName)) (i : ℕ) (t : Top) : Type 0 where

@@ -3,7 +3,6 @@
 
 ghost use Rattle.dwz_law_layout.specs.NamedLaws.{EntryNamesLaw, KnownLaw, ReferencesLaw, SelfNamesLaw};
 ghost use Rattle.dwz_law_layout.specs.OwnedLaws.{CommonPartsLaw, CommonReachedLaw, FilePartsLaw, FileReachedLaw, OwnedLaw, PartsLaw};
-ghost use Rattle.dwz_law_layout.specs.Fair.{FairLaw};
 ghost use Rattle.dwz_law_layout.specs.Whole.{WholeLaw};
 ghost use Rattle.dwz_law_layout.specs.Items.{KeptItemsLaw, PartItemsLaw};
 ghost use Rattle.dwz_law_layout.specs.New.{NewItemsLaw, PartPlaceLaw, StayPlaceLaw, TopUnitLaw, UsedHomeLaw, WaysLaw};
@@ -18,11 +17,10 @@ ghost use Rattle.dwz_law_layout.specs.ShownParts.{CommonKnownLaw, PartsKnownLaw}
 ghost use Rattle.dwz_law_layout.specs.Laid.{FilesFittedLaw, FilesKnownLaw, FilesShownLaw, NoneKnownLaw, RunFewLaw, RunFittedLaw, RunKnownLaw, RunOrderLaw, RunShownLaw, SettledOrderLaw};
 ghost use Rattle.dwz_law_layout.specs.Laid.{RunLaidLaw, RunPlacesLaw, RunRootsLaw, RunSelfLaw};
 
-/// A rule that finds tops alike exactly where they are is fair, if its choice is as it is asked for. And what is written by it is whole: no
-/// name stands twice there, and each reference names an entry of its file or of the common one (DWARF 5, 7.5.5).
+/// What is written by a rule that finds tops alike exactly where they are is whole, if its choice is as it is asked for: no name stands
+/// twice there, and each reference names an entry of its file or of the common one (DWARF 5, 7.5.5).
 pub fn rule_laws()
-    ensures fair { FairLaw }
-    ensures whole { WholeLaw }
+    ensures { WholeLaw }
 {}
 
 /// Of each file that was read its entries are known, and each value as the file stores it. Its references lead to what stands for their

@@ -27,7 +27,7 @@ use Rattle.dwz_law_layout.specs.Beside.{Alone}
 use Rattle.dwz_law_layout.specs.Facts.{IsMade, RunFacts, StandBehind, common, docs, every, move, run, units}
 use Rattle.dwz_law_layout.specs.Moving.{MovesSo}
 use Rattle.dwz_law_layout.specs.Whole.{AreWhole}
-use Rattle.dwz_law_layout.proofs.FairLemmas.{fair_by}
+use Rattle.dwz_def_plan.proofs.FairLemmas.{fair_by}
 use Rattle.dwz_law_layout.proofs.ReadFiles.{files_placed}
 use Rattle.dwz_law_layout.proofs.RuleMoves.{moves_so}
 use Rattle.dwz_law_layout.proofs.WholeRuns.{whole_runs}

@@ -1,3 +1,4 @@
+use Rattle.dwz_def_plan.proofs.FairLemmas.{fair_by}
 use Rattle.dwz_def_plan.proofs.GainLemmas.{gain_choice, gains_decided}
 use Rattle.dwz_def_plan.proofs.LawLemmas.{all_chosen}
 use Rattle.dwz_def_plan.proofs.OnePlan.{is_gain_rule, one_plan}
@@ -17,3 +18,6 @@ returns-clause-rule c = is_gain_rule
 
 pub returns-clause-one : goal.returns-clause-one
 returns-clause-one c = one_plan
+
+pub returns-clause-fair : goal.returns-clause-fair
+returns-clause-fair c = fair_by

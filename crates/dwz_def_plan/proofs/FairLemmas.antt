@@ -3,7 +3,7 @@ use Rattle.dwz_def_tops.specs.Spots.{EntryName, FileUnit}
 use Rattle.dwz_def_tops.proofs.AlikePer.{alike_per}
 use Rattle.dwz_def_plan.specs.Homes.{Rule}
 use Rattle.dwz_def_plan.proofs.UserLemmas.{Fair as IsFair}
-use Rattle.dwz_law_layout.specs.Fair.{Fair, FairLaw}
+use Rattle.dwz_def_plan.specs.Fair.{Fair, FairLaw}
 use Rattle.std.proofs.Common.{List}
 
 pub is_fair : (units : List (FileUnit EntryName)) (rule : Rule) → Fair units rule → IsFair units rule

@@ -8,7 +8,7 @@ use Rattle.dwz_def_reading.specs.Documents.{Doc}
 use Rattle.dwz_def_reading.specs.Files.{Limits, ReadAll, Reads, limits_after, longest_file, longest_files, no_files_before}
 use Rattle.dwz_def_tops.specs.Lists.{Nth}
 use Rattle.dwz_outside.specs.Store.{Store, got, most_got}
-use Rattle.dwz_words.specs.Asked.{behind, names_got, names_of_places}
+use Rattle.dwz_words.specs.Asked.{behind, common_read, first_given, names_got, names_of_places}
 use Rattle.dwz_words.specs.Conditions.{FitTogether}
 use Rattle.dwz_words.proofs.Fits.{no_sup}
 use Rattle.dwz_words.specs.declared.options.Options.{Options}
@@ -125,6 +125,7 @@ are_held store names contents docs is read n name nth =
     subst (λ (k : ℕ). store name ≡ Some (get_or contents k [])) index o.held
 
 -- files that are slimmed are got by their names
-pub got_files : (o : Options) → FitTogether o → o.explain ≡ false → o.check ≡ false → o.expand ≡ false → names_got o ≡ o.files
-got_files o fit slims no_check alone = ap (λ (b : Bool). behind o.sup (if b then names_of_places o.files else o.files)) slims
-    ∙ ap (λ (sup : Option (List ℕ)). behind sup o.files) (no_sup o fit no_check alone)
+pub got_files : (o : Options) → FitTogether o → o.explain ≡ false → o.check ≡ false → o.expand ≡ false → o.reuse ≡ None → names_got o ≡ o.files
+got_files o fit slims no_check alone new = ap (λ (b : Bool). behind (common_read o) (if b then names_of_places o.files else o.files)) slims
+    ∙ ap (λ (sup : Option (List ℕ)). behind (first_given sup o.reuse) o.files) (no_sup o fit no_check alone)
+    ∙ ap (λ (reuse : Option (List ℕ)). behind reuse o.files) new

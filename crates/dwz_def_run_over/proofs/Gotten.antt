@@ -1,5 +1,5 @@
 -- The contents of a finished common file and of FILEs that were got and read are whole.
-use Rattle.std.proofs.Common.{◌≡◌, ℕ, suc, ◌+◌, ◌^◌, ◌≤◌, Bool, true, false, cond, List, [], ◌∷◌, length, take, get_or, Option, Some, None, refl, sym, ap, subst, ◌∙◌, inl, inr, arith}
+use Rattle.std.proofs.Common.{◌≡◌, ℕ, suc, ◌+◌, ◌^◌, ◌≤◌, Bool, true, false, cond, List, [], ◌∷◌, length, map, take, get_or, Option, Some, None, refl, sym, ap, subst, ◌∙◌, inl, inr, arith}
 use Rattle.std.specs.Prelude.{nat_lt, option_and_then, option_map, if◌then◌else◌}
 use Rattle.std.proofs.lemmas.Bool.{ltb-true, or_cases}
 use Rattle.std.proofs.lemmas.List.{length-take, take_all}
@@ -7,6 +7,7 @@ use Rattle.dwz_def_reading.specs.Units.{RawUnit}
 use Rattle.dwz_def_reading.specs.Documents.{Doc}
 use Rattle.dwz_def_reading.specs.Files.{Limits, ReadAll, limits_after, longest_file, longest_files, no_files_before, IsNotTooLong}
 use Rattle.dwz_def_tops.specs.Lists.{Nth}
+use Rattle.dwz_def_plan.specs.Homes.{numbers_from}
 use Rattle.dwz_outside.specs.Store.{Store, got, most_got}
 use Rattle.dwz_run_course.specs.Gets.{content_is_too_long, gets}
 use Rattle.dwz_def_over.specs.Over.{AreOverFiles, OverFiles, limits_over}
@@ -142,3 +143,53 @@ module _ (store : Store) (name : List ℕ) (names : List (List ℕ)) (x : OverFi
       let at = o.is_index in
       let index : o.index ≡ n = omega (arith, at) in
       subst (λ (k : ℕ). store file_name ≡ Some (get_or x.contents k [])) index o.held
+
+-- ---- what reads was got, all of it
+
+abbrev row : List (List ℕ) → List (List ℕ) → List (List ℕ)
+row contents names = map (λ n. get_or contents n []) (numbers_from 0 names)
+
+pub shifted : (c : List ℕ) (rest names : List (List ℕ)) (i : ℕ)
+    → map (λ n. get_or (c ∷ rest) n []) (numbers_from (suc i) names) ≡ map (λ n. get_or rest n []) (numbers_from i names)
+unfolding numbers_from
+shifted c rest [] i = refl
+shifted c rest (x ∷ names) i = ap (λ (w : List (List ℕ)). get_or rest i [] ∷ w) (shifted c rest names (suc i))
+
+-- contents that read, one for each name, are all that were got
+all_whole : (store : Store) (names : List (List ℕ)) (before : ℕ) (contents : List (List ℕ)) (l : Limits) (docs : List (Doc ℕ)) → gets store before names ≡ Some contents
+    → Left l before → ReadAll l (row contents names) docs → row contents names ≡ contents
+unfolding numbers_from
+all_whole store [] before contents l docs is left read = let z : [] ≡ contents = cc in z
+all_whole store (x ∷ names) before contents l docs is left read =
+    let next = next_by store before x names contents (got store x) refl is in
+    subst (λ (cs : List (List ℕ)). row cs (x ∷ names) ≡ cs) (sym next.contents_are)
+    (by next.first next.rest next.later (λ more m d gs lf ra. all_whole store names more next.rest m d gs lf ra) docs
+    (subst (λ (cs : List (List ℕ)). ReadAll l (row cs (x ∷ names)) docs) next.contents_are read)) where
+      by : (first : List ℕ) (rest : List (List ℕ)) → (content_is_too_long before first ≡ false → gets store (before + length first) names ≡ Some rest)
+          → ((more : ℕ) (m : Limits) (d : List (Doc ℕ)) → gets store more names ≡ Some rest → Left m more → ReadAll m (row rest names) d → row rest names ≡ rest)
+          → (docs : List (Doc ℕ)) → ReadAll l (row (first ∷ rest) (x ∷ names)) docs → row (first ∷ rest) (x ∷ names) ≡ first ∷ rest
+      by first rest _ go [] read = absurd read
+      by first rest later go (doc ∷ docs) read =
+          let tail = shifted first rest names 0 in
+          let more = subst (λ (cs : List (List ℕ)). ReadAll (limits_after l first read.0) cs docs) tail read.2 in
+          ap (λ (w : List (List ℕ)). first ∷ w) (tail
+          ∙ go (before + length first) (limits_after l first read.0) docs (later (not_long l before first left read.1.size)) (left_after l before first read.0 left read.1.size) more)
+
+-- so it is with those behind that of the common file
+pub got_whole : (store : Store) (name : List ℕ) (names contents : List (List ℕ)) (x : OverFiles) → AreOverFiles x → gets store 0 (name ∷ names) ≡ Some contents
+    → x.common ≡ get_or contents 0 [] → x.contents ≡ map (λ n. get_or contents (suc n) []) (numbers_from 0 names) → contents ≡ x.common ∷ x.contents
+got_whole store name names contents x are is common files = by next.first next.rest next.contents_are next.later where
+  next : Next store 0 name names contents
+  next = next_by store 0 name names contents (got store name) refl is
+
+  by : (first : List ℕ) (rest : List (List ℕ)) → contents ≡ first ∷ rest → (content_is_too_long 0 first ≡ false → gets store (0 + length first) names ≡ Some rest)
+      → contents ≡ x.common ∷ x.contents
+  by first rest same later =
+      let head : x.common ≡ first = common ∙ ap (λ (cs : List (List ℕ)). get_or cs 0 []) same in
+      let tail : x.contents ≡ row rest names = files ∙ ap (λ (cs : List (List ℕ)). map (λ n. get_or cs (suc n) []) (numbers_from 0 names)) same in
+      let size = are.common.size in
+      let free : content_is_too_long 0 first ≡ false = ap (content_is_too_long 0) (sym head) ∙ not_long no_files_before 0 x.common left_first size in
+      let got_rest : gets store (0 + length x.common) names ≡ Some rest = ap (λ (w : List ℕ). gets store (0 + length w) names) head ∙ later free in
+      let read = subst (λ (cs : List (List ℕ)). ReadAll (limits_over x) cs x.said.docs) tail are.files in
+      let whole = all_whole store names (0 + length x.common) rest (limits_over x) x.said.docs got_rest (left_after no_files_before 0 x.common x.raw left_first size) read in
+      same ∙ ap (λ (w : List ℕ). w ∷ rest) (sym head) ∙ ap (λ (cs : List (List ℕ)). x.common ∷ cs) (sym (tail ∙ whole))

@@ -44,7 +44,7 @@ module _ (o : Options) (x : OverFiles) (bytes : Each AreBytes x.contents) (writt
   unfolding longest_file
   old_small file = let small = read_small (limits_over x) x.contents x.said.docs written.read.files file in omega (arith, small)
 
-  made_small : (file : ℕ) → changes r.move r.units file ≡ true → length (file_after_by cf name r file) ≤ 2 ^ 32
+  pub made_small : (file : ℕ) → changes r.move r.units file ≡ true → length (file_after_by cf name r file) ≤ 2 ^ 32
   unfolding file_after_by
   made_small file moves =
       let d = changed name x bytes written file moves in

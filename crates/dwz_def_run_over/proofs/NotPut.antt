@@ -18,7 +18,8 @@ use Rattle.dwz_def_run_over.proofs.Gotten.{files_held}
 use Rattle.dwz_def_over.specs.Written.{file_over}
 use Rattle.dwz_def_run.specs.Out.{sup_name}
 use Rattle.dwz_def_run_over.specs.Reuses.{puts_over}
-use Rattle.dwz_def_run_over.specs.Stops.{AreOldOrMadeOver, FitOver, IsMadeOver}
+use Rattle.dwz_def_run_over.specs.Stops.{AreOldOrMadeOver, FitOver, HoldOver, IsMadeOver}
+use Rattle.dwz_def_run_over.proofs.HeldOver.{held_over}
 use Rattle.dwz_def_run_over.proofs.Stopping.{elsewhere_over, in_place_over, others, others_elsewhere}
 
 not_false : (b : Bool) → not b ≡ true → b ≡ false
@@ -77,3 +78,8 @@ keeps common (p ∷ puts) store others (suc k) = keeps common puts (put_in p.nam
 pub not_put : (o : Options) (x : OverFiles) → FitOver o → (common : List ℕ) → o.common ≡ Some common
     → AreOthers common (puts_over o x) × ((store : Store) (k : ℕ) → done (take k (puts_over o x)) store common ≡ store common)
 not_put o x fit common named = (let are = others_are o x fit common named in (are, λ store k. keeps common (puts_over o x) store are k))
+
+pub holds_over : (o : Options) (x : OverFiles) → FitOver o → AreOverFiles x → (store : Store) (common : List ℕ) → gets store 0 (common ∷ o.files) ≡ Some (x.common ∷ x.contents)
+    → HoldOver o x (done (puts_over o x) store)
+holds_over o x fit are store common is =
+    held_over (stands x) o (run_over x) fit.distinct (one_file o x fit) store (files_held store common o.files x are is)

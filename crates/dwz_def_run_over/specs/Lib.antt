@@ -1,3 +1,4 @@
 pub mod Reuses
+pub mod Comes
 pub mod Stops
 pub mod Laws

@@ -18,7 +18,7 @@ use Rattle.dwz_unit.specs.Rows.{EntryRow, units_of as raw_units}
 use Rattle.dwz_graph.specs.declared.file.File.{File}
 use Rattle.dwz_graph.specs.Index.{Index}
 use Rattle.dwz_def_encoding.specs.Placing.{CommonUnit, UnitForms, has_text}
-use Rattle.dwz_def_readback.specs.Files.{paths, texts}
+use Rattle.dwz_def_readback.specs.Files.{texts}
 use Rattle.dwz_layout.specs.declared.known.EntryTable.{EntryTable}
 use Rattle.dwz_layout.specs.declared.known.SpaceRow.{SpaceRow}
 use Rattle.dwz_layout.specs.declared.known.TextAt.{TextAt}
@@ -179,10 +179,10 @@ module _ (f : RunFacts Alone) (t : TextsAt) (sharing : List Bool) (before k : En
   pub writes_before : (o : UnitItems) (F : FileRead) (i : ℕ) → Writes k o F i → Writes before o F i
   writes_before o F i h =
       let T = texts (run f) in
-      let many = files_many f t sharing before k facts listed has in
-      let number = number_kept f.files T (paths (run f)) sharing before k has many in
+      let many = files_many f t sharing before k facts listed has.with_texts in
+      let number = number_kept true f.files T sharing before k has.with_texts many in
       subst (λ (w : List Slot). HasRow before (number_of before (row F.number i)) w)
-      (items_kept f.files T (paths (run f)) sharing before k has many o.sort o.items)
+      (items_kept true f.files T sharing before k has.with_texts many o.sort o.items)
       (subst (λ (m : ℕ). HasRow before m (items_slots k o.sort o.items)) (number (row F.number i))
       (has_row before k number (number_of k (row F.number i)) (items_slots k o.sort o.items) h))
 
@@ -191,20 +191,20 @@ module _ (f : RunFacts Alone) (t : TextsAt) (sharing : List Bool) (before k : En
   module _ (o : UnitItems) (o_in : In o order) (n : ℕ) (bytes : List ℕ) (x : File) (index : Index) (h : HasFile f n bytes x index) where
     -- where each text of an entry stands that it writes
     module _ (i : ℕ) (r : EntryRow) (d : Node ℕ) (read : IsRead (file_read f n bytes x) i r d) (writes : Writes k o (file_read f n bytes x) i) where
-      pub text_there : (j : ℕ) (a : Attr EntryName) → slice_get (texts_in (attrs f t sharing before k facts listed has n bytes x index h i r d read)) j ≡ Some a
-          → text_at k n ((stands f t sharing before k facts listed has n bytes x index h i r d read).from + j) ≡ in_common (texts (run f)) (meant a)
+      pub text_there : (j : ℕ) (a : Attr EntryName) → slice_get (texts_in (attrs f t sharing before k facts listed has.with_texts n bytes x index h i r d read)) j ≡ Some a
+          → text_at k n ((stands f t sharing before k facts listed has.with_texts n bytes x index h i r d read).from + j) ≡ in_common (texts (run f)) (meant a)
       text_there j a e =
           let T = texts (run f) in
           let own = owned.each o o_in n bytes x index h i r d read (writes_before o (file_read f n bytes x) i writes) in
-          let list = attrs f t sharing before k facts listed has n bytes x index h i r d read in
-          let from = (stands f t sharing before k facts listed has n bytes x index h i r d read).from in
+          let list = attrs f t sharing before k facts listed has.with_texts n bytes x index h i r d read in
+          let from = (stands f t sharing before k facts listed has.with_texts n bytes x index h i r d read).from in
           let said : give own.slot.origin ≡ map meant (texts_in list) =
           ap give own.is ∙ row_says f t before listed n bytes x index h i r d read ∙ texts_meant list in
           let place = text_at before n (from + j) in
           let among : In (meant a) (give own.slot.origin) =
           subst (λ (w : List (List ℕ)). In (meant a) w) (sym said) (got_in (map meant (texts_in list)) j (meant a) (got_map meant (texts_in list) j a e)) in
           let yes = there o o_in own.slot own.there (meant a) among in
-          text_is f t sharing before k facts listed has n bytes x index h i r d read j a e
+          text_is f t sharing before k facts listed has.with_texts n bytes x index h i r d read j a e
           ∙ ap (λ (b : Bool). placed_text b (shares_in sharing n) T (meant a) place) own.owned
           ∙ ap (λ (b : Bool). cond b (in_common T (meant a)) place) yes
 
@@ -213,17 +213,17 @@ module _ (f : RunFacts Alone) (t : TextsAt) (sharing : List Bool) (before k : En
         (at : slice_get (space_entries 0 f.indexes) s ≡ Some (entry_row n i)) (read : IsRead (file_read f n bytes x) i r d)
         (is : space_text d ≡ Some text) where
       abbrev own : TextAt
-      own = (space_there f t sharing before k facts listed has n bytes x index h s i r d text at read is).space.common
+      own = (space_there f t sharing before k facts listed has.with_texts n bytes x index h s i r d text at read is).space.common
 
       pub name_stands : (space_at k s).common ≡ name_place true false (texts (run f)) (text_said (name_attr (name_of text d)))
-          (space_there f t sharing before k facts listed has n bytes x index h s i r d text at read is).space.common
-      name_stands = ap (λ (w : SpaceRow). w.common) (space_now f t sharing before k facts listed has n bytes x index h s i r d text at read is)
+          (space_there f t sharing before k facts listed has.with_texts n bytes x index h s i r d text at read is).space.common
+      name_stands = ap (λ (w : SpaceRow). w.common) (space_now f t sharing before k facts listed has.with_texts n bytes x index h s i r d text at read is)
 
       pub name_among : (w : List ℕ) → In w (text_said (name_attr (name_of text d))) → has_text (texts (run f)) w ≡ true
       name_among w w_in =
           let slot = chained before o.sort o.items s chain.item chain.there chain.names in
-          let row_is = ap (λ (w : SpaceRow). w.row) (space_before f t sharing before k facts listed has n bytes x index h s i r d text at read is)
-          ∙ (space_there f t sharing before k facts listed has n bytes x index h s i r d text at read is).row_is in
+          let row_is = ap (λ (w : SpaceRow). w.row) (space_before f t sharing before k facts listed has.with_texts n bytes x index h s i r d text at read is)
+          ∙ (space_there f t sharing before k facts listed has.with_texts n bytes x index h s i r d text at read is).row_is in
           let said : give slot.slot.origin ≡ text_said (name_attr (name_of text d)) =
           ap give slot.is ∙ name_says f t before listed n bytes x index h i r d read slot.chain s text row_is is in
           there o o_in slot.slot slot.there w (subst (λ (l : List (List ℕ)). In w l) (sym said) w_in)
@@ -235,8 +235,8 @@ module _ (f : RunFacts Alone) (t : TextsAt) (sharing : List Bool) (before k : En
       entries : KnowsTexts k (file_read f n bytes x) o (common_unit_forms f u) None
       entries = record {
         are = λ i r d read writes. (
-            let list = attrs f t sharing before k facts listed has n bytes x index h i r d read in
-            each_now f t sharing before k facts listed has n bytes x index h i r d read (λ j a. IsText ft None a (text_at k n j)) (λ j a e. (
+            let list = attrs f t sharing before k facts listed has.with_texts n bytes x index h i r d read in
+            each_now f t sharing before k facts listed has.with_texts n bytes x index h i r d read (λ j a. IsText ft None a (text_at k n j)) (λ j a e. (
             subst (λ (w : TextAt). IsText ft None a w) (sym (text_there i r d read writes j a e)) (in_common_law ft a refl (placed_in list j a e)))));
       }
 

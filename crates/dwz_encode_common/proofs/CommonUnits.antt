@@ -97,7 +97,7 @@ module _ (f : RunFacts Alone) (t : TextsAt) (sharing : List Bool) (before k : En
         let at = rows_at f f.files f.indexes (starts_from 0 f.indexes) t.files before.files.items listed.rows n x index h.file h.index_is in
         let own = firsts_from (slice_index x.resolved.starts.items i) stands.b in
         let none : 0 + stands.from ≡ stands.from = omega arith in
-        ap (λ (w : ValueCounts). w.file) (firsts_kept f.files (texts (run f)) P sharing before k has (files_many f t sharing before k facts listed has) (row n i))
+        ap (λ (w : ValueCounts). w.file) (firsts_kept true f.files (texts (run f)) sharing before k has.with_texts (files_many f t sharing before k facts listed has.with_texts) (row n i))
         ∙ ap (λ (w : Option FileRows). (option_map_or (λ (u : FileRows). slice_index_or u.firsts.items i no_firsts) w no_firsts).file) at.rows_are
         ∙ ap (λ (w : ValueCounts). w.file) (get_or_from_slice_get at.rows_there.firsts.items i own no_firsts (at.listed.firsts i stands.b stands.is))
         ∙ stands.count ∙ none
@@ -139,7 +139,7 @@ module _ (f : RunFacts Alone) (t : TextsAt) (sharing : List Bool) (before k : En
     number_is : ((path : List ℕ) → In path (origin_paths f.files (OfRow (row n i))) → has_text P path ≡ true)
         → (j : ℕ) (a : Attr EntryName) → slice_get (files_in attrs) j ≡ Some a → file_at k n (stands.from + j) ≡ file_number P a.value.plain
     number_is there j a e =
-        number_with f.files (texts (run f)) P sharing before k has (files_many f t sharing before k facts listed has) n x h.file (stands.from + j)
+        number_with f.files (texts (run f)) P sharing before k has (files_many f t sharing before k facts listed has.with_texts) n x h.file (stands.from + j)
         ∙ get_or_from_slice_get (numbers_in_file P x) (stands.from + j) (number_meant P a) 0
         (stands.stand j (number_meant P a)
         (ap (λ (w : List ℕ). slice_get w j) (numbers there) ∙ got_map (number_meant P) (files_in attrs) j a e))

@@ -22,7 +22,7 @@ use Rattle.dwz_layout.specs.Known.{text_at}
 use Rattle.dwz_def_encoding.specs.Writing.{text_or_empty}
 use Rattle.dwz_law_layout.specs.Knows.{is_placed, texts_in}
 use Rattle.dwz_encode_common.specs.Gathered.{text_by, text_said}
-use Rattle.dwz_encode_common.specs.Placed.{entry_places, in_common_file, rows_places}
+use Rattle.dwz_encode_common.specs.Placed.{entry_places, rows_places, written_there}
 use Rattle.dwz_encode_common.specs.Shared.{placed_text}
 use Rattle.dwz_encode_common.specs.Stored.{class_texts, row_texts, slots_base_at, text_read}
 use Rattle.dwz_encode_common.proofs.PlacedSteps.{places-length}
@@ -74,10 +74,10 @@ entry_got c shares texts k n first (x ∷ said) (suc j) t e =
     let place : suc first + j ≡ first + suc j = omega arith in
     entry_got c shares texts k n (suc first) said j t e ∙ ap (λ (m : ℕ). Some (placed_text c shares texts t (text_at k n m))) place
 
-module _ (shares : Bool) (texts : List (List ℕ)) (k : EntryTable) (n : ℕ) (said : EntryRow → List (List ℕ))
+module _ (made shares : Bool) (texts : List (List ℕ)) (k : EntryTable) (n : ℕ) (said : EntryRow → List (List ℕ))
     (many : (r : EntryRow) → length (said r) ≡ text_count r.entry.attrs) where
   abbrev Place : ℕ → List ℕ → ℕ → TextAt
-  Place i t m = placed_text (in_common_file k n i) shares texts t (text_at k n m)
+  Place i t m = placed_text (written_there made k n i) shares texts t (text_at k n m)
 
   -- so many texts come before the entry, and then its own
   pub record HasPlaces (rows : List EntryRow) (before : CountsBefore) (first number i : ℕ) (r : EntryRow) : Type 0 where
@@ -86,7 +86,7 @@ module _ (shares : Bool) (texts : List (List ℕ)) (k : EntryTable) (n : ℕ) (s
     pub from : ℕ
     pub count : b.texts ≡ before.texts + from
     pub stand : (j : ℕ) (t : List ℕ) → slice_get (said r) j ≡ Some t
-        → slice_get (rows_places shares texts k n said number first rows) (from + j) ≡ Some (Place (number + i) t (first + (from + j)))
+        → slice_get (rows_places made shares texts k n said number first rows) (from + j) ≡ Some (Place (number + i) t (first + (from + j)))
 
   pub has_places : (rows : List EntryRow) (before : CountsBefore) (first number i : ℕ) (r : EntryRow) → slice_get rows i ≡ Some r
       → HasPlaces rows before first number i r
@@ -94,8 +94,8 @@ module _ (shares : Bool) (texts : List (List ℕ)) (k : EntryTable) (n : ℕ) (s
   has_places [] before first number i r e = absurd cc
   has_places (x ∷ rows) before first number zero r e =
       let same : x ≡ r = cc in
-      let own = entry_places (in_common_file k n number) shares texts k n first (said x) in
-      let rest = rows_places shares texts k n said (suc number) (first + length (said x)) rows in
+      let own = entry_places (written_there made k n number) shares texts k n first (said x) in
+      let rest = rows_places made shares texts k n said (suc number) (first + length (said x)) rows in
       let here : number ≡ number + 0 = omega arith in
       record {
         b = before;
@@ -106,16 +106,16 @@ module _ (shares : Bool) (texts : List (List ℕ)) (k : EntryTable) (n : ℕ) (s
             let none : 0 + j ≡ j = omega arith in
             ap (slice_get (own ++ rest)) none
             ∙ get_first own rest j (Place number t (first + j))
-            (entry_got (in_common_file k n number) shares texts k n first (said x) j t (ap (λ (w : EntryRow). slice_get (said w) j) same ∙ h))
+            (entry_got (written_there made k n number) shares texts k n first (said x) j t (ap (λ (w : EntryRow). slice_get (said w) j) same ∙ h))
             ∙ (λ i. Some (Place (here i) t (first + sym none i))));
       }
   has_places (x ∷ rows) before first number (suc i) r e =
-      let own = entry_places (in_common_file k n number) shares texts k n first (said x) in
-      let rest = rows_places shares texts k n said (suc number) (first + length (said x)) rows in
+      let own = entry_places (written_there made k n number) shares texts k n first (said x) in
+      let rest = rows_places made shares texts k n said (suc number) (first + length (said x)) rows in
       let q = has_places rows (behind before x) (first + length (said x)) (suc number) i r e in
       let wide = many x in
       let count = q.count in
-      let long : length own ≡ length (said x) = places-length (in_common_file k n number) shares texts k n first (said x) in
+      let long : length own ≡ length (said x) = places-length (written_there made k n number) shares texts k n first (said x) in
       let here : suc number + i ≡ number + suc i = omega arith in
       record {
         b = q.b;

@@ -1,5 +1,5 @@
 -- The lists with texts and numbers of paths are lists of the same files, plan and places of texts.
-use Rattle.std.proofs.Common.{◌≡◌, ℕ, List, [], ◌∷◌, length, map, refl, sym, ap, subst, ◌∙◌, arith}
+use Rattle.std.proofs.Common.{◌≡◌, ℕ, Bool, List, [], ◌∷◌, length, map, refl, sym, ap, subst, ◌∙◌, arith}
 use Rattle.std.specs.Global.{Vec}
 use Rattle.std.proofs.lemmas.List.{length-map}
 use Rattle.dwz_graph.specs.declared.file.File.{File}
@@ -10,17 +10,17 @@ use Rattle.dwz_layout.specs.declared.known.EntryTable.{EntryTable}
 use Rattle.dwz_layout.specs.declared.known.Row.{Row}
 use Rattle.dwz_layout.specs.declared.known.SpaceRow.{SpaceRow}
 use Rattle.dwz_layout.specs.declared.known.TextAt.{TextAt}
-use Rattle.dwz_law_layout.specs.Beside.{Alone}
+use Rattle.dwz_law_layout.specs.Beside.{Beside}
 use Rattle.dwz_law_layout.specs.Facts.{RunFacts}
 use Rattle.dwz_law_layout.specs.Listed.{AreAllOwners, AreListed, AreRows, TextsAt, space_entries, space_rows}
 use Rattle.dwz_encode_common.specs.Placed.{space_placed}
-use Rattle.dwz_encode_common.specs.WithCommon.{IsWithCommon, files_with, texts_held}
+use Rattle.dwz_encode_common.specs.WithCommon.{IsWithTexts, files_with, texts_held}
 use Rattle.dwz_encode_common.proofs.WithLists.{numbers_many, places_many}
 
 abbrev texts_of : FileRows → List TextAt
 texts_of r = r.texts.items
 
-rows_with : (f : RunFacts Alone) (files : List File) (indexes : List Index) (starts : List ℕ) (old : List (List TextAt)) (rows : List FileRows)
+rows_with : {beside : Beside} (f : RunFacts beside) (files : List File) (indexes : List Index) (starts : List ℕ) (old : List (List TextAt)) (rows : List FileRows)
     (places : List (Vec TextAt)) (numbers : List (Vec ℕ)) → AreRows f files indexes starts old rows → length places ≡ length rows
     → length numbers ≡ length rows
     → AreRows f files indexes starts (map texts_of (files_with rows places numbers)) (files_with rows places numbers)
@@ -70,10 +70,10 @@ rows_placed files texts sharing (s ∷ spaces) = ap (λ (w : List Row). s.row �
 
 -- ---- all
 
-pub listed_with : (f : RunFacts Alone) (t : TextsAt) (files : List File) (texts paths : List (List ℕ)) (sharing : _) (before k : EntryTable)
-    → IsWithCommon files texts paths sharing before k → length before.files.items ≡ length files → AreListed f t before
+pub listed_with : {beside : Beside} (f : RunFacts beside) (t : TextsAt) (made : Bool) (files : List File) (texts : List (List ℕ)) (sharing : List Bool)
+    (before k : EntryTable) → IsWithTexts made files texts sharing before k → length before.files.items ≡ length files → AreListed f t before
     → AreListed f (texts_held k) k
-listed_with f t files texts paths sharing before k w many h =
+listed_with f t made files texts sharing before k w many h =
     let entries = space_entries 0 f.indexes in
     let rows : rows_in k.spaces.items ≡ entries =
     ap rows_in w.spaces_are ∙ rows_placed files texts sharing before.spaces.items
@@ -84,7 +84,7 @@ listed_with f t files texts paths sharing before k w many h =
     record {
       rows = subst (λ (l : List FileRows). AreRows f f.files f.indexes starts (map texts_of l) l) (sym w.files_are)
           (rows_with f f.files f.indexes starts t.files before.files.items w.places w.numbers h.rows
-          (places_many files texts paths sharing before k w many) (numbers_many files texts paths sharing before k w many));
+          (places_many made files texts sharing before k w many) (numbers_many made files texts sharing before k w many));
       owners = subst (λ (l : Vec ℕ). AreAllOwners f f.files f.indexes l.items) (sym w.owners_are) h.owners;
       tops = ap (λ (l : Vec Row). l.items) w.tops_are ∙ h.tops;
       numbers = refl;

@@ -21,7 +21,7 @@ use Rattle.dwz_graph.specs.Index.{Index}
 use Rattle.dwz_layout_numbers.specs.Befores.{is_pair_placed}
 use Rattle.dwz_layout_numbers.specs.Images.{starts_from}
 use Rattle.dwz_def_encoding.specs.Placing.{has_text, text_place}
-use Rattle.dwz_def_readback.specs.Files.{texts}
+use Rattle.dwz_def_readback.specs.Files.{texts_by}
 use Rattle.dwz_layout.specs.declared.known.FileRows.{FileRows}
 use Rattle.dwz_layout.specs.declared.known.EntryTable.{EntryTable}
 use Rattle.dwz_layout.specs.declared.known.SpaceRow.{SpaceRow}
@@ -29,8 +29,8 @@ use Rattle.dwz_layout.specs.declared.known.TextAt.{TextAt}
 use Rattle.dwz_layout.specs.declared.known.TextAt.TheVariants.{Shared}
 use Rattle.dwz_layout.specs.Known.{no_space, no_text, space_at, text_at, text_held}
 use Rattle.dwz_law_layout.specs.Knows.{IsRead, name_attr}
-use Rattle.dwz_law_layout.specs.Beside.{Alone}
-use Rattle.dwz_law_layout.specs.Facts.{AreFacts, HasFile, RunFacts, file_read, run}
+use Rattle.dwz_law_layout.specs.Beside.{Beside}
+use Rattle.dwz_law_layout.specs.Facts.{AreFacts, HasFile, RunFacts, common, file_read, run}
 use Rattle.dwz_law_layout.specs.Listed.{AreListed, TextsAt, entry_row, space_entries}
 use Rattle.dwz_encode_texts.specs.Names.{named_text, row_name}
 use Rattle.dwz_encode_texts.specs.Texts.{own_text, row_texts, slots_base_at}
@@ -41,7 +41,7 @@ use Rattle.dwz_encode_common.specs.Gathered.{text_said}
 use Rattle.dwz_encode_common.specs.Placed.{name_place, shares_in}
 use Rattle.dwz_encode_common.specs.Pooled.{NameNotPooledLaw, NotPooledLaw}
 use Rattle.dwz_encode_common.specs.Shared.{placed_text}
-use Rattle.dwz_encode_common.specs.SharedLaws.{HasCommon}
+use Rattle.dwz_encode_common.specs.SharedLaws.{HasTexts}
 use Rattle.dwz_encode_common.proofs.EntryPlaces.{meant}
 use Rattle.dwz_encode_common.proofs.SharedEntries.{each_now, held_own, space_before, space_now, space_there, stands, text_is}
 
@@ -84,8 +84,8 @@ name_placed : (shares : Bool) (T said : List (List ℕ)) (own : TextAt) → NotP
 name_placed shares T [] own none = none
 name_placed shares T (text ∷ said) own none = placed shares T text own none
 
-module _ (f : RunFacts Alone) (t : TextsAt) (sharing : List Bool) (before k : EntryTable) (facts : AreFacts f) (listed : AreListed f t before)
-    (stand : StandAsRead f t) (has : HasCommon f sharing before k) (n : ℕ) (bytes : List ℕ) (x : File) (index : Index)
+module _ {beside : Beside} (f : RunFacts beside) (t : TextsAt) (sharing : List Bool) (before k : EntryTable) (facts : AreFacts f) (listed : AreListed f t before)
+    (stand : StandAsRead f t) (has : HasTexts f sharing before k) (n : ℕ) (bytes : List ℕ) (x : File) (index : Index)
     (h : HasFile f n bytes x index) where
   abbrev raw : List RawUnit
   raw = raw_units x.units
@@ -117,24 +117,24 @@ module _ (f : RunFacts Alone) (t : TextsAt) (sharing : List Bool) (before k : En
       (named around raw (slots_base_at around raw r.unit) (first_raw 0x03 r.entry.attrs))
 
 pub not_pooled : NotPooledLaw
-not_pooled f t sharing before k facts listed stand has n bytes x index h i r d read own =
+not_pooled beside f t sharing before k facts listed stand has n bytes x index h i r d read own =
     each_now f t sharing before k facts listed has n bytes x index h i r d read (λ j a. IsPooled (text_at k n j) → ⊥) (λ j a e. (
     let from = (stands f t sharing before k facts listed has n bytes x index h i r d read).from in
     let place = text_at before n (from + j) in
-    let is : text_at k n (from + j) ≡ placed_text false (shares_in sharing n) (texts (run f)) (meant a) place =
+    let is : text_at k n (from + j) ≡ placed_text false (shares_in sharing n) (texts_by (common f) (run f)) (meant a) place =
     text_is f t sharing before k facts listed has n bytes x index h i r d read j a e
-    ∙ ap (λ (b : Bool). placed_text b (shares_in sharing n) (texts (run f)) (meant a) place) own in
+    ∙ ap (λ (b : Bool). placed_text b (shares_in sharing n) (texts_by (common f) (run f)) (meant a) place) own in
     subst NotPooled (sym is)
-    (placed (shares_in sharing n) (texts (run f)) (meant a) place (text_own f t sharing before k facts listed stand has n bytes x index h (from + j)))))
+    (placed (shares_in sharing n) (texts_by (common f) (run f)) (meant a) place (text_own f t sharing before k facts listed stand has n bytes x index h (from + j)))))
 
 pub name_not_pooled : NameNotPooledLaw
-name_not_pooled f t sharing before k facts listed stand has n bytes x index h holder other space i r d text found read is =
+name_not_pooled beside f t sharing before k facts listed stand has n bytes x index h holder other space i r d text found read is =
     let s = space_there f t sharing before k facts listed has n bytes x index h space i r d text found read is in
     let said = text_said (name_attr (name_of text d)) in
-    let now : text_held holder (space_at k space) ≡ name_place false (shares_in sharing n) (texts (run f)) said s.space.text =
+    let now : text_held holder (space_at k space) ≡ name_place false (shares_in sharing n) (texts_by (common f) (run f)) said s.space.text =
     held_own holder other (space_at k space)
     ∙ ap (λ (w : SpaceRow). w.text) (space_now f t sharing before k facts listed has n bytes x index h space i r d text found read is) in
     let none : NotPooled s.space.text =
     subst (λ (w : SpaceRow). NotPooled w.text) (space_before f t sharing before k facts listed has n bytes x index h space i r d text found read is)
     (name_own f t sharing before k facts listed stand has n bytes x index h space i r d found read) in
-    subst NotPooled (sym now) (name_placed (shares_in sharing n) (texts (run f)) said s.space.text none)
+    subst NotPooled (sym now) (name_placed (shares_in sharing n) (texts_by (common f) (run f)) said s.space.text none)

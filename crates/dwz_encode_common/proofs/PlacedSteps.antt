@@ -15,7 +15,7 @@ use Rattle.dwz_layout.specs.declared.known.EntryTable.{EntryTable}
 use Rattle.dwz_layout.specs.declared.known.TextAt.{TextAt}
 use Rattle.dwz_layout.specs.Known.{text_at}
 use Rattle.dwz_encode_texts.proofs.TextSteps.{flat_more}
-use Rattle.dwz_encode_common.specs.Placed.{HavePlaces, entry_places, file_places, in_common_file, rows_places, shares_in}
+use Rattle.dwz_encode_common.specs.Placed.{HavePlaces, entry_places, file_places, rows_places, shares_in, written_there}
 use Rattle.dwz_encode_common.specs.Shared.{placed_text}
 
 -- ---- values
@@ -60,18 +60,18 @@ module _ (is_common shares : Bool) (texts : List (List ℕ)) (k : EntryTable) (n
 
 -- ---- entries
 
-module _ (shares : Bool) (texts : List (List ℕ)) (k : EntryTable) (n : ℕ) (said : EntryRow → List (List ℕ)) where
+module _ (made shares : Bool) (texts : List (List ℕ)) (k : EntryTable) (n : ℕ) (said : EntryRow → List (List ℕ)) where
   abbrev Rows : (i first : ℕ) → List EntryRow → List TextAt
-  Rows i first rows = rows_places shares texts k n said i first rows
+  Rows i first rows = rows_places made shares texts k n said i first rows
 
   abbrev Own : (i first : ℕ) → EntryRow → List TextAt
-  Own i first r = entry_places (in_common_file k n i) shares texts k n first (said r)
+  Own i first r = entry_places (written_there made k n i) shares texts k n first (said r)
 
   pub rows-length : (i first : ℕ) (rows : List EntryRow) → length (Rows i first rows) ≡ length (flat_map said rows)
   rows-length i first [] = refl
   rows-length i first (r ∷ rows) =
       length-append (Own i first r) (Rows (suc i) (first + length (said r)) rows)
-      ∙ (λ j. places-length (in_common_file k n i) shares texts k n first (said r) j + rows-length (suc i) (first + length (said r)) rows j)
+      ∙ (λ j. places-length (written_there made k n i) shares texts k n first (said r) j + rows-length (suc i) (first + length (said r)) rows j)
       ∙ sym (length-append (said r) (flat_map said rows))
       ∙ ap (λ (w : List (List ℕ)). length w) (sym (flat_map-cons said r rows))
 
@@ -112,16 +112,16 @@ abbrev pub shown : Vec TextAt → List TextAt
 shown v = v.items
 
 -- those of the first so many
-pub record PlacesTo (files : List File) (texts : List (List ℕ)) (sharing : List Bool) (k : EntryTable) (all : List (Vec TextAt)) (n : ℕ) : Type 0 where
+pub record PlacesTo (made : Bool) (files : List File) (texts : List (List ℕ)) (sharing : List Bool) (k : EntryTable) (all : List (Vec TextAt)) (n : ℕ) : Type 0 where
   pub many : length all ≡ n
   pub each : (m : ℕ) (x : File) → m < n → slice_get files m ≡ Some x
-      → slice_get (map shown all) m ≡ Some (file_places (shares_in sharing m) texts k m x)
+      → slice_get (map shown all) m ≡ Some (file_places made (shares_in sharing m) texts k m x)
 
-module _ (files : List File) (texts : List (List ℕ)) (sharing : List Bool) (k : EntryTable) where
+module _ (made : Bool) (files : List File) (texts : List (List ℕ)) (sharing : List Bool) (k : EntryTable) where
   abbrev Own_of : ℕ → File → List TextAt
-  Own_of m x = file_places (shares_in sharing m) texts k m x
+  Own_of m x = file_places made (shares_in sharing m) texts k m x
 
-  pub places_none : (all : List (Vec TextAt)) → all ≡ [] → PlacesTo files texts sharing k all 0
+  pub places_none : (all : List (Vec TextAt)) → all ≡ [] → PlacesTo made files texts sharing k all 0
   places_none all none = record { many = ap (λ (w : List (Vec TextAt)). length w) none; each = λ m x lt at. absurd (omega arith) }
 
   last : (m n : ℕ) (y x : File) (v : Vec TextAt) → m ≡ n → slice_get files m ≡ Some y → slice_get files n ≡ Some x → v.items ≡ Own_of n x
@@ -131,7 +131,7 @@ module _ (files : List File) (texts : List (List ℕ)) (sharing : List Bool) (k 
       (λ i. Some (is i)) ∙ (λ i. Some (Own_of (sym same i) (one i)))
 
   pub one_more : (n : ℕ) (x : File) (all new : List (Vec TextAt)) (v : Vec TextAt) → slice_get files n ≡ Some x
-      → PlacesTo files texts sharing k all n → v.items ≡ Own_of n x → new ≡ all ++ v ∷ [] → PlacesTo files texts sharing k new (n + 1)
+      → PlacesTo made files texts sharing k all n → v.items ≡ Own_of n x → new ≡ all ++ v ∷ [] → PlacesTo made files texts sharing k new (n + 1)
   one_more n x all new v at h is push = record {
     many = (
         let a = ap (λ (w : List (Vec TextAt)). length w) push in
@@ -155,8 +155,8 @@ module _ (files : List File) (texts : List (List ℕ)) (sharing : List Bool) (k 
         ∙ get_later (map shown all) (v.items ∷ []) 0 v.items refl
         ∙ last m n y x v same there at is
 
-  pub places_all : (n : ℕ) (all : List (Vec TextAt)) → n ≡ length files → PlacesTo files texts sharing k all n
-      → HavePlaces files texts sharing k (map shown all)
+  pub places_all : (n : ℕ) (all : List (Vec TextAt)) → n ≡ length files → PlacesTo made files texts sharing k all n
+      → HavePlaces made files texts sharing k (map shown all)
   places_all n all whole h = record {
     many = length-map all shown ∙ h.many ∙ whole;
     each = λ m x at. (let lt = got_below files m x at in h.each m x (omega arith) at);

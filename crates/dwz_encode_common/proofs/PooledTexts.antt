@@ -47,7 +47,7 @@ module _ (f : RunFacts Alone) (t : TextsAt) (sharing : List Bool) (before k : En
   pub pools_unit : (o : UnitItems) → In o order → PoolsUnit f k o
   pools_unit o o_in = record {
     entries = λ n bytes x index h i r d read writes. (
-        each_now f t sharing before k facts listed has n bytes x index h i r d read (λ j a. IsPooled (text_at k n j)) (λ j a e. (
+        each_now f t sharing before k facts listed has.with_texts n bytes x index h i r d read (λ j a. IsPooled (text_at k n j)) (λ j a e. (
         subst IsPooled
         (sym (text_there f t sharing before k facts listed has order owned found o o_in n bytes x index h i r d read writes j a e)) tt)));
     spaces = λ n bytes x index h s i r d text chain at read is placed. (

@@ -16,7 +16,7 @@ use Rattle.dwz_graph.specs.declared.file.File.{File}
 use Rattle.dwz_graph.specs.Index.{Index}
 use Rattle.dwz_layout_numbers.specs.Images.{starts_from}
 use Rattle.dwz_def_encoding.specs.Placing.{CommonUnit, NewUnit, OldUnit, UnitForms, UnitRole, as_constant, as_file, fit_as}
-use Rattle.dwz_def_readback.specs.Files.{paths, shared_if, texts}
+use Rattle.dwz_def_readback.specs.Files.{shared_if, texts_by}
 use Rattle.dwz_layout.specs.declared.known.FileRows.{FileRows}
 use Rattle.dwz_layout.specs.declared.known.ValueCounts.{ValueCounts}
 use Rattle.dwz_layout.specs.declared.known.EntryTable.{EntryTable}
@@ -26,15 +26,15 @@ use Rattle.dwz_layout.specs.declared.known.TextAt.{TextAt}
 use Rattle.dwz_layout.specs.Entries.{row}
 use Rattle.dwz_layout.specs.Known.{no_firsts, no_space, no_text, space_at, text_at, text_held}
 use Rattle.dwz_law_layout.specs.Knows.{EachFrom, FileRead, IsRead, IsText, firsts_at, is_placed, name_attr, texts_in}
-use Rattle.dwz_law_layout.specs.Beside.{Alone}
-use Rattle.dwz_law_layout.specs.Facts.{AreFacts, HasFile, RunFacts, file_read, run}
+use Rattle.dwz_law_layout.specs.Beside.{Beside}
+use Rattle.dwz_law_layout.specs.Facts.{AreFacts, HasFile, RunFacts, common, file_read, run}
 use Rattle.dwz_law_layout.specs.Listed.{AreListed, AreRows, TextsAt, firsts_from, none_before, space_entries, space_rows}
 use Rattle.dwz_law_layout.proofs.Walks.{each_from, rows_at}
 use Rattle.dwz_encode_texts.specs.TextLaws.{unshared}
 use Rattle.dwz_encode_common.specs.Gathered.{text_by, text_said}
-use Rattle.dwz_encode_common.specs.Placed.{file_places, in_common_file, name_at, name_place, said_in, shares_in, space_placed}
+use Rattle.dwz_encode_common.specs.Placed.{file_places, name_at, name_place, said_in, shares_in, space_placed}
 use Rattle.dwz_encode_common.specs.Shared.{placed_text, shared_or}
-use Rattle.dwz_encode_common.specs.SharedLaws.{HasCommon, SharedNamesLaw, SharedTextsLaw}
+use Rattle.dwz_encode_common.specs.SharedLaws.{HasTexts, SharedNamesLaw, SharedTextsLaw, is_common_entry, makes_common}
 use Rattle.dwz_encode_common.specs.Stored.{row_name, row_texts}
 use Rattle.dwz_encode_common.proofs.EntryPlaces.{HasPlaces, has_places, meant, placed_in, row_many, texts_meant}
 use Rattle.dwz_encode_common.proofs.NameSteps.{name_there}
@@ -54,7 +54,7 @@ each_got {X} P n (y ∷ xs) h (suc j) x e =
 
 -- ---- lists
 
-pub rows_long : (f : RunFacts Alone) (files : List File) (indexes : List Index) (starts : List ℕ) (texts : List (List TextAt)) (rows : List FileRows)
+pub rows_long : {beside : Beside} (f : RunFacts beside) (files : List File) (indexes : List Index) (starts : List ℕ) (texts : List (List TextAt)) (rows : List FileRows)
     → AreRows f files indexes starts texts rows → length rows ≡ length files
 rows_long f [] [] [] [] [] h = refl
 rows_long f [] [] [] [] (r ∷ rows) h = absurd h
@@ -87,8 +87,8 @@ space_got (x ∷ rows) (t ∷ own) (c ∷ commons) p q (suc s) r e =
 
 -- ---- a file
 
-module _ (f : RunFacts Alone) (t : TextsAt) (sharing : List Bool) (before k : EntryTable) (facts : AreFacts f) (listed : AreListed f t before)
-    (has : HasCommon f sharing before k) where
+module _ {beside : Beside} (f : RunFacts beside) (t : TextsAt) (sharing : List Bool) (before k : EntryTable) (facts : AreFacts f) (listed : AreListed f t before)
+    (has : HasTexts f sharing before k) where
   pub files_many : length before.files.items ≡ length f.files
   files_many = rows_long f f.files f.indexes (starts_from 0 f.indexes) t.files before.files.items listed.rows
 
@@ -105,9 +105,9 @@ module _ (f : RunFacts Alone) (t : TextsAt) (sharing : List Bool) (before k : En
       abbrev pub attrs : List (Attr EntryName)
       attrs = (node_map (file_read f n bytes x).after d).attrs
 
-      pub stands : HasPlaces (shares_in sharing n) (texts (run f)) before n (said_in x) (row_many (sources_view x.sections) (raw_units x.units))
+      pub stands : HasPlaces (makes_common beside) (shares_in sharing n) (texts_by (common f) (run f)) before n (said_in x) (row_many (sources_view x.sections) (raw_units x.units))
           (rows_of (raw_units x.units)) none_before 0 0 i r
-      stands = has_places (shares_in sharing n) (texts (run f)) before n (said_in x) (row_many (sources_view x.sections) raw) (rows_of raw)
+      stands = has_places (makes_common beside) (shares_in sharing n) (texts_by (common f) (run f)) before n (said_in x) (row_many (sources_view x.sections) raw) (rows_of raw)
           none_before 0 0 i r read.found
 
       pub first_before : (firsts_at before F i).text ≡ stands.from
@@ -121,7 +121,7 @@ module _ (f : RunFacts Alone) (t : TextsAt) (sharing : List Bool) (before k : En
 
       pub first_now : (firsts_at k F i).text ≡ stands.from
       first_now =
-          ap (λ (w : ValueCounts). w.text) (firsts_kept f.files (texts (run f)) (paths (run f)) sharing before k has files_many (row n i)) ∙ first_before
+          ap (λ (w : ValueCounts). w.text) (firsts_kept (makes_common beside) f.files (texts_by (common f) (run f)) sharing before k has files_many (row n i)) ∙ first_before
 
       stored : said_in x r ≡ map meant (texts_in attrs)
       stored =
@@ -131,18 +131,18 @@ module _ (f : RunFacts Alone) (t : TextsAt) (sharing : List Bool) (before k : En
       -- where each of its texts stands
       pub text_is : (j : ℕ) (a : Attr EntryName) → slice_get (texts_in attrs) j ≡ Some a
           → text_at k n (stands.from + j)
-          ≡ placed_text (in_common_file before n i) (shares_in sharing n) (texts (run f)) (meant a) (text_at before n (stands.from + j))
+          ≡ placed_text (is_common_entry f before n i) (shares_in sharing n) (texts_by (common f) (run f)) (meant a) (text_at before n (stands.from + j))
       text_is j a e =
-          let T = texts (run f) in
+          let T = texts_by (common f) (run f) in
           let shares = shares_in sharing n in
           let m = stands.from + j in
           let here : 0 + i ≡ i = omega arith in
           let place : 0 + m ≡ m = omega arith in
-          text_with f.files T (paths (run f)) sharing before k has files_many n x h.file m
-          ∙ get_or_from_slice_get (file_places shares T before n x) m
-          (placed_text (in_common_file before n (0 + i)) shares T (meant a) (text_at before n (0 + m))) no_text
+          text_with (makes_common beside) f.files T sharing before k has files_many n x h.file m
+          ∙ get_or_from_slice_get (file_places (makes_common beside) shares T before n x) m
+          (placed_text (is_common_entry f before n (0 + i)) shares T (meant a) (text_at before n (0 + m))) no_text
           (stands.stand j (meant a) (ap (λ (w : List (List ℕ)). slice_get w j) stored ∙ got_map meant (texts_in attrs) j a e))
-          ∙ (λ q. placed_text (in_common_file before n (here q)) shares T (meant a) (text_at before n (place q)))
+          ∙ (λ q. placed_text (is_common_entry f before n (here q)) shares T (meant a) (text_at before n (place q)))
 
       -- what holds of each of them
       pub each_now : (P : ℕ → Attr EntryName → Type 0) → ((j : ℕ) (a : Attr EntryName) → slice_get (texts_in attrs) j ≡ Some a → P (stands.from + j) a)
@@ -171,19 +171,19 @@ module _ (f : RunFacts Alone) (t : TextsAt) (sharing : List Bool) (before k : En
       -- where its name stands
       pub space_now : space_at k space ≡ record {
         row = space_there.space.row;
-        text = name_place false (shares_in sharing n) (texts (run f)) (text_said (name_attr (name_of text d))) space_there.space.text;
-        common = name_place true false (texts (run f)) (text_said (name_attr (name_of text d))) space_there.space.common;
+        text = name_place false (shares_in sharing n) (texts_by (common f) (run f)) (text_said (name_attr (name_of text d))) space_there.space.text;
+        common = name_place true false (texts_by (common f) (run f)) (text_said (name_attr (name_of text d))) space_there.space.common;
       }
       space_now =
           let s = space_there.space in
-          let place = space_placed f.files (texts (run f)) sharing in
+          let place = space_placed f.files (texts_by (common f) (run f)) sharing in
           let file : s.row.file ≡ n = ap (λ (w : Row). w.file) space_there.row_is in
           ap (λ (w : List SpaceRow). slice_index_or w space no_space) has.spaces_are
           ∙ get_or_from_slice_get (map place before.spaces.items) space (place s) no_space (got_map place before.spaces.items space s space_there.is)
           ∙ (λ q. let w : SpaceRow = record {
             row = s.row;
-            text = name_place false (shares_in sharing (file q)) (texts (run f)) (names q) s.text;
-            common = name_place true false (texts (run f)) (names q) s.common;
+            text = name_place false (shares_in sharing (file q)) (texts_by (common f) (run f)) (names q) s.text;
+            common = name_place true false (texts_by (common f) (run f)) (names q) s.common;
           } in w)
 
 -- ---- what is written of it
@@ -235,9 +235,9 @@ held_own OldUnit other s = refl
 -- ---- the laws
 
 pub texts_shared : SharedTextsLaw
-texts_shared f t sharing before k facts listed has n bytes x index h ft other shared i r d read own told =
+texts_shared beside f t sharing before k facts listed has n bytes x index h ft other shared i r d read own told =
     let from = (stands f t sharing before k facts listed has n bytes x index h i r d read).from in
-    let T = texts (run f) in
+    let T = texts_by (common f) (run f) in
     let shares = shares_in sharing n in
     let list = attrs f t sharing before k facts listed has n bytes x index h i r d read in
     let Before : ℕ → Attr EntryName → Type 0 = λ j a. IsText (unshared ft) None a (text_at before n j) in
@@ -253,11 +253,11 @@ texts_shared f t sharing before k facts listed has n bytes x index h ft other sh
     (shared_law ft a place other (placed_in list j a e) (each_got Before from (texts_in list) told_from j a e))))
 
 pub names_shared : SharedNamesLaw
-names_shared f t sharing before k facts listed has n bytes x index h ft other shared space i r d text found read is told =
+names_shared beside f t sharing before k facts listed has n bytes x index h ft other shared space i r d text found read is told =
     let s = space_there f t sharing before k facts listed has n bytes x index h space i r d text found read is in
     let a = name_attr (name_of text d) in
     let now = space_now f t sharing before k facts listed has n bytes x index h space i r d text found read is in
     let told_so = subst (λ (w : SpaceRow). IsText (unshared ft) None a w.text)
     (space_before f t sharing before k facts listed has n bytes x index h space i r d text found read is) told in
-    let good = name_shared ft other (shares_in sharing n) (texts (run f)) shared a s.space.text told_so in
+    let good = name_shared ft other (shares_in sharing n) (texts_by (common f) (run f)) shared a s.space.text told_so in
     subst (λ (w : TextAt). IsText ft None a w) (sym (ap (text_held ft.holder) now ∙ held_own ft.holder other _)) good

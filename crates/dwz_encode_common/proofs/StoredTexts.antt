@@ -25,7 +25,7 @@ use Rattle.dwz_layout.specs.Entries.{row}
 use Rattle.dwz_layout.specs.Known.{row_at, rows_in, space_at}
 use Rattle.dwz_law_layout.specs.Knows.{IsRead, name_attr}
 use Rattle.dwz_law_layout.proofs.NameFits.{has_name}
-use Rattle.dwz_law_layout.specs.Beside.{Alone}
+use Rattle.dwz_law_layout.specs.Beside.{Beside}
 use Rattle.dwz_law_layout.specs.Facts.{HasFile, RunFacts, file_read}
 use Rattle.dwz_law_layout.specs.Listed.{AreListed, TextsAt}
 use Rattle.dwz_law_layout.proofs.Walks.{RowsAt, rows_at}
@@ -36,7 +36,7 @@ use Rattle.dwz_encode_common.proofs.AttrsSay.{attrs_say}
 use Rattle.dwz_encode_common.proofs.FirstNames.{first_found}
 use Rattle.dwz_encode_common.proofs.ValueTexts.{plain_text, sibling_none, text_same, value_gives}
 
-module _ (f : RunFacts Alone) (n : ℕ) (bytes : List ℕ) (x : File) (i : ℕ) (r : EntryRow) (d : Node ℕ)
+module _ {beside : Beside} (f : RunFacts beside) (n : ℕ) (bytes : List ℕ) (x : File) (i : ℕ) (r : EntryRow) (d : Node ℕ)
     (read : IsRead (file_read f n bytes x) i r d) where
   abbrev raw : List RawUnit
   raw = raw_units x.units
@@ -76,7 +76,7 @@ module _ (f : RunFacts Alone) (n : ℕ) (bytes : List ℕ) (x : File) (i : ℕ) 
 
 -- ---- in the lists
 
-module _ (f : RunFacts Alone) (t : TextsAt) (k : EntryTable) (listed : AreListed f t k) (n : ℕ) (bytes : List ℕ) (x : File) (index : Index)
+module _ {beside : Beside} (f : RunFacts beside) (t : TextsAt) (k : EntryTable) (listed : AreListed f t k) (n : ℕ) (bytes : List ℕ) (x : File) (index : Index)
     (h : HasFile f n bytes x index) where
   abbrev own_units : List RawUnit
   own_units = raw_units x.units

@@ -1,5 +1,5 @@
 -- What the lists say once the common file has texts is what they said before, but for texts and numbers of paths.
-use Rattle.std.proofs.Common.{◌≡◌, ℕ, zero, suc, ◌+◌, List, [], ◌∷◌, ◌++◌, length, map, get_or, Option, Some, slice_get, refl, sym, ap, ◌∙◌, arith}
+use Rattle.std.proofs.Common.{◌≡◌, ℕ, zero, suc, ◌+◌, Bool, true, List, [], ◌∷◌, ◌++◌, length, map, get_or, Option, Some, slice_get, refl, sym, ap, ◌∙◌, arith}
 use Rattle.std.specs.Global.{Vec}
 use Rattle.std.specs.Option.{option_map_or}
 use Rattle.std.specs.Prelude.{slice_index, slice_index_or, slice_range}
@@ -23,7 +23,7 @@ use Rattle.dwz_layout.specs.Entries.{items_slots, row_slots, slot, tree_slots, w
 use Rattle.dwz_layout.specs.Known.{file_at, firsts_of, no_firsts, no_space, no_text, number_of, rows_in, space_at, text_at, top_row}
 use Rattle.dwz_encode_common.specs.Numbers.{numbers_in_file}
 use Rattle.dwz_encode_common.specs.Placed.{file_places, shares_in, space_placed}
-use Rattle.dwz_encode_common.specs.WithCommon.{IsWithCommon, files_with}
+use Rattle.dwz_encode_common.specs.WithCommon.{IsWithCommon, IsWithTexts, files_with}
 
 -- ---- files
 
@@ -63,21 +63,19 @@ placed_row files texts sharing [] s = refl
 placed_row files texts sharing (x ∷ spaces) zero = refl
 placed_row files texts sharing (x ∷ spaces) (suc s) = placed_row files texts sharing spaces s
 
-module _ (files : List File) (texts paths : List (List ℕ)) (sharing : _) (before k : EntryTable) (h : IsWithCommon files texts paths sharing before k)
-    (many : length before.files.items ≡ length files) where
-  abbrev shown_texts : Vec TextAt → List TextAt
-  shown_texts v = v.items
+abbrev shown_texts : Vec TextAt → List TextAt
+shown_texts v = v.items
 
-  abbrev shown_numbers : Vec ℕ → List ℕ
-  shown_numbers v = v.items
+abbrev shown_numbers : Vec ℕ → List ℕ
+shown_numbers v = v.items
 
+module _ (made : Bool) (files : List File) (texts : List (List ℕ)) (sharing : List Bool) (before k : EntryTable)
+    (h : IsWithTexts made files texts sharing before k) (many : length before.files.items ≡ length files) where
   pub places_many : length h.places ≡ length before.files.items
   places_many = sym (length-map h.places shown_texts) ∙ h.places_are.many ∙ sym many
 
   pub numbers_many : length h.numbers ≡ length before.files.items
-  numbers_many =
-      sym (length-map h.numbers shown_numbers) ∙ ap (λ (w : List (List ℕ)). length w) h.numbers_are
-      ∙ length-map files (numbers_in_file paths) ∙ sym many
+  numbers_many = h.many_numbers ∙ sym many
 
   file_kept : {Y : Type 0} (g : FileRows → Y) (d : Y)
       → ((r : FileRows) (t : Vec TextAt) (m : Vec ℕ) → g (record r { texts = t; files = m }) ≡ g r)
@@ -131,26 +129,20 @@ module _ (files : List File) (texts paths : List (List ℕ)) (sharing : _) (befo
   -- ---- a file
 
   module _ (n : ℕ) (x : File) (at : slice_get files n ≡ Some x) where
-    placed : (t : Vec TextAt) × (slice_get h.places n ≡ Some t) × (t.items ≡ file_places (shares_in sharing n) texts before n x)
+    placed : (t : Vec TextAt) × (slice_get h.places n ≡ Some t) × (t.items ≡ file_places made (shares_in sharing n) texts before n x)
     placed =
         let lt = got_below files n x at in
         let t = got_there h.places n (let p = places_many in omega arith) in (
           t.0,
           t.1,
-          same_got (map shown_texts h.places) n t.0.items (file_places (shares_in sharing n) texts before n x)
+          same_got (map shown_texts h.places) n t.0.items (file_places made (shares_in sharing n) texts before n x)
               (got_map shown_texts h.places n t.0 t.1) (h.places_are.each n x at),
         )
 
-    numbered : (m : Vec ℕ) × (slice_get h.numbers n ≡ Some m) × (m.items ≡ numbers_in_file paths x)
+    pub numbered : (m : Vec ℕ) × (slice_get h.numbers n ≡ Some m)
     numbered =
         let lt = got_below files n x at in
-        let m = got_there h.numbers n (let p = numbers_many in omega arith) in (
-          m.0,
-          m.1,
-          same_got (map shown_numbers h.numbers) n m.0.items (numbers_in_file paths x)
-              (got_map shown_numbers h.numbers n m.0 m.1)
-              (ap (λ (w : List (List ℕ)). slice_get w n) h.numbers_are ∙ got_map (numbers_in_file paths) files n x at),
-        )
+        got_there h.numbers n (let p = numbers_many in omega arith)
 
     own : (r : FileRows) × (slice_get k.files.items n ≡ Some (record r { texts = placed.0; files = numbered.0 }))
     own =
@@ -161,13 +153,25 @@ module _ (files : List File) (texts paths : List (List ℕ)) (sharing : _) (befo
               ∙ files_got before.files.items h.places h.numbers n r.0 placed.0 numbered.0 r.1 placed.1 numbered.1,
         )
 
-    -- its texts and its numbers of paths
-    pub text_with : (j : ℕ) → text_at k n j ≡ slice_index_or (file_places (shares_in sharing n) texts before n x) j no_text
+    -- its texts
+    pub text_with : (j : ℕ) → text_at k n j ≡ slice_index_or (file_places made (shares_in sharing n) texts before n x) j no_text
     text_with j =
         ap (λ (o : Option FileRows). option_map_or (λ (w : FileRows). slice_index_or w.texts.items j no_text) o no_text) own.1
         ∙ ap (λ (w : List TextAt). slice_index_or w j no_text) placed.2
 
-    pub number_with : (j : ℕ) → file_at k n j ≡ slice_index (numbers_in_file paths x) j
-    number_with j =
-        ap (λ (o : Option FileRows). option_map_or (λ (w : FileRows). slice_index w.files.items j) o 0) own.1
-        ∙ ap (λ (w : List ℕ). slice_index w j) numbered.2
+    -- and its numbers of paths
+    pub number_got : (j : ℕ) → file_at k n j ≡ slice_index numbered.0.items j
+    number_got j = ap (λ (o : Option FileRows). option_map_or (λ (w : FileRows). slice_index w.files.items j) o 0) own.1
+
+-- those of a common file that is made
+module _ (files : List File) (texts paths : List (List ℕ)) (sharing : List Bool) (before k : EntryTable)
+    (h : IsWithCommon files texts paths sharing before k) (many : length before.files.items ≡ length files) (n : ℕ) (x : File)
+    (at : slice_get files n ≡ Some x) where
+  pub number_with : (j : ℕ) → file_at k n j ≡ slice_index (numbers_in_file paths x) j
+  number_with j =
+      let m = numbered true files texts sharing before k h.with_texts many n x at in
+      let is : m.0.items ≡ numbers_in_file paths x =
+      same_got (map shown_numbers h.with_texts.numbers) n m.0.items (numbers_in_file paths x)
+      (got_map shown_numbers h.with_texts.numbers n m.0 m.1)
+      (ap (λ (w : List (List ℕ)). slice_get w n) h.numbers_are ∙ got_map (numbers_in_file paths) files n x at) in
+      number_got true files texts sharing before k h.with_texts many n x at j ∙ ap (λ (w : List ℕ). slice_index w j) is

@@ -1,10 +1,12 @@
 -- Files get their texts and numbers one after the other, and lists that get them are of the same files.
-use Rattle.std.proofs.Common.{◌≡◌, ℕ, List, [], ◌∷◌, ◌++◌, length, refl, sym, ap, ◌∙◌, arith}
+use Rattle.std.proofs.Common.{◌≡◌, ℕ, List, [], ◌∷◌, ◌++◌, length, map, refl, sym, ap, ◌∙◌, arith}
 use Rattle.std.specs.Global.{Vec}
-use Rattle.std.proofs.lemmas.List.{append-nil, append_assoc}
+use Rattle.std.proofs.lemmas.List.{append-nil, append_assoc, length-map}
+use Rattle.dwz_graph.specs.declared.file.File.{File}
 use Rattle.dwz_layout.specs.declared.known.FileRows.{FileRows}
 use Rattle.dwz_layout.specs.declared.known.TextAt.{TextAt}
-use Rattle.dwz_encode_common.specs.WithCommon.{files_with}
+use Rattle.dwz_encode_common.specs.Numbers.{numbers_in_file}
+use Rattle.dwz_encode_common.specs.WithCommon.{files_with, kept_numbers}
 
 pub files_next : (left less : List FileRows) (texts some : List (Vec TextAt)) (numbers more : List (Vec ℕ)) (old new whole : List FileRows)
     (r x : FileRows) (t : Vec TextAt) (m : Vec ℕ) → old ++ files_with left texts numbers ≡ whole
@@ -50,3 +52,15 @@ module _ (left : List FileRows) (texts : List (Vec TextAt)) (numbers : List (Vec
 
   pub out_of_numbers : length numbers ≡ 0 → made ≡ whole
   out_of_numbers none = ended (no_numbers left texts numbers none)
+
+-- ---- how many there are
+
+-- numbers of the paths of each file
+pub many_numbers : (files : List File) (paths : List (List ℕ)) (numbers : List (Vec ℕ))
+    → map (λ (v : Vec ℕ). v.items) numbers ≡ map (numbers_in_file paths) files → length numbers ≡ length files
+many_numbers files paths numbers are =
+    sym (length-map numbers (λ (v : Vec ℕ). v.items)) ∙ ap (λ (w : List (List ℕ)). length w) are ∙ length-map files (numbers_in_file paths)
+
+-- and those that each has
+pub many_kept : (files : List File) (rows : List FileRows) → length rows ≡ length files → length (kept_numbers rows) ≡ length files
+many_kept files rows many = length-map rows (λ (r : FileRows). r.files) ∙ many

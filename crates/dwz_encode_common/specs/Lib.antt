@@ -10,3 +10,4 @@ pub mod WithCommon
 pub mod SharedLaws
 pub mod Pooled
 pub mod Sections
+pub mod TextsIn

@@ -1,5 +1,5 @@
 -- Where the texts of entries and the names of spaces are written, file by file, once the common file has texts.
-use Rattle.std.specs.Prelude.{◌≡◌, ℕ, suc, ◌+◌, Bool, true, false, List, [], ◌∷◌, ◌++◌, length, Some, slice_get, slice_index_or}
+use Rattle.std.specs.Prelude.{◌≡◌, ℕ, suc, ◌+◌, Bool, true, false, List, [], ◌∷◌, ◌++◌, ◌&&◌, length, Some, slice_get, slice_index_or}
 use Rattle.std.specs.Option.{option_map_or}
 use Rattle.dwz_graph.specs.Resolved.{sources_view}
 use Rattle.dwz_unit.specs.Rows.{EntryRow, rows_of, units_of}
@@ -20,9 +20,13 @@ shares_in sharing n = slice_index_or sharing n false
 
 -- ---- entries
 
--- whether that entry of the file is written in the common file
+-- whether that entry of the file is owned by a unit of the common file
 abbrev pub in_common_file : EntryTable → (file i : ℕ) → Bool
 in_common_file k n i = is_common k (owner_of k (number_of k (row n i)))
+
+-- whether it is written there, if that file is made: nothing is in one that stands
+abbrev pub written_there : (made : Bool) → EntryTable → (file i : ℕ) → Bool
+written_there made k n i = made && in_common_file k n i
 
 -- texts of an entry, the first of which has that number among those of its file
 abbrev pub entry_places : (is_common shares : Bool) → List (List ℕ) → EntryTable → (file first : ℕ) → List (List ℕ) → List TextAt
@@ -31,26 +35,26 @@ entry_places is_common shares texts k n first (text ∷ said) =
     placed_text is_common shares texts text (text_at k n first) ∷ entry_places is_common shares texts k n (suc first) said
 
 -- of entries of the file, the first of which has that number, and names such texts: those of each, one behind the other
-abbrev pub rows_places : (shares : Bool) → List (List ℕ) → EntryTable → (file : ℕ) → (EntryRow → List (List ℕ)) → (i first : ℕ)
+abbrev pub rows_places : (made shares : Bool) → List (List ℕ) → EntryTable → (file : ℕ) → (EntryRow → List (List ℕ)) → (i first : ℕ)
     → List EntryRow
     → List TextAt
-rows_places shares texts k n said i first [] = []
-rows_places shares texts k n said i first (r ∷ rows) =
-    entry_places (in_common_file k n i) shares texts k n first (said r)
-    ++ rows_places shares texts k n said (suc i) (first + length (said r)) rows
+rows_places made shares texts k n said i first [] = []
+rows_places made shares texts k n said i first (r ∷ rows) =
+    entry_places (written_there made k n i) shares texts k n first (said r)
+    ++ rows_places made shares texts k n said (suc i) (first + length (said r)) rows
 
 -- all of a file
 abbrev pub said_in : File → EntryRow → List (List ℕ)
 said_in x = row_texts (sources_view x.sections) (units_of x.units)
 
-abbrev pub file_places : (shares : Bool) → List (List ℕ) → EntryTable → (file : ℕ) → File → List TextAt
-file_places shares texts k n x = rows_places shares texts k n (said_in x) 0 0 (rows_of (units_of x.units))
+abbrev pub file_places : (made shares : Bool) → List (List ℕ) → EntryTable → (file : ℕ) → File → List TextAt
+file_places made shares texts k n x = rows_places made shares texts k n (said_in x) 0 0 (rows_of (units_of x.units))
 
 -- and of each file
-pub record HavePlaces (files : List File) (texts : List (List ℕ)) (sharing : List Bool) (k : EntryTable)
+pub record HavePlaces (made : Bool) (files : List File) (texts : List (List ℕ)) (sharing : List Bool) (k : EntryTable)
     (all : List (List TextAt)) : Type 0 where
   pub many : length all ≡ length files
-  pub each : (n : ℕ) (x : File) → slice_get files n ≡ Some x → slice_get all n ≡ Some (file_places (shares_in sharing n) texts k n x)
+  pub each : (n : ℕ) (x : File) → slice_get files n ≡ Some x → slice_get all n ≡ Some (file_places made (shares_in sharing n) texts k n x)
 
 -- ---- spaces
 

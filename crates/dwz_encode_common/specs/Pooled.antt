@@ -14,15 +14,14 @@ use Rattle.dwz_layout.specs.declared.known.EntryTable.{EntryTable}
 use Rattle.dwz_layout.specs.declared.order.UnitItems.{UnitItems}
 use Rattle.dwz_layout.specs.Known.{space_at, text_at, text_held}
 use Rattle.dwz_law_layout.specs.Knows.{EachFrom, IsRead, Writes, firsts_at, is_placed, texts_in}
-use Rattle.dwz_law_layout.specs.Beside.{Alone}
+use Rattle.dwz_law_layout.specs.Beside.{Alone, Beside}
 use Rattle.dwz_law_layout.specs.Facts.{AreFacts, HasFile, RunFacts, file_read}
 use Rattle.dwz_law_layout.specs.Listed.{AreListed, TextsAt, entry_row, space_entries}
 use Rattle.dwz_law_layout.specs.Unfitted.{HasChained}
 use Rattle.dwz_encode_texts.specs.TextLaws.{StandAsRead}
 use Rattle.dwz_encode_texts.specs.MovedTexts.{IsPooled}
 use Rattle.dwz_encode_common.specs.CommonLaws.{IsCommonOrder}
-use Rattle.dwz_encode_common.specs.Placed.{in_common_file}
-use Rattle.dwz_encode_common.specs.SharedLaws.{HasCommon}
+use Rattle.dwz_encode_common.specs.SharedLaws.{HasCommon, HasTexts, is_common_entry}
 
 -- Each text that is written in this unit, of an entry of any file, is one of the common file; so is the name of each space in its chains,
 -- where names are stored by an offset or a slot (DWARF 5, 7.5.5, class string). A name that stands in its entry has no place.
@@ -47,21 +46,21 @@ PooledLaw =
     → HasCommon f sharing before k → ArePooled f k order
 
 -- of a file whose texts stood where they were read
-abbrev pub OfOwn : (RunFacts Alone → EntryTable → EntryTable → ℕ → List ℕ → File → Type 0) → Type 0
+abbrev pub OfOwn : ((beside : Beside) → RunFacts beside → EntryTable → EntryTable → ℕ → List ℕ → File → Type 0) → Type 0
 OfOwn P =
-    (f : RunFacts Alone) (t : TextsAt) (sharing : List Bool) (before k : EntryTable) → AreFacts f → AreListed f t before → StandAsRead f t
-    → HasCommon f sharing before k
-    → (n : ℕ) (bytes : List ℕ) (x : File) (index : Index) → HasFile f n bytes x index → P f before k n bytes x
+    (beside : Beside) (f : RunFacts beside) (t : TextsAt) (sharing : List Bool) (before k : EntryTable) → AreFacts f → AreListed f t before
+    → StandAsRead f t → HasTexts f sharing before k
+    → (n : ℕ) (bytes : List ℕ) (x : File) (index : Index) → HasFile f n bytes x index → P beside f before k n bytes x
 
 -- No text of an entry that isn't written in the common file is one of that file.
 abbrev pub NotPooledLaw : Type 0
-NotPooledLaw = OfOwn (λ f before k n bytes x. (i : ℕ) (r : EntryRow) (d : Node ℕ) → IsRead (file_read f n bytes x) i r d
-    → in_common_file before n i ≡ false
+NotPooledLaw = OfOwn (λ beside f before k n bytes x. (i : ℕ) (r : EntryRow) (d : Node ℕ) → IsRead (file_read f n bytes x) i r d
+    → is_common_entry f before n i ≡ false
     → EachFrom (λ j a. IsPooled (text_at k n j) → ⊥) (firsts_at k (file_read f n bytes x) i).text
     (texts_in (node_map (file_read f n bytes x).after d).attrs))
 
 -- Nor is the name of a space, in a unit of its own file.
 abbrev pub NameNotPooledLaw : Type 0
-NameNotPooledLaw = OfOwn (λ f before k n bytes x. (holder : UnitRole) → (holder ≡ CommonUnit → ⊥)
+NameNotPooledLaw = OfOwn (λ beside f before k n bytes x. (holder : UnitRole) → (holder ≡ CommonUnit → ⊥)
     → (space i : ℕ) (r : EntryRow) (d : Node ℕ) (text : List ℕ) → slice_get (space_entries 0 f.indexes) space ≡ Some (entry_row n i)
     → IsRead (file_read f n bytes x) i r d → space_text d ≡ Some text → IsPooled (text_held holder (space_at k space)) → ⊥)

@@ -28,9 +28,9 @@ pub fn number_laws()
 {}
 
 /// Once the lists have the texts and the paths of the common file (DWARF 5, 7.3.6), all that is written of that file is known: each text
-/// stands among them, and each number of a file is that of its path. And where a file is to share these texts, those of an entry that is
-/// written in its own file stand in a unit of that file where the definition of forms says, if they stood there as long as it shared none;
-/// so do the names of its spaces.
+/// stands among them, and each number of a file is that of its path. And where a file is to share these texts, or those of a common file
+/// that stands, those of an entry that is written in its own file stand in a unit of that file where the definition of forms says, if they
+/// stood there as long as it shared none; so do the names of its spaces.
 pub fn sharing_laws()
     ensures common { KnowCommonLaw }
     ensures texts { SharedTextsLaw }
@@ -38,7 +38,8 @@ pub fn sharing_laws()
 {}
 
 /// Once the lists have the texts of the common file, each that its units write is one of these, which get no new numbers where texts of a
-/// file do. And where all texts stood as they were read before, none is that is written in its own file, nor the name of a space there.
+/// file do. And where all texts stood as they were read before, none is that is written in its own file, nor the name of a space there,
+/// also over a common file that stands.
 pub fn pooled_laws()
     ensures common { PooledLaw }
     ensures entries { NotPooledLaw }

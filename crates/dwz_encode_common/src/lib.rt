@@ -2,7 +2,8 @@
 //!
 //! `common_texts` and `common_paths` walk the order of the common file and answer a `Pool` each; `Pool::section` and `Pool::line_table` are
 //! its `.debug_str` and `.debug_line`. `with_common` gives the lists with these places and numbers, made by `shared_texts`, `shared_names`
-//! and `path_numbers`; nothing else of the lists is copied. Nothing is done where the common file has no unit.
+//! and `path_numbers`; nothing else of the lists is copied. Nothing is done where the common file has no unit. Over a common file that
+//! stands `with_standing` gives the lists with the places of its texts.
 //!
 //! Laws (`common_laws`, `shared_laws`, `number_laws`, `sharing_laws`, `pooled_laws`, `section_laws`): these are the texts and paths of the
 //! run, and stand where the definition of forms says.
@@ -21,10 +22,11 @@ mod pool;
 mod sections;
 mod shared;
 mod spaces;
+mod standing;
 mod stored;
 mod texts;
 
-pub use known::with_common;
+pub use known::{with_common, with_standing};
 pub use laws::{common_laws, number_laws, pooled_laws, section_laws, shared_laws, sharing_laws};
 pub use numbers::path_numbers;
 pub use paths::common_paths;
@@ -32,4 +34,5 @@ pub use placed::shared_texts;
 pub use pool::Pool;
 pub use shared::place_text;
 pub use spaces::shared_names;
+pub use standing::PlacedTexts;
 pub use texts::common_texts;

@@ -7,13 +7,14 @@ ghost use Rattle.dwz_layout.specs.Attributes.{value_read};
 ghost use Rattle.dwz_graph.specs.Resolved.{sources_view};
 ghost use Rattle.dwz_unit.specs.Rows.{EntryRow, rows_of, units_of};
 ghost use Rattle.dwz_encode_common.specs.Placed as Specs;
-ghost use Rattle.dwz_encode_common.specs.Placed.{HavePlaces, entry_places, file_places};
+ghost use Rattle.dwz_encode_common.specs.Placed.{HavePlaces, entry_places, file_places, written_there};
+ghost use Rattle.dwz_encode_common.specs.TextsIn.{is_made, texts_in};
 ghost use Rattle.dwz_encode_common.specs.Stored.{row_texts, slots_base, text_read};
 
 use crate::bases::bases_of_units;
 use crate::places::Place;
-use crate::pool::Pool;
 use crate::shared::place_text;
+use crate::standing::PlacedTexts;
 use crate::stored::text_of;
 use crate::texts::base_of;
 use dwz_forms::Raw;
@@ -26,9 +27,9 @@ use std::alloc::Global;
 // What the texts of a file are placed by: the lists of all files, the texts of the common file, the number of the file, and whether it
 // shares these texts.
 #[derive(Clone, Copy)]
-struct Scope<'p, 'a> {
+struct Scope<'p, 'a, 't, 's> {
     known: &'p EntryTable<'p, 'a>,
-    pool: &'p Pool,
+    texts: &'p PlacedTexts<'t, 's>,
     file: u32,
     shares: bool,
 }
@@ -43,7 +44,7 @@ pub(crate) fn shares_in(sharing: &[bool], file: usize) -> bool
     }
 }
 
-// Whether an entry of the file is written in the common file.
+// Whether an entry of the file is owned by a unit of the common file.
 fn in_common_file(to: &Scope, entry: u32) -> bool
     ensures { result ≡ Specs.in_common_file to.now.known.now to.now.file entry }
 {
@@ -58,6 +59,13 @@ fn in_common_file(to: &Scope, entry: u32) -> bool
     owner < to.known.commons
 }
 
+// Whether it is written there, if that file is made: nothing is in one that stands.
+fn is_written_there(to: &Scope, entry: u32) -> bool
+    ensures { result ≡ written_there (is_made to.now.texts.now) to.now.known.now to.now.file entry }
+{
+    to.texts.is_made() && in_common_file(to, entry)
+}
+
 // Appends that of the next text of the file.
 fn put_text(
     places: &mut Vec<TextAt>,
@@ -66,10 +74,10 @@ fn put_text(
     text: &[u8],
 ) -> Result<(), NoMemory>
     ensures { OnOk result (places.new.items ≡ places.old.items
-        ++ entry_places is_common to.now.shares to.now.pool.now to.now.known.now to.now.file (length places.old.items) (text.now ∷ [])) }
+        ++ entry_places is_common to.now.shares (texts_in to.now.texts.now) to.now.known.now to.now.file (length places.old.items) (text.now ∷ [])) }
 {
     let own = to.known.text(to.file, places.len() as u64);
-    let place = place_text(to.pool, is_common, to.shares, text, own)?;
+    let place = place_text(to.texts, is_common, to.shares, text, own)?;
     places.push(place)?;
     Ok(())
 }
@@ -86,7 +94,7 @@ fn put_value(
     raw: &Raw,
 ) -> Result<(), NoMemory>
     ensures { OnOk result (places.new.items ≡ places.old.items
-        ++ entry_places is_common to.now.shares to.now.pool.now to.now.known.now to.now.file (length places.old.items)
+        ++ entry_places is_common to.now.shares (texts_in to.now.texts.now) to.now.known.now to.now.file (length places.old.items)
         (text_read (sources_view sections.now) base (value_read 0 pair.now (raw_view raw.now)))) }
 {
     match text_of(sections, base, pair, raw) {
@@ -101,11 +109,11 @@ fn put_row(places: &mut Vec<TextAt>, to: &Scope, place: &Place) -> Result<(), No
     requires bases { place.now.bases.now ≡ map slots_base (units_of place.now.units.now) }
     ensures { (row : EntryRow) → slice_get (rows_of (units_of place.now.units.now)) place.now.entry ≡ Some row
         → OnOk result (places.new.items ≡ places.old.items
-        ++ entry_places (Specs.in_common_file to.now.known.now to.now.file place.now.entry) to.now.shares to.now.pool.now to.now.known.now
+        ++ entry_places (written_there (is_made to.now.texts.now) to.now.known.now to.now.file place.now.entry) to.now.shares (texts_in to.now.texts.now) to.now.known.now
         to.now.file (length places.old.items) (row_texts (sources_view place.now.sections.now) (units_of place.now.units.now) row)) }
 {
     let base = base_of(place);
-    let is_common = in_common_file(to, place.entry);
+    let is_common = is_written_there(to, place.entry);
     let Values { pairs, mut cursor } = place.units.values(place.entry);
     for pair in pairs {
         let raw = known_value(&mut cursor, pair);
@@ -116,7 +124,7 @@ fn put_row(places: &mut Vec<TextAt>, to: &Scope, place: &Place) -> Result<(), No
 
 // Those of a file.
 fn texts_of_file(alloc: Global, to: &Scope, file: &File) -> Result<Vec<TextAt>, NoMemory>
-    ensures { IfOk result (λ places. places.items ≡ file_places to.now.shares to.now.pool.now to.now.known.now to.now.file file.now) }
+    ensures { IfOk result (λ places. places.items ≡ file_places (is_made to.now.texts.now) to.now.shares (texts_in to.now.texts.now) to.now.known.now to.now.file file.now) }
 {
     let bases = bases_of_units(alloc, &file.units)?;
     let mut places = Vec::new(alloc);
@@ -134,22 +142,23 @@ fn texts_of_file(alloc: Global, to: &Scope, file: &File) -> Result<Vec<TextAt>, 
 
 /// Where the texts of each file are written once these are the texts of the common file: of each text of its entries that has a place in a
 /// section (DWARF 5, 7.5.5, class string), in preorder, then in the order of attributes. A text of an entry that is written in the common
-/// file stands there; one of another entry does so where its file shares the texts and the text is among them; any other keeps the place
-/// that it has in `known`. `sharing` says of each file whether it shares them. `NoMemory` also where a place has more than four bytes.
+/// file stands there, and nothing is written in one that stands; one of another entry does so where its file shares the texts and the text
+/// is among them; any other keeps the place that it has in `known`. `sharing` says of each file whether it shares them. `NoMemory` also
+/// where a place has more than four bytes.
 pub fn shared_texts(
     alloc: Global,
     files: &[File],
     known: &EntryTable,
-    pool: &Pool,
+    texts: &PlacedTexts,
     sharing: &[bool],
 ) -> Result<Vec<Vec<TextAt>>, NoMemory>
-    ensures { IfOk result (λ all. HavePlaces files.now pool.now sharing.now known.now (map (λ places. places.items) all.items)) }
+    ensures { IfOk result (λ all. HavePlaces (is_made texts.now) files.now (texts_in texts.now) sharing.now known.now (map (λ places. places.items) all.items)) }
 {
     let mut all = Vec::with_capacity(alloc, files.len())?;
     for n in 0..files.len() {
         let to = Scope {
             known,
-            pool,
+            texts,
             file: behind(0, n)?,
             shares: shares_in(sharing, n),
         };

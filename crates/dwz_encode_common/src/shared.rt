@@ -2,20 +2,21 @@
 
 ghost use Rattle.std.specs.Prelude.{◌≡◌, false, true, MatchOption, IfOk};
 ghost use Rattle.dwz_def_encoding.specs.Placing.{has_text, text_place};
+ghost use Rattle.dwz_encode_common.specs.TextsIn.{texts_in};
 ghost use Rattle.dwz_encode_common.specs.Shared;
 
-use crate::pool::Pool;
+use crate::standing::PlacedTexts;
 use dwz_layout::TextAt;
 use dwz_model::NoMemory;
 use std::alloc::AllocError;
 
 // Where a text of the common file begins, in bytes from the first of its `.debug_str`. None where it isn't there; `NoMemory` where its
 // place has more than four bytes.
-fn start_of(pool: &Pool, text: &[u8]) -> Result<Option<u32>, NoMemory>
-    ensures { IfOk result (λ start. MatchOption start (has_text pool.now text.now ≡ false)
-        (λ at. (has_text pool.now text.now ≡ true) × (at ≡ text_place pool.now text.now))) }
+fn start_of(texts: &PlacedTexts, text: &[u8]) -> Result<Option<u32>, NoMemory>
+    ensures { IfOk result (λ start. MatchOption start (has_text (texts_in texts.now) text.now ≡ false)
+        (λ at. (has_text (texts_in texts.now) text.now ≡ true) × (at ≡ text_place (texts_in texts.now) text.now))) }
 {
-    match pool.start_of(text) {
+    match texts.start_of(text) {
         None => Ok(None),
         Some(start) if start <= u32::MAX as u64 => Ok(Some(start as u32)),
         Some(_) => Err(AllocError),
@@ -23,20 +24,20 @@ fn start_of(pool: &Pool, text: &[u8]) -> Result<Option<u32>, NoMemory>
 }
 
 // A text of an entry that is written in the common file.
-fn in_common(pool: &Pool, text: &[u8], own: TextAt) -> Result<TextAt, NoMemory>
-    ensures { IfOk result (λ t. t ≡ Shared.placed_text true true pool.now text.now own) }
+fn in_common(texts: &PlacedTexts, text: &[u8], own: TextAt) -> Result<TextAt, NoMemory>
+    ensures { IfOk result (λ t. t ≡ Shared.placed_text true true (texts_in texts.now) text.now own) }
 {
-    match start_of(pool, text)? {
+    match start_of(texts, text)? {
         Some(start) => Ok(TextAt::Pooled(start)),
         None => Ok(own),
     }
 }
 
 // A text of an entry of a file that shares the texts of the common file.
-fn in_sharing(pool: &Pool, text: &[u8], own: TextAt) -> Result<TextAt, NoMemory>
-    ensures { IfOk result (λ t. t ≡ Shared.placed_text false true pool.now text.now own) }
+fn in_sharing(texts: &PlacedTexts, text: &[u8], own: TextAt) -> Result<TextAt, NoMemory>
+    ensures { IfOk result (λ t. t ≡ Shared.placed_text false true (texts_in texts.now) text.now own) }
 {
-    match start_of(pool, text)? {
+    match start_of(texts, text)? {
         Some(start) => Ok(TextAt::Shared(start)),
         None => Ok(own),
     }
@@ -46,18 +47,18 @@ fn in_sharing(pool: &Pool, text: &[u8], own: TextAt) -> Result<TextAt, NoMemory>
 /// the entry is written there, or if its file shares these texts and the text is among them; and else at its own place. `NoMemory` where
 /// the place in the common file has more than four bytes.
 pub fn place_text(
-    pool: &Pool,
+    texts: &PlacedTexts,
     is_common: bool,
     shares: bool,
     text: &[u8],
     own: TextAt,
 ) -> Result<TextAt, NoMemory>
-    ensures { IfOk result (λ t. t ≡ Shared.placed_text is_common shares pool.now text.now own) }
+    ensures { IfOk result (λ t. t ≡ Shared.placed_text is_common shares (texts_in texts.now) text.now own) }
 {
     if is_common {
-        in_common(pool, text, own)
+        in_common(texts, text, own)
     } else if shares {
-        in_sharing(pool, text, own)
+        in_sharing(texts, text, own)
     } else {
         Ok(own)
     }

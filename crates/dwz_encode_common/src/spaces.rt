@@ -6,11 +6,12 @@ ghost use Rattle.dwz_def_reading.specs.Units.{entries_in};
 ghost use Rattle.dwz_graph.specs.Resolved.{sources_view};
 ghost use Rattle.dwz_unit.specs.Rows.{EntryRow, rows_of, units_of};
 ghost use Rattle.dwz_encode_common.specs.Placed as Specs;
+ghost use Rattle.dwz_encode_common.specs.TextsIn.{texts_in};
 ghost use Rattle.dwz_encode_common.specs.Stored.{row_name, slots_base_at};
 
 use crate::placed::shares_in;
-use crate::pool::Pool;
 use crate::shared::place_text;
+use crate::standing::PlacedTexts;
 use crate::stored::text_of;
 use dwz_codes::DW_AT_NAME;
 use dwz_graph::{File, first_attr, here_of};
@@ -58,16 +59,16 @@ fn name_at<'a>(files: &[File<'a>], row: Row) -> Option<&'a [u8]>
 
 // A name is written there, if there is one.
 fn place_name(
-    pool: &Pool,
+    texts: &PlacedTexts,
     is_common: bool,
     shares: bool,
     name: Option<&[u8]>,
     own: TextAt,
 ) -> Result<TextAt, NoMemory>
-    ensures { IfOk result (λ t. t ≡ Specs.name_place is_common shares pool.now (option_to_list (option_map (λ t. t.now) name.entry)) own) }
+    ensures { IfOk result (λ t. t ≡ Specs.name_place is_common shares (texts_in texts.now) (option_to_list (option_map (λ t. t.now) name.entry)) own) }
 {
     match name {
-        Some(name) => place_text(pool, is_common, shares, name, own),
+        Some(name) => place_text(texts, is_common, shares, name, own),
         None => Ok(own),
     }
 }
@@ -75,16 +76,16 @@ fn place_name(
 // A space with the places of its name.
 fn place_space(
     files: &[File],
-    pool: &Pool,
+    texts: &PlacedTexts,
     sharing: &[bool],
     space: &SpaceRow,
 ) -> Result<SpaceRow, NoMemory>
-    ensures { IfOk result (λ s. s ≡ Specs.space_placed files.now pool.now sharing.now space.now) }
+    ensures { IfOk result (λ s. s ≡ Specs.space_placed files.now (texts_in texts.now) sharing.now space.now) }
 {
     let name = name_at(files, space.row);
     let shares = shares_in(sharing, space.row.file as usize);
-    let text = place_name(pool, false, shares, name, space.text)?;
-    let common = place_name(pool, true, false, name, space.common)?;
+    let text = place_name(texts, false, shares, name, space.text)?;
+    let common = place_name(texts, true, false, name, space.common)?;
     Ok(SpaceRow {
         row: space.row,
         text,
@@ -99,14 +100,14 @@ pub fn shared_names(
     alloc: Global,
     files: &[File],
     known: &EntryTable,
-    pool: &Pool,
+    texts: &PlacedTexts,
     sharing: &[bool],
 ) -> Result<Vec<SpaceRow>, NoMemory>
-    ensures { IfOk result (λ spaces. spaces.items ≡ map (Specs.space_placed files.now pool.now sharing.now) known.now.spaces.items) }
+    ensures { IfOk result (λ spaces. spaces.items ≡ map (Specs.space_placed files.now (texts_in texts.now) sharing.now) known.now.spaces.items) }
 {
     let mut spaces = Vec::with_capacity(alloc, known.spaces.len())?;
     for space in known.spaces.as_slice() {
-        let placed = place_space(files, pool, sharing, space)?;
+        let placed = place_space(files, texts, sharing, space)?;
         spaces.push(placed)?;
     }
     Ok(spaces)

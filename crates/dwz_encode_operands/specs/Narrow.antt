@@ -6,9 +6,9 @@ use Rattle.dwz_def_reading.specs.Meanings.{Around}
 use Rattle.dwz_def_reading.specs.NamedLists.{lists_of_units}
 use Rattle.dwz_def_reading.specs.Shared.{AreRows, ListOperand, NoneShared, operands_in_lists}
 use Rattle.dwz_model.specs.declared.fault.Fault.{Fault}
-use Rattle.dwz_def_readback.specs.Files.{Run, name_after, places}
-use Rattle.dwz_def_output.specs.Contents.{operand_number_after}
-use Rattle.dwz_def_output.specs.Refusals.{FirstNarrow, IsOver, narrow_at}
+use Rattle.dwz_def_readback.specs.Files.{CommonFile, Made, Run, name_after, places_by}
+use Rattle.dwz_def_output.specs.Contents.{operand_number_after_by}
+use Rattle.dwz_def_output.specs.Refusals.{FirstNarrowBy, IsOver, narrow_at}
 use Rattle.dwz_def_encoding.specs.Meant.{led_to}
 use Rattle.dwz_def_encoding.specs.Writing.{base_place}
 
@@ -36,12 +36,16 @@ number_by after o = after (led_to o.unit o.operand) - base_place (after o.unit) 
 -- ---- laws
 
 -- where what stood at a place of a file stands after, by a run: at the place of its name
+abbrev pub after_in_by : CommonFile → Run → ℕ → ℕ → ℕ
+after_in_by k r file p = (places_by k r).place (name_after r file p)
+
 abbrev pub after_in : Run → ℕ → ℕ → ℕ
-after_in r file p = (places r).place (name_after r file p)
+after_in = after_in_by Made
 
 -- the new numbers of the run are such
 abbrev pub RunLaw : Type 0
-RunLaw = (r : Run) (file : ℕ) (o : ListOperand) → operand_number_after r file o ≡ number_by (after_in r file) o
+RunLaw =
+    (k : CommonFile) (r : Run) (file : ℕ) (o : ListOperand) → operand_number_after_by k r file o ≡ number_by (after_in_by k r file) o
 
 -- the first place of the operands of location lists that stand once is that of all, where no list is shared
 abbrev pub ListedLaw : Type 0
@@ -51,10 +55,11 @@ ListedLaw = (around : Around ℕ) (raw : List RawUnit) (after : ℕ → ℕ) (ro
 
 -- the first place is that of the first narrow operand of the run
 abbrev pub FoundLaw : Type 0
-FoundLaw = (r : Run) (file section : ℕ) (operands : List ListOperand) (at : ℕ)
-    → FirstPlace (number_by (after_in r file)) operands (Some at) → FirstNarrow r file section operands (narrow_at section at)
+FoundLaw = (k : CommonFile) (r : Run) (file section : ℕ) (operands : List ListOperand) (at : ℕ)
+    → FirstPlace (number_by (after_in_by k r file)) operands (Some at) → FirstNarrowBy k r file section operands (narrow_at section at)
 
 -- where there is none, no operand is narrow
 abbrev pub NoneLaw : Type 0
-NoneLaw = (r : Run) (file section : ℕ) (operands : List ListOperand) → FirstPlace (number_by (after_in r file)) operands None
-    → (f : Fault) → FirstNarrow r file section operands f → ⊥
+NoneLaw = (k : CommonFile) (r : Run) (file section : ℕ) (operands : List ListOperand)
+    → FirstPlace (number_by (after_in_by k r file)) operands None
+    → (f : Fault) → FirstNarrowBy k r file section operands f → ⊥

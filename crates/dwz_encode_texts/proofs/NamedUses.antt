@@ -55,4 +55,4 @@ named_uses = λ t units says. units_named t units says
 -- all uses of a file after are those of its units, and those of its slots
 pub after_uses : AfterLaw
 unfolding uses_by
-after_uses r file p is = record { texts = is.texts.bytes; slots = is.slots; moved = is.texts.moved }
+after_uses k r file p is = record { texts = is.texts.bytes; slots = is.slots; moved = is.texts.moved }

@@ -8,14 +8,14 @@ use Rattle.dwz_def_tops.specs.Spots.{EntryName}
 use Rattle.dwz_strs.specs.Pruned.{moved_in}
 use Rattle.dwz_def_encoding.specs.Meant.{Tells, UnitsSay}
 use Rattle.dwz_def_encoding.specs.Pruned.{units_uses}
-use Rattle.dwz_def_readback.specs.Files.{Run, formed, sources, strs_if, uses}
+use Rattle.dwz_def_readback.specs.Files.{CommonFile, Made, Run, formed_by, sources, strs_if_by, uses_by}
 use Rattle.dwz_layout.specs.declared.known.EntryTable.{EntryTable}
 use Rattle.dwz_layout.specs.declared.order.UnitItems.{UnitItems}
 use Rattle.dwz_layout.specs.declared.walk.Slot.{Slot}
 use Rattle.dwz_layout.specs.Attributes.{here_of}
 use Rattle.dwz_layout.specs.Entries.{items_slots}
 use Rattle.dwz_encode.specs.Shown.{Keys, ShowUnits}
-use Rattle.dwz_def_output.specs.Contents.{offsets_if}
+use Rattle.dwz_def_output.specs.Contents.{offsets_if_by}
 use Rattle.dwz_encode_texts.specs.declared.pruning.PrunedFile.{PrunedFile}
 use Rattle.dwz_encode_texts.specs.PrunedFiles.{IsPrunedFile}
 use Rattle.dwz_encode_texts.specs.Used.{order_uses, origin_uses}
@@ -42,13 +42,16 @@ NamedLaw =
 
 -- The sections that are pruned by what the units of a file after use are those that are written of a file that is prunable; and the new
 -- numbers are those of its uses.
-pub record ArePruned (r : Run) (file : ℕ) (p : PrunedFile) : Type 0 where
-  pub texts : p.strs.bytes ≡ strs_if true r file
-  pub slots : p.offsets.items ≡ offsets_if true r file
+pub record ArePrunedBy (k : CommonFile) (r : Run) (file : ℕ) (p : PrunedFile) : Type 0 where
+  pub texts : p.strs.bytes ≡ strs_if_by true k r file
+  pub slots : p.offsets.items ≡ offsets_if_by true k r file
   pub moved : (offset : ℕ)
-      → SomeIff (moved_in p.strs offset) (Contains (uses r file) offset) (new_number (sources r file).strs (uses r file) offset)
+      → SomeIff (moved_in p.strs offset) (Contains (uses_by k r file) offset) (new_number (sources r file).strs (uses_by k r file) offset)
+
+abbrev pub ArePruned : Run → ℕ → PrunedFile → Type 0
+ArePruned = ArePrunedBy Made
 
 abbrev pub AfterLaw : Type 0
 AfterLaw =
-    (r : Run) (file : ℕ) (p : PrunedFile) → IsPrunedFile (sources r file).strs (sources r file).offsets (units_uses (formed r file)) p
-    → ArePruned r file p
+    (k : CommonFile) (r : Run) (file : ℕ) (p : PrunedFile)
+    → IsPrunedFile (sources r file).strs (sources r file).offsets (units_uses (formed_by k r file)) p → ArePrunedBy k r file p

@@ -1,3 +1,11 @@
+pub mod CommonNames
+pub mod StandingRows
 pub mod OverFacts
 pub mod OverMoves
 pub mod OverWhole
+pub mod FilesShown
+pub mod RowsBehind
+pub mod OverPlaces
+pub mod OverOrder
+pub mod OverRoots
+pub mod Either

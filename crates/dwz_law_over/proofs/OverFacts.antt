@@ -39,7 +39,7 @@ use Rattle.dwz_law_over.proofs.OverWhole.{over_whole}
 -- ---- how many entries the common file has
 
 -- units read as compile units have a name for each entry
-named_many : (around : Around ℕ) (raw : List RawUnit) (said : List (DwUnit ℕ)) (unit top : ℕ) → MeanUnits around raw said
+pub named_many : (around : Around ℕ) (raw : List RawUnit) (said : List (DwUnit ℕ)) (unit top : ℕ) → MeanUnits around raw said
     → length (names_from unit top (map as_compile said)) ≡ entries_in raw
 unfolding names_from entries_in
 named_many around [] [] unit top h = refl
@@ -80,7 +80,7 @@ module _ (s : Standing) (f : RunFacts (Over s)) (o : AreOver s f) where
   abbrev m : Move
   m = move_over (reused_of ds s.doc) s.fixed (file_numbers 0 ds)
 
-  many : length (common_names ds s.doc) ≡ length (rows_of s.file.raw)
+  pub many : length (common_names (docs f) s.doc) ≡ length (rows_of s.file.raw)
   many = named_many o.around s.file.raw s.doc.units _ _ (((units_agree o.around s.file.raw).ok s.doc.units).0 o.means) ∙ sym (rows-length s.file.raw)
 
   -- an entry of a top of the common file stands in its unit

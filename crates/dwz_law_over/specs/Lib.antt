@@ -1,1 +1,3 @@
+pub mod CommonRows
 pub mod OverLaws
+pub mod Either

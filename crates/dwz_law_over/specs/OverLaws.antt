@@ -25,6 +25,7 @@ use Rattle.dwz_law_layout.specs.Beside.{Over, Standing}
 use Rattle.dwz_law_layout.specs.Facts.{AreFacts, IsStoredSo, RunFacts, docs, move, units, written}
 use Rattle.dwz_law_layout.specs.Moving.{MovesSo}
 use Rattle.dwz_law_layout.specs.Whole.{AreWhole}
+use Rattle.dwz_law_over.specs.CommonRows.{AreCommonRows}
 
 -- P holds of files, of a finished common file, and of what is taken from that
 abbrev AlwaysOver : (List (Doc ℕ) → Doc ℕ → Fixed → Type 0) → Type 0
@@ -43,7 +44,7 @@ OverWholeLaw = AlwaysOver (λ docs common fixed. (input : Stored) (c : Finished)
     → AreWhole (Stands c) docs (run_by (move_over (reused_of docs common) fixed (file_numbers 0 docs)) docs input))
 
 -- The facts are of files over that common file: what is taken is fixed, and what is left moves by the rule for what is free. The common
--- file stands as it was read. The plan shows the move, and what stands for tops of both.
+-- file stands as it was read, and so do its names. The plan shows the move, and what stands for tops of both.
 pub record AreOver (s : Standing) (f : RunFacts (Over s)) : Type 0 where
   pub rule : f.rule ≡ free_rule (reused_of (docs f) s.doc) s.fixed
   pub placed : ArePlacedOver (docs f) s.doc
@@ -51,6 +52,7 @@ pub record AreOver (s : Standing) (f : RunFacts (Over s)) : Type 0 where
   pub stands : s.file.units ≡ common_units (move_over (reused_of (docs f) s.doc) s.fixed (file_numbers 0 (docs f)))
   pub around : Around ℕ
   pub means : units_meaning around s.file.raw ≡ Ok s.doc.units
+  pub rows : AreCommonRows s (docs f)
   pub bytes : Each AreBytes f.contents
   pub kept : AreKept f.contents f.files
   pub indexed : AreIndexes (docs f) f.indexes

@@ -1,13 +1,17 @@
 -- Facts are those of what was planned: where lists, rule and plan are equal, so are the facts.
-use Rattle.std.proofs.Common.{◌≡◌, ℕ, ◌+◌, ◌<◌, ◌^◌, Bool, List, arith, length, map, sym, subst}
+use Rattle.std.proofs.Common.{ℕ, ◌≡◌, ◌+◌, ◌<◌, ◌^◌, List, arith, length, sym, subst, ◌∙◌}
 use Rattle.dwz_def_reading.specs.Lists.{Each}
 use Rattle.dwz_def_reading.specs.Values.{AreBytes}
 use Rattle.dwz_def_reading.proofs.ListFacts.{got_below}
-use Rattle.dwz_def_tops.specs.Spots.{Within, file_numbers, units_of}
-use Rattle.dwz_def_readback.specs.Files.{imports_common}
+use Rattle.dwz_def_tops.specs.Spots.{Within, file_numbers, tops_of, units_of}
 use Rattle.dwz_layout_order.proofs.FilesFew.{names_few}
+use Rattle.dwz_graph.specs.declared.file.File.{File}
 use Rattle.dwz_graph.specs.Files.{AreKept, docs_of}
 use Rattle.dwz_graph.specs.Index.{Index}
+use Rattle.dwz_graph.specs.Indexed.{AreIndexes}
+use Rattle.dwz_layout_order.specs.Behind.{ArePlannedFirst}
+use Rattle.dwz_layout_order.proofs.BehindLemmas.{planned_alone}
+use Rattle.dwz_layout_order.proofs.FitLemmas.{parts_fit}
 use Rattle.dwz_def_plan.specs.Homes.{Rule}
 use Rattle.dwz_def_plan.specs.Moves.{plan}
 use Rattle.dwz_plan.specs.declared.plan.Scope.{Scope}
@@ -31,6 +35,7 @@ use Rattle.dwz_def_plan.proofs.FairLemmas.{fair_by}
 use Rattle.dwz_law_layout.proofs.ReadFiles.{files_placed}
 use Rattle.dwz_law_layout.proofs.RuleMoves.{moves_so}
 use Rattle.dwz_law_layout.proofs.WholeRuns.{whole_runs}
+use Rattle.dwz_layout_input.specs.Parts.{ArePlannedOf, HoldSome}
 use Rattle.dwz_layout_input.specs.Settled.{AreFactsOf, ArePlanned, FactsLaw}
 
 -- the facts with these contents and indexes, and so on
@@ -61,11 +66,31 @@ module _ (contents : List (List ℕ)) (indexes : List Index) (sharing : Scope) (
     olds = f.olds;
   }
 
-  -- flags of files that import from the common file by the plan's rule are those by the facts
-  pub imports_are : (flags : List Bool)
-      → flags ≡ map (imports_common (move_of (rule_by sharing (docs_of contents)) (docs_of contents)) (units_of (docs_of contents))) (file_numbers 0 (docs_of contents))
-      → flags ≡ map (imports_common (move f) (units f)) (file_numbers 0 (docs f))
-  imports_are flags are = subst (λ (w : RunFacts Alone). flags ≡ map (imports_common (move w) (units w)) (file_numbers 0 (docs w))) facts_same are
+  -- their plan shows their move
+  pub planned_of : ArePlanned sharing (docs_of contents) p → ArePlannedOf contents indexes p f
+  planned_of planned =
+      let ds = docs_of contents in
+      let rule = rule_by sharing ds in
+      record {
+        contents_are = of.contents_are;
+        indexes_are = of.indexes_are;
+        plan_is = of.plan_is;
+        first = subst (λ (w : RunFacts Alone). ArePlannedFirst (move w) (units w) (length (docs w)) p.tops p.plan) facts_same
+            (planned_alone ds rule p.tops p.plan planned.outline.shows planned.plan (planned.fits.homes ∙ sym planned.fits.rows));
+        goes = subst (λ (w : RunFacts Alone). MovesSo (IsMade w) (move w) (units w)) facts_same
+            (moves_so (units_of ds) rule (fair_by (alike_scope sharing) (units_of ds) rule (alike_is sharing ds) (choice_is sharing ds)) (file_numbers 0 ds));
+      }
+
+-- the partial units hold tops of the files
+pub hold_alone : (contents : List (List ℕ)) (files : List File) (indexes : List Index) (sharing : Scope) (p : PlannedFiles) → AreKept contents files → AreIndexes (docs_of contents) indexes
+    → ArePlanned sharing (docs_of contents) p → HoldSome (length contents + 1) (length (tops_of (units_of (docs_of contents)))) p.plan.partials
+hold_alone contents files indexes sharing p kept indexed planned =
+    let fit = parts_fit contents files indexes (rule_by sharing (docs_of contents)) p.plan kept indexed planned.plan in
+    record {
+      few = omega (arith, planned.fits.few_parts, planned.fits.few_rows);
+      few_tops = fit.few_tops;
+      inside = λ k d lt low. fit.inside k d lt;
+    }
 
 -- what is known of a move, of what is written by it, and of entries
 pub record AreRuled (f : RunFacts Alone) : Type 0 where

@@ -5,7 +5,6 @@ use Rattle.dwz_def_reading.specs.Documents.{Doc}
 use Rattle.dwz_def_reading.specs.Files.{Limits, files_meaning, limits_after, no_files_before}
 use Rattle.dwz_def_reading.proofs.UnitMeans.{no_files}
 use Rattle.dwz_def_tops.specs.Seen.{IsPartial}
-use Rattle.dwz_def_tops.specs.Spots.{tops_of, units_of}
 use Rattle.dwz_def_reading.specs.Lists.{Each}
 use Rattle.dwz_graph.specs.declared.file.File.{File}
 use Rattle.dwz_graph.specs.Files.{AreKept, AreRead, docs_of}
@@ -17,15 +16,13 @@ use Rattle.dwz_layout_order.proofs.FileCounts.{are_many}
 use Rattle.dwz_layout_order.proofs.FileEntries.{all_entries}
 use Rattle.dwz_layout_order.proofs.FileWalk.{first_doc, is_among}
 use Rattle.dwz_layout_order.proofs.FilesFew.{all_small}
-use Rattle.dwz_layout_numbers.specs.declared.numbers.UnitNumbers.{UnitNumbers}
 use Rattle.dwz_layout_numbers.specs.Images.{tops_from}
 use Rattle.dwz_layout_numbers.specs.Whole.{AreWhole}
 use Rattle.dwz_layout_numbers.proofs.WholeLemmas.{all_inside, top_entries}
 use Rattle.dwz_plan.specs.Planned.{Planned}
 use Rattle.dwz_unit.specs.Rows.{units_of as raw_units}
-use Rattle.dwz_law_layout.specs.Beside.{Alone}
-use Rattle.dwz_law_layout.specs.Facts.{AreFacts, RunFacts, docs}
-use Rattle.dwz_layout_input.specs.Needs.{AreMade, IsFit}
+use Rattle.dwz_layout_input.specs.ListedLaws.{FitLaw, MadeLaw}
+use Rattle.dwz_layout_input.specs.Needs.{IsFit}
 
 are_whole : (l : Limits) (n : ℕ) (contents : List (List ℕ)) (files : List File) (end : Limits) (ds : List (Doc ℕ)) → AreRead l n contents files end → files_meaning l n contents ≡ Ok ds → AreWhole ds
 are_whole l n [] [] end ds h m = subst AreWhole (no_files l n ds m) tt
@@ -49,15 +46,14 @@ below_all : (n : ℕ) (xs : List ℕ) → Each (λ i. i < n) xs → All (λ i. i
 below_all n [] h = λ k d lt. absurd (omega arith)
 below_all n (x ∷ xs) h = below_one n x xs h.0 (below_all n xs h.1)
 
-pub fit : (contents : List (List ℕ)) (files : List File) (indexes : List Index) (plan : Planned) → AreKept contents files → AreIndexes (docs_of contents) indexes
-    → length contents < 2 ^ 32 → length plan.homes ≡ length (tops_of (units_of (docs_of contents)))
-    → length plan.stand_ins ≡ length (tops_of (units_of (docs_of contents))) → IsFit files indexes plan
-fit contents files indexes plan kept is few homes stands =
+-- for a plan of so many tops
+pub fit_by : (contents : List (List ℕ)) (files : List File) (indexes : List Index) (plan : Planned) (count : ℕ) → AreKept contents files → AreIndexes (docs_of contents) indexes
+    → length contents < 2 ^ 32 → length plan.homes ≡ count → length plan.stand_ins ≡ count → IsFit files indexes plan count
+fit_by contents files indexes plan count kept is few homes stands =
     let many = are_many contents files indexes kept is in
     let long = as_many no_files_before 0 contents files kept.end kept.are in
     let small = all_small contents files indexes kept is in
     let none = whole contents files kept in
-    let tops = top_entries (docs_of contents) indexes is none in
     let few_entries = small.entries in
     record {
       many = many.1 ∙ sym many.0;
@@ -71,20 +67,24 @@ fit contents files indexes plan kept is few homes stands =
             inside = subst (λ (m : ℕ). All (λ i. i < m) x.resolved.refs.items) (sym len) (below_all (entries_in (raw_units x.units)) x.resolved.refs.items a.is.kept.read.within);
           });
       tops = all_inside (docs_of contents) indexes is none;
-      homes = homes ∙ sym tops.many;
-      stand_ins = stands ∙ sym tops.many;
+      homes = homes;
+      stand_ins = stands;
     }
 
-pub made : (f : RunFacts Alone) (numbers : UnitNumbers) → AreFacts f → f.parts ≡ numbers.parts.items → f.olds ≡ numbers.olds.items → f.commons ≡ numbers.commons
-    → AreMade f f.files f.indexes f.planned numbers
-made f numbers h parts olds commons =
-    record {
-      files_are = refl;
-      indexes_are = refl;
-      plan_is = refl;
-      parts_are = parts;
-      olds_are = olds;
-      commons_are = commons;
-      indexed = h.indexed;
-      planned = h.images (tops_from 0 f.indexes) (top_entries (docs f) f.indexes h.indexed (whole f.contents f.files h.kept));
-    }
+pub fit : FitLaw
+fit contents files indexes plan kept is few homes stands =
+    let tops = top_entries (docs_of contents) indexes is (whole contents files kept) in
+    fit_by contents files indexes plan (length (tops_from 0 indexes)) kept is few (homes ∙ sym tops.many) (stands ∙ sym tops.many)
+
+pub made : MadeLaw
+made beside f numbers h parts olds commons = record {
+  files_are = refl;
+  indexes_are = refl;
+  plan_is = refl;
+  parts_are = parts;
+  olds_are = olds;
+  commons_are = commons;
+  indexed = h.indexed;
+  whole = whole f.contents f.files h.kept;
+  images = h.images;
+}

@@ -2,7 +2,11 @@ pub mod TopSteps
 pub mod RowSteps
 pub mod OwnerSteps
 pub mod Fits
+pub mod CrossTops
+pub mod FitsOver
 pub mod TextSteps
 pub mod FactsAre
 pub mod SettledParts
+pub mod FirstOver
+pub mod FactsOver
 pub use Rattle.dwz_plan_files.proofs.PlanFits

@@ -15,7 +15,7 @@ use Rattle.dwz_layout.specs.declared.known.ValueCounts.{ValueCounts}
 use Rattle.dwz_layout.specs.declared.known.TextAt.{TextAt}
 use Rattle.dwz_plan.specs.Planned.{Planned}
 use Rattle.dwz_unit.specs.Rows.{rows_of, units_of}
-use Rattle.dwz_law_layout.specs.Beside.{Alone}
+use Rattle.dwz_law_layout.specs.Beside.{Beside}
 use Rattle.dwz_law_layout.specs.Facts.{RunFacts, every, move}
 use Rattle.dwz_law_layout.specs.Listed.{AreRows, HaveFirsts, IsListed, firsts_from, none_before}
 
@@ -93,7 +93,7 @@ module _ (files : List File) (indexes : List Index) (plan : Planned) (tops start
   -- with the rows that are left, the rows so far are those of all files
   pub record Going (left : List (Vec TextAt Global)) (n : ℕ) (rows : List FileRows) : Type 0 where
     pub many : n + length left ≡ length files
-    pub so : (f : RunFacts Alone) → IsPlanned (every f) (move f) plan tops → (rest : List FileRows)
+    pub so : (beside : Beside) (f : RunFacts beside) → IsPlanned (every f) (move f) plan tops → (rest : List FileRows)
         → AreRows f (drop n files) (drop n indexes) (drop n starts) (map shown left) rest → AreRows f files indexes starts (map shown all) (rows ++ rest)
 
   pub rows_first : (left : List (Vec TextAt Global)) (rows : List FileRows) → left ≡ all → length all ≡ length files → rows ≡ [] → Going left 0 rows
@@ -101,41 +101,41 @@ module _ (files : List File) (indexes : List Index) (plan : Planned) (tops start
       let same : length left ≡ length all = ap (λ (w : List (Vec TextAt Global)). length w) e in
       record {
         many = omega arith;
-        so = λ f p rest h.
+        so = λ beside f p rest h.
             subst (λ (w : List FileRows). AreRows f files indexes starts (map shown all) (w ++ rest)) (sym none)
             (subst (λ (w : List (Vec TextAt Global)). AreRows f files indexes starts (map shown w) rest) e h);
       }
 
   pub rows_next : (left more : List (Vec TextAt Global)) (n : ℕ) (old new : List FileRows) (x : File) (index : Index) (s : ℕ) (t : Vec TextAt Global) (row : FileRows)
       → n < length files → x ≡ get_or files n x → n < length indexes → index ≡ get_or indexes n index → n < length starts → s ≡ get_or starts n s
-      → left ≡ t ∷ more → new ≡ old ++ row ∷ [] → ((f : RunFacts Alone) → IsPlanned (every f) (move f) plan tops → IsListed f x index s t.items row)
+      → left ≡ t ∷ more → new ≡ old ++ row ∷ [] → ((beside : Beside) (f : RunFacts beside) → IsPlanned (every f) (move f) plan tops → IsListed f x index s t.items row)
       → Going left n old → Going more (n + 1) new
   rows_next left more n old new x index s t row lt e lti ei lts es parts push listed g =
       let long : length left ≡ suc (length more) = ap (λ (w : List (Vec TextAt Global)). length w) parts in
       let many = g.many in
       record {
         many = omega arith;
-        so = λ f p rest h. (
-            let one : AreRows f (x ∷ drop (n + 1) files) (index ∷ drop (n + 1) indexes) (s ∷ drop (n + 1) starts) (map shown (t ∷ more)) (row ∷ rest) = (listed f p, h) in
+        so = λ beside f p rest h. (
+            let one : AreRows f (x ∷ drop (n + 1) files) (index ∷ drop (n + 1) indexes) (s ∷ drop (n + 1) starts) (map shown (t ∷ more)) (row ∷ rest) = (listed beside f p, h) in
             let back : AreRows f (drop n files) (drop n indexes) (drop n starts) (map shown left) (row ∷ rest) =
             subst (λ (w : List File). AreRows f w (drop n indexes) (drop n starts) (map shown left) (row ∷ rest)) (sym (drop_next files n x lt e))
             (subst (λ (w : List Index). AreRows f (x ∷ drop (n + 1) files) w (drop n starts) (map shown left) (row ∷ rest)) (sym (drop_next indexes n index lti ei))
             (subst (λ (w : List ℕ). AreRows f (x ∷ drop (n + 1) files) (index ∷ drop (n + 1) indexes) w (map shown left) (row ∷ rest)) (sym (drop_next starts n s lts es))
             (subst (λ (w : List (Vec TextAt Global)). AreRows f (x ∷ drop (n + 1) files) (index ∷ drop (n + 1) indexes) (s ∷ drop (n + 1) starts) (map shown w) (row ∷ rest)) (sym parts) one))) in
             subst (λ (w : List FileRows). AreRows f files indexes starts (map shown all) w) (sym (ap (λ (w : List FileRows). w ++ rest) push ∙ append_assoc old (row ∷ []) rest))
-            (g.so f p (row ∷ rest) back));
+            (g.so beside f p (row ∷ rest) back));
       }
 
   pub rows_done : (left : List (Vec TextAt Global)) (n : ℕ) (rows : List FileRows) → length left ≡ 0 → length indexes ≡ length files → length starts ≡ length files → Going left n rows
-      → (f : RunFacts Alone) → IsPlanned (every f) (move f) plan tops → AreRows f files indexes starts (map shown all) rows
-  rows_done left n rows none li ls g f p =
+      → (beside : Beside) (f : RunFacts beside) → IsPlanned (every f) (move f) plan tops → AreRows f files indexes starts (map shown all) rows
+  rows_done left n rows none li ls g beside f p =
       let many = g.many in
       let back : AreRows f (drop n files) (drop n indexes) (drop n starts) (map shown left) [] =
       subst (λ (w : List File). AreRows f w (drop n indexes) (drop n starts) (map shown left) []) (sym (drop_all n files (omega arith)))
       (subst (λ (w : List Index). AreRows f [] w (drop n starts) (map shown left) []) (sym (drop_all n indexes (omega arith)))
       (subst (λ (w : List ℕ). AreRows f [] [] w (map shown left) []) (sym (drop_all n starts (omega arith)))
       (subst (λ (w : List (Vec TextAt Global)). AreRows f [] [] [] (map shown w) []) (sym (nil_from_length left none)) tt))) in
-      subst (λ (w : List FileRows). AreRows f files indexes starts (map shown all) w) (append-nil rows) (g.so f p [] back)
+      subst (λ (w : List FileRows). AreRows f files indexes starts (map shown all) w) (append-nil rows) (g.so beside f p [] back)
 
 -- ---- the numbers of files in them
 

@@ -1,87 +1,83 @@
 -- What is settled of files, part by part, is all that is asked before their units are written.
-use Rattle.std.proofs.Common.{◌≡◌, ℕ, ◌+◌, ◌<◌, ◌≤◌, ◌^◌, All, Bool, List, None, Option, length, map, slice_index_or, sym, ap, subst, ◌∙◌, arith}
-use Rattle.dwz_def_tops.specs.Spots.{file_numbers, tops_of, units_of}
-use Rattle.dwz_graph.specs.declared.file.File.{File}
-use Rattle.dwz_graph.specs.Files.{AreKept, docs_of}
+use Rattle.std.proofs.Common.{◌≡◌, ℕ, ◌+◌, ◌<◌, ◌≤◌, ◌^◌, All, Bool, List, None, Option, length, map, slice_index_or, sym, ap, subst, ◌∙◌}
+use Rattle.dwz_def_reading.specs.Documents.{Attr}
+use Rattle.dwz_def_tops.specs.Spots.{EntryName, file_numbers, tops_of, units_of}
+use Rattle.dwz_graph.specs.Files.{docs_of}
 use Rattle.dwz_graph.specs.Index.{Index}
-use Rattle.dwz_graph.specs.Indexed.{AreIndexes}
-use Rattle.dwz_layout_numbers.specs.Owners.{move_of}
+use Rattle.dwz_def_plan.specs.Moves.{line_attrs}
+use Rattle.dwz_def_readback.specs.Files.{imports_common}
 use Rattle.dwz_layout_items.specs.Chains.{IsRising}
 use Rattle.dwz_layout_items.specs.declared.partial.SpaceRow.{SpaceRow}
 use Rattle.dwz_layout_items.specs.declared.partial.TopSpaces.{TopSpaces}
 use Rattle.dwz_layout_order.specs.declared.marks.TopMark.{TopMark}
 use Rattle.dwz_layout_order.specs.Lists.{all_tops}
-use Rattle.dwz_layout_order.specs.Marks.{mark_at, mark_of}
+use Rattle.dwz_layout_order.specs.Marks.{mark_at}
 use Rattle.dwz_layout_order.specs.Orders.{ShowsLine}
 use Rattle.dwz_layout_order.specs.Shown.{KnowsSpaces}
 use Rattle.dwz_layout_order.specs.Spaces.{Numbered, spaces_of}
 use Rattle.dwz_layout_order.specs.declared.orders.Settled.{Settled}
-use Rattle.dwz_layout_order.specs.Ordered.{AreSettled}
-use Rattle.dwz_layout_order.proofs.FitLemmas.{parts_fit}
+use Rattle.dwz_layout_order.specs.Ordered.{AreSettled, line_given}
 use Rattle.dwz_layout.specs.declared.order.Sort.TheVariants.{Partial as PartialSort}
-use Rattle.dwz_plan.specs.declared.plan.Scope.{Scope}
 use Rattle.dwz_plan.specs.Planned.{Planned}
-use Rattle.dwz_plan_files.specs.Rules.{rule_by}
+use Rattle.dwz_plan_files.specs.declared.planned.PlannedFiles.{PlannedFiles}
 use Rattle.dwz_plan_files.proofs.TopMarks.{marks_are}
-use Rattle.dwz_plan_files.specs.Roots.{AreLines}
-use Rattle.dwz_def_images.specs.Units.{changes}
+use Rattle.dwz_plan_files.specs.Roots.{IsOfOneUnit}
 use Rattle.dwz_law_layout.specs.Settled.{IsSettled}
-use Rattle.dwz_plan_files.specs.Known.{AreSpaces}
-use Rattle.dwz_plan_files.specs.Pinned.{ArePinned, FlagsSpace}
-use Rattle.dwz_law_layout.specs.Beside.{Alone}
-use Rattle.dwz_law_layout.specs.Facts.{RunFacts}
+use Rattle.dwz_plan_files.specs.Pinned.{FlagsSpace}
+use Rattle.dwz_law_layout.specs.Beside.{Beside}
+use Rattle.dwz_law_layout.specs.Facts.{RunFacts, docs, move, units}
 use Rattle.dwz_layout_input.specs.declared.settled.SettledFiles.{SettledFiles}
-use Rattle.dwz_layout_input.specs.Settled.{AreFactsOf, ArePlanned, Lends}
-use Rattle.dwz_layout_input.proofs.FactsAre.{facts_same, facts_with}
+use Rattle.dwz_layout_input.specs.Parts.{AreParts, ArePlannedOf, HoldSome}
+use Rattle.dwz_layout_input.specs.Settled.{Lends}
 
--- of files that share so, what is settled of tops, spaces, line tables and files
-pub record AreParts (contents : List (List ℕ)) (indexes : List Index) (sharing : Scope) (r : SettledFiles) : Type 0 where
-  pub planned : ArePlanned sharing (docs_of contents) r.planned
-  pub marks : (k : ℕ) → k < length r.planned.tops.rows → mark_at r.marks.items k ≡ mark_of r.planned.tops.rows r.planned.plan.homes k
-  pub pinned : ArePinned (units_of (docs_of contents)) r.pinned.items
-  pub spaces : AreSpaces (docs_of contents) indexes r.spaces
-  pub lines : AreLines (move_of (rule_by sharing (docs_of contents)) (docs_of contents)) r.lines.items
-  pub written : r.written.items ≡ map (changes (move_of (rule_by sharing (docs_of contents)) (docs_of contents)) (units_of (docs_of contents))) (file_numbers 0 (docs_of contents))
+module _ (contents : List (List ℕ)) (indexes : List Index) (p : PlannedFiles) (r : SettledFiles) (parts : AreParts contents indexes p r) where
+  module _ {beside : Beside} (f : RunFacts beside) (of : ArePlannedOf contents indexes p f) where
+    -- with the contents and indexes of the facts
+    own : AreParts f.contents f.indexes p r
+    own =
+        subst (λ (w : List (List ℕ)). AreParts w f.indexes p r) (sym of.contents_are)
+        (subst (λ (w : List Index). AreParts contents w p r) (sym of.indexes_are) parts)
 
-module _ (contents : List (List ℕ)) (indexes : List Index) (sharing : Scope) (r : SettledFiles) (parts : AreParts contents indexes sharing r) (s : Settled) (lends : Lends r s) where
-  settled_with : (f : RunFacts Alone) → IsSettled (facts_with contents indexes (rule_by sharing (docs_of contents)) r.planned.plan f) s
-  settled_with f =
-      let docs = docs_of contents in
-      let units = units_of docs in
-      let rule = rule_by sharing docs in
+    pub imports_settled : r.importing.items ≡ map (imports_common (move f) (units f)) (file_numbers 0 (docs f))
+    imports_settled = (own.moved (move f) of.first).importing
+
+    pub all_settled : (s : Settled) → Lends r s → IsSettled f s
+    all_settled s lends =
+        let sp = own.spaces in
+        let moved = own.moved (move f) of.first in
+        record {
+          plan = lends.plan ∙ ap (λ (w : PlannedFiles). w.plan) own.planned ∙ sym of.plan_is;
+          files = lends.files ∙ moved.written;
+          marks = record {
+            tops = marks_are (move f) (units f) (length (docs f)) p.tops p.plan s.marks of.first (λ k lt. ap (λ (w : List TopMark). mark_at w k) lends.tops ∙ own.marks k lt);
+            spaces = subst (λ (w : List Bool). Numbered (FlagsSpace (units f) w) 0 (spaces_of (units f))) (sym lends.spaces) own.pinned.each;
+          };
+          texts = sp.texts;
+          lists = sp.lists;
+          rows_are = lends.rows ∙ sp.rows_are;
+          spaces = subst (λ (w : List SpaceRow). KnowsSpaces (units f) w sp.texts sp.lists (all_tops f.indexes)) (sym lends.rows) sp.knows;
+          of_tops = lends.of_tops ∙ sp.of_tops_are;
+          lines = λ n part nth is_made. (
+              let made = of.goes.made n part nth is_made in
+              let one : IsOfOneUnit (units f) part = record { some = made.some; there = λ t is. (made.tops t is).there; unit = λ t is. (made.tops t is).unit } in
+              subst (λ (w : List (Attr EntryName)). ShowsLine (PartialSort (line_given s n)) w) (sym made.root)
+              (subst (λ (w : List (Option ℕ)). ShowsLine (PartialSort (slice_index_or w n None)) (line_attrs (units f) part)) (sym lends.lines) (moved.lines.each n part nth one)));
+        }
+
+  pub all_fit : (count : ℕ) (s : Settled) → Lends r s → HoldSome count (length (tops_of (units_of (docs_of contents)))) p.plan.partials → AreSettled count s
+  all_fit count s lends hold =
       let sp = parts.spaces in
+      let plan : p.plan ≡ s.plan.now = sym (lends.plan ∙ ap (λ (w : PlannedFiles). w.plan) parts.planned) in
+      let many : length (tops_of (units_of (docs_of contents))) ≡ length s.of_tops.now = sym (ap (λ (w : List TopSpaces). length w) lends.of_tops ∙ sp.many_tops) in
       record {
-        plan = lends.plan;
-        files = lends.files ∙ parts.written;
-        marks = record {
-          tops = marks_are docs rule r.planned.tops r.planned.plan s.marks parts.planned.outline parts.planned.plan (λ k lt. ap (λ (w : List TopMark). mark_at w k) lends.tops ∙ parts.marks k lt);
-          spaces = subst (λ (w : List Bool). Numbered (FlagsSpace units w) 0 (spaces_of units)) (sym lends.spaces) parts.pinned.each;
+        spaced = record {
+          rising = subst IsRising (sym lends.rows) sp.rising;
+          within = subst (λ (w : List SpaceRow). All (λ x. x.inner ≤ length w) s.of_tops.now) (sym lends.rows)
+              (subst (λ (w : List TopSpaces). All (λ x. x.inner ≤ length r.spaces.rows.items) w) (sym lends.of_tops) sp.within);
+          few = subst (λ (w : List SpaceRow). length w + 2 < 2 ^ 32) (sym lends.rows) sp.few;
+          few_parts = subst (λ (w : Planned). length w.partials < 2 ^ 32) plan hold.few;
+          few_tops = subst (λ (w : Planned). All (λ part. length part.tops < 2 ^ 32) w.partials) plan hold.few_tops;
         };
-        texts = sp.texts;
-        lists = sp.lists;
-        rows_are = lends.rows ∙ sp.rows_are;
-        spaces = subst (λ (w : List SpaceRow). KnowsSpaces units w sp.texts sp.lists (all_tops indexes)) (sym lends.rows) sp.knows;
-        of_tops = lends.of_tops ∙ sp.of_tops_are;
-        lines = λ n part nth is_made. subst (λ (w : List (Option ℕ)). ShowsLine (PartialSort (slice_index_or w n None)) ((move_of rule docs).roots n)) (sym lends.lines) (parts.lines.each n part nth);
-      }
-
-  pub all_settled : (f : RunFacts Alone) → AreFactsOf contents indexes sharing r.planned f → IsSettled f s
-  all_settled f of = subst (λ (w : RunFacts Alone). IsSettled w s) (facts_same contents indexes sharing r.planned f of) (settled_with f)
-
-  pub all_fit : (files : List File) → AreKept contents files → AreIndexes (docs_of contents) indexes → AreSettled s
-  all_fit files kept indexed =
-      let sp = parts.spaces in
-      let docs = docs_of contents in
-      let count = λ (w : List SpaceRow). length w in
-      let fit = parts_fit contents files indexes (rule_by sharing docs) r.planned.plan kept indexed parts.planned.plan in
-      let many : length s.of_tops.now ≡ length (tops_of (units_of docs)) = ap (λ (w : List TopSpaces). length w) lends.of_tops ∙ sp.many_tops in
-      record {
-        rising = subst IsRising (sym lends.rows) sp.rising;
-        within = subst (λ (w : List SpaceRow). All (λ x. x.inner ≤ length w) s.of_tops.now) (sym lends.rows)
-            (subst (λ (w : List TopSpaces). All (λ x. x.inner ≤ length r.spaces.rows.items) w) (sym lends.of_tops) sp.within);
-        few = subst (λ (w : List SpaceRow). length w + 2 < 2 ^ 32) (sym lends.rows) sp.few;
-        few_parts = subst (λ (w : Planned). length w.partials < 2 ^ 32) (sym lends.plan) (omega (arith, parts.planned.fits.few_parts, parts.planned.fits.few_rows));
-        few_tops = subst (λ (w : Planned). All (λ part. length part.tops < 2 ^ 32) w.partials) (sym lends.plan) fit.few_tops;
-        inside = subst (λ (w : Planned). All (λ part. All (λ t. t < length s.of_tops.now) part.tops) w.partials) (sym lends.plan)
-            (subst (λ (n : ℕ). All (λ part. All (λ t. t < n) part.tops) r.planned.plan.partials) (sym many) fit.inside);
+        inside = subst (λ (w : Planned). All (λ part. part.file < count → All (λ t. t < length s.of_tops.now) part.tops) w.partials) plan
+            (subst (λ (n : ℕ). All (λ part. part.file < count → All (λ t. t < n) part.tops) p.plan.partials) many hold.inside);
       }

@@ -9,7 +9,7 @@ use Rattle.dwz_layout.specs.declared.known.EntryTable.{EntryTable}
 use Rattle.dwz_layout.specs.declared.known.Row.{Row}
 use Rattle.dwz_layout.specs.declared.known.SpaceRow.{SpaceRow}
 use Rattle.dwz_layout.specs.declared.known.TextAt.{TextAt}
-use Rattle.dwz_law_layout.specs.Beside.{Alone}
+use Rattle.dwz_law_layout.specs.Beside.{Beside}
 use Rattle.dwz_law_layout.specs.Facts.{RunFacts}
 use Rattle.dwz_law_layout.specs.Listed.{AreAllOwners, AreListed, AreRows, TextsAt, space_entries, space_rows}
 use Rattle.dwz_layout_input.specs.declared.listing.FileTexts.{FileTexts}
@@ -94,7 +94,7 @@ module _ (made whole : List FileRows) where
 
 -- ---- what they show
 
-module _ (f : RunFacts Alone) where
+module _ {beside : Beside} (f : RunFacts beside) where
   rows_with : (files : List File) (indexes : List Index) (starts : List ℕ) (old : List (List TextAt)) (rows : List FileRows) (new : List (Vec TextAt Global)) (numbers : List (Vec ℕ Global))
       → AreRows f files indexes starts old rows → length new ≡ length rows → length numbers ≡ length rows → AreRows f files indexes starts (map shown new) (files_with rows new numbers)
   unfolding files_with
@@ -148,7 +148,7 @@ pub record AreMany (old : EntryTable) (texts : FileTexts) : Type 0 where
   pub commons : length texts.commons.items ≡ length old.spaces.items
   pub numbers : length texts.numbers.items ≡ length old.files.items
 
-pub listed_with : (f : RunFacts Alone) (before : TextsAt) (old new : EntryTable) (texts : FileTexts) → AreMany old texts → new.files.items ≡ files_with old.files.items texts.files.items texts.numbers.items
+pub listed_with : {beside : Beside} (f : RunFacts beside) (before : TextsAt) (old new : EntryTable) (texts : FileTexts) → AreMany old texts → new.files.items ≡ files_with old.files.items texts.files.items texts.numbers.items
     → new.spaces.items ≡ spaces_with old.spaces.items texts.spaces.items texts.commons.items → new.owners ≡ old.owners → new.tops ≡ old.tops → new.parts ≡ old.parts → new.commons ≡ old.commons
     → AreListed f before old → AreListed f (texts_shown texts) new
 listed_with f before old new texts many files spaces owners tops parts commons h =

@@ -1,7 +1,10 @@
 pub mod Shown
 pub mod Needs
+pub mod Over
 pub mod ListedLaws
 pub mod Settled
+pub mod SettledOver
+pub mod Parts
 pub use Rattle.dwz_plan_files.specs.Fits
 pub use Rattle.dwz_plan_files.specs.Rules
 pub use Rattle.dwz_plan_files.specs.declared.planned.PlannedFiles

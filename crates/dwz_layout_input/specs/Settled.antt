@@ -14,7 +14,7 @@ use Rattle.dwz_plan_files.specs.declared.planned.PlannedFiles.{PlannedFiles}
 use Rattle.dwz_plan_files.specs.Fits.{FitsFiles}
 use Rattle.dwz_plan_files.specs.Rules.{rule_by}
 use Rattle.dwz_layout_numbers.specs.Owners.{AreUnitNumbers}
-use Rattle.dwz_law_layout.specs.Beside.{Alone}
+use Rattle.dwz_law_layout.specs.Beside.{Alone, Beside}
 use Rattle.dwz_law_layout.specs.Facts.{AreFacts, IsStoredSo, RunFacts, docs, move, units, written}
 use Rattle.dwz_layout_order.specs.declared.orders.Settled.{Settled}
 use Rattle.dwz_layout_input.specs.declared.settled.SettledFiles.{SettledFiles}
@@ -43,7 +43,7 @@ pub record Lends (r : SettledFiles) (s : Settled) : Type 0 where
   pub files : s.files.now ≡ r.written.items
 
 -- the files were read, are stored so, and have these indexes
-pub record AreStored (f : RunFacts Alone) : Type 0 where
+pub record AreStored {beside : Beside} (f : RunFacts beside) : Type 0 where
   pub bytes : Each AreBytes f.contents
   pub kept : AreKept f.contents f.files
   pub indexed : AreIndexes (docs f) f.indexes

@@ -1,7 +1,7 @@
 //! The entries of each file, and what they name.
 
 ghost use Rattle.std.specs.Prelude.{◌≡◌, ◌+◌, ◌<◌, ◌^◌, length, map, slice_index, IfOk};
-ghost use Rattle.dwz_law_layout.specs.Beside.{Alone};
+ghost use Rattle.dwz_law_layout.specs.Beside.{Beside};
 ghost use Rattle.dwz_law_layout.specs.Facts.{RunFacts, every, move};
 ghost use Rattle.dwz_law_layout.specs.Listed.{AreRows, HaveFirsts, IsListed, firsts_from};
 ghost use Rattle.dwz_layout_numbers.specs.Images.{IsPlanned, starts_from};
@@ -57,7 +57,7 @@ fn rows_of<'u, 'a>(
     requires fits { FitsFile file.now index.now }
     requires few { start + length index.now.steps < 2 ^ 32 }
     requires plan { length plan.now.stand_ins ≡ length tops.now }
-    ensures listed { (f : RunFacts Alone) → IsPlanned (every f) (move f) plan.now tops.now
+    ensures listed { (beside : Beside) (f : RunFacts beside) → IsPlanned (every f) (move f) plan.now tops.now
         → IfOk result (λ r. IsListed f file.now index.now start texts.items r) }
     ensures numbers { IfOk result (λ r. r.files.items ≡ numbers.items) }
 {
@@ -85,12 +85,11 @@ pub(crate) fn rows_of_files<'u, 'a>(
     all: Vec<Vec<TextAt>>,
     numbers: Vec<Vec<u32>>,
 ) -> Result<Vec<FileRows<'u, 'a>>, NoMemory>
-    requires fit { IsFit files.now indexes.now plan.now }
-    requires plan { length plan.now.stand_ins ≡ length tops.now }
+    requires fit { IsFit files.now indexes.now plan.now (length tops.now) }
     requires starts { starts.now ≡ starts_from 0 indexes.now }
     requires texts { length all.items ≡ length files.now }
     requires numbers { length numbers.items ≡ length files.now }
-    ensures rows { (f : RunFacts Alone) → IsPlanned (every f) (move f) plan.now tops.now
+    ensures rows { (beside : Beside) (f : RunFacts beside) → IsPlanned (every f) (move f) plan.now tops.now
         → IfOk result (λ rows. AreRows f files.now indexes.now starts.now (map (λ texts. texts.items) all.items) rows.items) }
     ensures numbers { IfOk result (λ rows. map (λ r. r.files.items) rows.items ≡ map (λ some. some.items) numbers.items) }
 {

@@ -1,9 +1,12 @@
 //! What is settled of planned files.
 
-ghost use Rattle.std.specs.Prelude.{◌≡◌, ◌<◌, ◌^◌, List, length, map, IfOk};
+ghost use Rattle.std.specs.Prelude.{◌≡◌, ℕ, ◌+◌, ◌<◌, ◌^◌, List, length, map, IfOk};
+ghost use Rattle.dwz_def_reading.specs.Documents.{Doc};
 ghost use Rattle.dwz_def_tops.specs.Spots.{file_numbers};
 ghost use Rattle.dwz_def_readback.specs.Files.{imports_common};
-ghost use Rattle.dwz_law_layout.specs.Beside.{Alone};
+ghost use Rattle.dwz_def_taken.specs.declared.fixed.Fixed.{Fixed};
+ghost use Rattle.dwz_plan_files.specs.Over.{ArePlannedOver};
+ghost use Rattle.dwz_law_layout.specs.Beside.{Alone, Over, Standing};
 ghost use Rattle.dwz_law_layout.specs.Facts.{RunFacts, docs, move, units};
 ghost use Rattle.dwz_graph.specs.Files.{docs_of};
 ghost use Rattle.dwz_graph.specs.Index.{Index};
@@ -11,7 +14,9 @@ ghost use Rattle.dwz_graph.specs.Indexed.{AreIndexes};
 ghost use Rattle.dwz_layout_order.specs.declared.orders.Settled.{Settled as Lent};
 ghost use Rattle.dwz_layout_order.specs.Ordered.{AreSettled};
 ghost use Rattle.dwz_law_layout.specs.Settled.{IsSettled};
+ghost use Rattle.dwz_layout_input.specs.Parts.{AreParts};
 ghost use Rattle.dwz_layout_input.specs.Settled.{AreFactsOf, ArePlanned, Lends};
+ghost use Rattle.dwz_layout_input.specs.SettledOver.{AreFactsOver};
 
 use dwz_graph::Graph;
 use dwz_layout_order::{Marks, Settled, TopMark, changed_files, importing_files, marks_of};
@@ -61,24 +66,20 @@ impl SettledFiles {
     }
 }
 
-/// All that is settled of files that share so, by their plan: which tops and spaces stay, the spaces of all files, the line tables of
-/// partial units, which files are written, and which of them import from the common file.
-pub fn settle_files(
+// All that is settled of files by their plan. Behind their tops may stand others.
+fn settle(
     alloc: Global,
     graph: &Graph,
     scope: Scope,
     planned: PlannedFiles,
 ) -> Result<SettledFiles, NoMemory>
     requires few { length graph.now.given < 2 ^ 32 }
-    requires planned { ArePlanned scope (docs_of graph.now.given) planned }
+    requires few_rows { length planned.tops.rows < 2 ^ 32 }
+    requires homes { length planned.plan.homes ≡ length planned.tops.rows }
     ensures scope { IfOk result (λ r. r.scope ≡ scope) }
     ensures planned { IfOk result (λ r. r.planned ≡ planned) }
-    ensures settled { (indexes : List Index) → AreIndexes (docs_of graph.now.given) indexes
-        → IfOk result (λ r. (f : RunFacts Alone) (s : Lent) → AreFactsOf graph.now.given indexes scope planned f → Lends r s → IsSettled f s) }
-    ensures importing { (indexes : List Index) → AreIndexes (docs_of graph.now.given) indexes
-        → IfOk result (λ r. (f : RunFacts Alone) → AreFactsOf graph.now.given indexes scope planned f
-        → r.importing.items ≡ map (imports_common (move f) (units f)) (file_numbers 0 (docs f))) }
-    ensures fits { IfOk result (λ r. (s : Lent) → Lends r s → AreSettled s) }
+    ensures parts { (indexes : List Index) → AreIndexes (docs_of graph.now.given) indexes
+        → IfOk result (λ r. AreParts graph.now.given indexes planned r) }
 {
     let files = graph.files().len() as u32;
     let tops = &planned.tops;
@@ -99,4 +100,50 @@ pub fn settle_files(
         written,
         importing,
     })
+}
+
+/// All that is settled of files that share so, by their plan: which tops and spaces stay, the spaces of all files, the line tables of
+/// partial units, which files are written, and which of them import from the common file.
+pub fn settle_files(
+    alloc: Global,
+    graph: &Graph,
+    scope: Scope,
+    planned: PlannedFiles,
+) -> Result<SettledFiles, NoMemory>
+    requires few { length graph.now.given < 2 ^ 32 }
+    requires planned { ArePlanned scope (docs_of graph.now.given) planned }
+    ensures scope { IfOk result (λ r. r.scope ≡ scope) }
+    ensures planned { IfOk result (λ r. r.planned ≡ planned) }
+    ensures settled { (indexes : List Index) → AreIndexes (docs_of graph.now.given) indexes
+        → IfOk result (λ r. (f : RunFacts Alone) (s : Lent) → AreFactsOf graph.now.given indexes scope planned f → Lends r s → IsSettled f s) }
+    ensures importing { (indexes : List Index) → AreIndexes (docs_of graph.now.given) indexes
+        → IfOk result (λ r. (f : RunFacts Alone) → AreFactsOf graph.now.given indexes scope planned f
+        → r.importing.items ≡ map (imports_common (move f) (units f)) (file_numbers 0 (docs f))) }
+    ensures fits { IfOk result (λ r. (s : Lent) → Lends r s → AreSettled (length graph.now.given + 1) s) }
+{
+    // What these say is known of the files that are planned.
+    let _files = graph.files();
+    settle(alloc, graph, scope, planned)
+}
+
+/// The same of files over a common file that stands, each of which is by itself: of partial units the line tables of those that are made.
+pub fn settle_files_over(
+    alloc: Global,
+    graph: &Graph,
+    planned: PlannedFiles,
+) -> Result<SettledFiles, NoMemory>
+    requires few { length graph.now.given < 2 ^ 32 }
+    requires planned { (common : Doc ℕ) × (fixed : Fixed) × ArePlannedOver (docs_of graph.now.given) common fixed planned }
+    ensures scope { IfOk result (λ r. r.scope ≡ Scope.Each) }
+    ensures planned { IfOk result (λ r. r.planned ≡ planned) }
+    ensures settled { (indexes : List Index) → AreIndexes (docs_of graph.now.given) indexes
+        → IfOk result (λ r. (s : Standing) (f : RunFacts (Over s)) (t : Lent) → AreFactsOver graph.now.given indexes planned s f → Lends r t
+        → IsSettled f t) }
+    ensures importing { (indexes : List Index) → AreIndexes (docs_of graph.now.given) indexes
+        → IfOk result (λ r. (s : Standing) (f : RunFacts (Over s)) → AreFactsOver graph.now.given indexes planned s f
+        → r.importing.items ≡ map (imports_common (move f) (units f)) (file_numbers 0 (docs f))) }
+    ensures fits { IfOk result (λ r. (s : Lent) → Lends r s → AreSettled (length graph.now.given) s) }
+{
+    let _files = graph.files();
+    settle(alloc, graph, Scope::Each, planned)
 }

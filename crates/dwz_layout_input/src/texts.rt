@@ -1,7 +1,7 @@
 //! Other places of texts, and other numbers of files.
 
 ghost use Rattle.std.specs.Prelude.{◌≡◌, length, IfOk};
-ghost use Rattle.dwz_law_layout.specs.Beside.{Alone};
+ghost use Rattle.dwz_law_layout.specs.Beside.{Beside};
 ghost use Rattle.dwz_law_layout.specs.Facts.{RunFacts};
 ghost use Rattle.dwz_law_layout.specs.Listed.{AreListed, TextsAt};
 ghost use Rattle.dwz_layout_input.specs.Shown.{files_with, spaces_with, texts_shown};
@@ -77,7 +77,7 @@ pub fn with_texts<'u, 'a>(
     ensures tops { IfOk result (λ k. k.tops ≡ known.entry.tops) }
     ensures parts { IfOk result (λ k. k.parts ≡ known.entry.parts) }
     ensures commons { IfOk result (λ k. k.commons ≡ known.entry.commons) }
-    ensures listed { (f : RunFacts Alone) (before : TextsAt) → AreListed f before known.entry
+    ensures listed { (beside : Beside) (f : RunFacts beside) (before : TextsAt) → AreListed f before known.entry
         → IfOk result (λ k. AreListed f (texts_shown texts) k) }
 {
     let mut spaces = known.spaces;

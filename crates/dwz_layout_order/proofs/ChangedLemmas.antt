@@ -1,11 +1,11 @@
 -- A file has its flag exactly where one of its tops leaves its unit: top by top, and then by the plan.
-use Rattle.std.proofs.Common.{◌≡◌, ◌↔◌, ◌⊎◌, ℕ, zero, suc, ◌+◌, ◌<◌, ◌==◌, ◌&&◌, not, Bool, true, false, List, [], ◌∷◌, Option, Some, length, map, get_or, slice_get, refl, sym, ap, subst, ◌∙◌, inl}
+use Rattle.std.proofs.Common.{◌≡◌, ◌↔◌, ◌⊎◌, ℕ, zero, suc, ◌+◌, ◌<◌, ◌≤◌, ◌++◌, ◌==◌, ◌&&◌, not, Bool, true, false, List, [], ◌∷◌, Option, Some, length, map, get_or, slice_get, refl, sym, ap, subst, ◌∙◌, inl}
 use Rattle.std.proofs.Common.{inr, ⊎_elim, arith, eqb-true, eq-eqb}
 use Rattle.std.specs.Prelude.{replicate, slice_index_or}
 use Rattle.std.proofs.lemmas.Bool.{and_from, and_parts}
 use Rattle.std.proofs.lemmas.Option.{slice_get-get_or}
 use Rattle.dwz_def_reading.specs.Lists.{In}
-use Rattle.dwz_def_reading.proofs.ListFacts.{replicate_long}
+use Rattle.dwz_def_reading.proofs.ListFacts.{get_first, got_below, replicate_long}
 use Rattle.dwz_def_reading.proofs.CaseFacts.{same_test}
 use Rattle.dwz_def_reading.specs.Documents.{Doc}
 use Rattle.dwz_def_tops.proofs.Members.{any_from, any_true}
@@ -14,16 +14,16 @@ use Rattle.dwz_def_tops.proofs.TopNumbers.{Numbered, tops_numbers}
 use Rattle.dwz_def_tops.proofs.TopOrder.{unit_file}
 use Rattle.dwz_groups.specs.declared.tops.TopRow.{TopRow}
 use Rattle.dwz_groups.specs.declared.tops.Tops.{Tops}
-use Rattle.dwz_def_plan.specs.Homes.{Rule, is_home, moves}
-use Rattle.dwz_def_plan.specs.Plan.{PartialUnit}
+use Rattle.dwz_def_plan.specs.Moves.{Move}
 use Rattle.dwz_plan.specs.declared.plan.Home.{Home as Place}
 use Rattle.dwz_plan.specs.declared.plan.Home.TheVariants.{Common as InCommon, Local as InFile, Stay as InUnit}
 use Rattle.dwz_plan.specs.Planned.{Planned}
-use Rattle.dwz_plan.specs.Shows.{IsPlace, ShowsPlan, ShowsRows, ShowsTops}
+use Rattle.dwz_plan.specs.Shows.{ShowsRows}
+use Rattle.dwz_plan.specs.ShowsMove.{IsPlaceIn}
 use Rattle.dwz_def_images.specs.Units.{changes}
 use Rattle.dwz_groups.specs.Spreading.{IsMarked}
 use Rattle.dwz_move.specs.Marked.{Marks, if_asked}
-use Rattle.dwz_layout_numbers.specs.Owners.{move_of}
+use Rattle.dwz_layout_order.specs.Behind.{ArePlannedFirst, StandFirst}
 use Rattle.dwz_layout_order.specs.Marks.{stays_in}
 
 -- ---- the top before that number leaves its unit, which is of the file
@@ -99,10 +99,10 @@ flag_more rows homes files count i d b o old new lt b_is o_is h m =
 
 -- ---- by the plan
 
-place_gone : (rule : Rule) (units : List (FileUnit EntryName)) (parts : List PartialUnit) (n : ℕ) (p : Place) → IsPlace rule units parts n p → not (stays_in p) ≡ moves rule units n
-place_gone rule units parts n (InCommon p) is = ap is_home (sym is.0)
-place_gone rule units parts n (InFile p) is = ap is_home (sym is.1)
-place_gone rule units parts n InUnit is = ap is_home (sym is)
+place_gone : (m : Move) (n : ℕ) (p : Place) → IsPlaceIn m n p → not (stays_in p) ≡ m.gone n
+place_gone m n (InCommon p) is = sym is.0
+place_gone m n (InFile p) is = sym is.1
+place_gone m n InUnit is = sym is
 
 -- the row of a top, and the top of a row
 row_there : (units : List (FileUnit EntryName)) (n : ℕ) (rows : List TopRow) (tops : List Top) → ShowsRows units rows tops → Numbered n tops → (t : Top) → In t tops
@@ -141,66 +141,78 @@ flags_are f (b ∷ flags) s (d ∷ docs) len h =
     let more = flags_are f flags (suc s) docs (omega arith) (λ k lt. h (suc k) (omega arith) ∙ (let z : s + suc k ≡ suc s + k = omega arith in ap f z)) in
     (λ i. first i ∷ more i)
 
-module _ (docs : List (Doc ℕ)) (rule : Rule) (tops : Tops) (plan : Planned) (shows : ShowsTops (units_of docs) tops) (planned : ShowsPlan rule (units_of docs) (length docs) plan) where
+-- it is one of the first, or behind these
+first_or_behind : {X : Type 0} (xs ys : List X) (k : ℕ) (x : X) → slice_get (xs ++ ys) k ≡ Some x → (slice_get xs k ≡ Some x) ⊎ (length xs ≤ k)
+first_or_behind [] ys k x e = inr (omega arith)
+first_or_behind (z ∷ xs) ys zero x e = inl e
+first_or_behind (z ∷ xs) ys (suc k) x e = elim (first_or_behind xs ys k x e) [ inl a ↦ inl a | inr b ↦ inr (omega arith) ]
+
+module _ (docs : List (Doc ℕ)) (m : Move) (tops : Tops) (plan : Planned) (planned : ArePlannedFirst m (units_of docs) (length docs) tops plan) where
   abbrev units : List (FileUnit EntryName)
   units = units_of docs
 
-  abbrev gone : ℕ → Bool
-  gone = moves rule (units_of docs)
+  abbrev first : StandFirst (units_of docs) tops
+  first = planned.rows
 
-  gone_at : (t : Top) → In t (tops_of (units_of docs)) → (k : ℕ) → t.number ≡ k → not (stays_in (slice_index_or plan.homes k InUnit)) ≡ gone t.number
+  gone_at : (t : Top) → In t (tops_of (units_of docs)) → (k : ℕ) → t.number ≡ k → not (stays_in (slice_index_or plan.homes k InUnit)) ≡ m.gone t.number
   gone_at t there k at =
       ap (λ (n : ℕ). not (stays_in (slice_index_or plan.homes n InUnit))) (sym at)
-      ∙ place_gone rule units _ t.number (slice_index_or plan.homes t.number InUnit) (planned.homes t there)
+      ∙ place_gone m t.number (slice_index_or plan.homes t.number InUnit) (planned.moves.homes t there)
 
   file_at : (t : Top) → In t (tops_of (units_of docs)) → (row : TopRow) → row.unit ≡ t.unit → slice_get tops.files_of_units row.unit ≡ Some t.file
   file_at t there row same =
-      ap (slice_get tops.files_of_units) same
-      ∙ ap (λ (fs : List ℕ). slice_get fs t.unit) shows.files_of_units
-      ∙ unit_file units t there
+      ap (λ (fs : List ℕ). slice_get fs row.unit) first.files_of_units
+      ∙ get_first first.own.files_of_units first.files_behind row.unit t.file
+      (ap (slice_get first.own.files_of_units) same
+      ∙ ap (λ (fs : List ℕ). slice_get fs t.unit) first.shows.files_of_units
+      ∙ unit_file units t there)
 
-  changes_so : (file : ℕ) → Before tops.rows plan.homes tops.files_of_units (length tops.rows) file → changes (move_of rule docs) (units_of docs) file ≡ true
+  -- a row whose top leaves its unit is one of the first
+  own_row : (k file : ℕ) → (l : Leaves tops.rows plan.homes tops.files_of_units k file) → slice_get first.own.rows k ≡ Some l.row
+  own_row k file l =
+      elim (first_or_behind first.own.rows first.rows_behind k l.row (sym (ap (λ (rs : List TopRow). slice_get rs k) first.rows) ∙ l.there)) [
+        | inl own ↦ own
+        | inr behind ↦ absurd (let no : false ≡ true = ap (λ (p : Place). not (stays_in p)) (sym (planned.stay k behind)) ∙ l.gone in cc)
+      ]
+
+  changes_so : (file : ℕ) → Before tops.rows plan.homes tops.files_of_units (length tops.rows) file → changes m (units_of docs) file ≡ true
   unfolding changes
   changes_so file b =
       let l = b.2 in
-      let r = top_there units 0 tops.rows (tops_of units) shows.rows (tops_numbers units) b.0 l.row l.there in
+      let r = top_there units 0 first.own.rows (tops_of units) first.shows.rows (tops_numbers units) b.0 l.row (own_row b.0 file l) in
       let t = r.0 in
       let at : t.number ≡ b.0 = (let e = r.2 in omega arith) in
-      let leaves : gone t.number ≡ true = sym (gone_at t r.1 b.0 at) ∙ l.gone in
+      let leaves : m.gone t.number ≡ true = sym (gone_at t r.1 b.0 at) ∙ l.gone in
       let same : t.file ≡ file = (let both = sym (file_at t r.1 l.row r.3) ∙ l.file_is in cc) in
-      any_true (λ u. u.file == file && gone u.number) t (tops_of units) r.1 (and_from (t.file == file) (gone t.number) (eq-eqb t.file file same) leaves)
+      any_true (λ u. u.file == file && m.gone u.number) t (tops_of units) r.1 (and_from (t.file == file) (m.gone t.number) (eq-eqb t.file file same) leaves)
 
-  so_changes : (file : ℕ) → changes (move_of rule docs) (units_of docs) file ≡ true → Before tops.rows plan.homes tops.files_of_units (length tops.rows) file
+  so_changes : (file : ℕ) → changes m (units_of docs) file ≡ true → Before tops.rows plan.homes tops.files_of_units (length tops.rows) file
   unfolding changes
   so_changes file e =
-      let p = any_from (λ u. u.file == file && gone u.number) (tops_of units) e in
+      let p = any_from (λ u. u.file == file && m.gone u.number) (tops_of units) e in
       let t = p.one in
-      let both = and_parts (t.file == file) (gone t.number) p.passes in
-      let r = row_there units 0 tops.rows (tops_of units) shows.rows (tops_numbers units) t p.there in
+      let both = and_parts (t.file == file) (m.gone t.number) p.passes in
+      let r = row_there units 0 first.own.rows (tops_of units) first.shows.rows (tops_numbers units) t p.there in
       let at : t.number ≡ r.0 = (let e = r.1 in omega arith) in
-      let row = r.2 in (
+      let row = r.2 in
+      let there : slice_get tops.rows r.0 ≡ Some row.0 = ap (λ (rs : List TopRow). slice_get rs r.0) first.rows ∙ get_first first.own.rows first.rows_behind r.0 row.0 row.1 in (
         r.0,
-        got_below tops.rows r.0 row.0 row.1,
+        got_below tops.rows r.0 row.0 there,
         record {
           row = row.0;
-          there = row.1;
+          there = there;
           gone = gone_at t p.there r.0 at ∙ both.1;
           file_is = file_at t p.there row.0 row.2 ∙ ap (λ (k : ℕ). Some k) (eqb-true t.file file both.0);
         },
       )
-    where
-      got_below : {X : Type 0} (xs : List X) (k : ℕ) (x : X) → slice_get xs k ≡ Some x → k < length xs
-      got_below [] k x e = absurd cc
-      got_below (y ∷ xs) zero x e = omega arith
-      got_below (y ∷ xs) (suc k) x e = let r = got_below xs k x e in omega arith
 
   pub flags_so : (count i : ℕ) (flags : List Bool) → length docs ≡ count → length tops.rows ≡ i → Flagged tops.rows plan.homes tops.files_of_units count i flags
-      → flags ≡ map (changes (move_of rule docs) (units_of docs)) (file_numbers 0 docs)
+      → flags ≡ map (changes m (units_of docs)) (file_numbers 0 docs)
   flags_so count i flags many all h =
-      flags_are (changes (move_of rule docs) units) flags 0 docs (h.len ∙ sym many) (λ k lt.
+      flags_are (changes m units) flags 0 docs (h.len ∙ sym many) (λ k lt.
       let each = h.each k (omega arith) in
       let at : k ≡ 0 + k = omega arith in
-      same_test (slice_index_or flags k false) (changes (move_of rule docs) units k)
-      (λ m. changes_so k (subst (λ (n : ℕ). Before tops.rows plan.homes tops.files_of_units n k) (sym all) (each.0 m)))
+      same_test (slice_index_or flags k false) (changes m units k)
+      (λ w. changes_so k (subst (λ (n : ℕ). Before tops.rows plan.homes tops.files_of_units n k) (sym all) (each.0 w)))
       (λ c. each.1 (subst (λ (n : ℕ). Before tops.rows plan.homes tops.files_of_units n k) all (so_changes k c)))
-      ∙ ap (changes (move_of rule docs) units) at)
+      ∙ ap (changes m units) at)

@@ -1,6 +1,7 @@
 -- File by file: what was appended, and what is left.
 use Rattle.std.proofs.Common.{◌≡◌, ℕ, zero, suc, ◌+◌, ◌<◌, ◌≤◌, Bool, true, false, List, [], ◌∷◌, ◌++◌, Some, length, drop, get_or, slice_get, refl, sym, ap, subst, ◌∙◌, arith}
 use Rattle.std.proofs.lemmas.List.{append-nil, append_assoc, drop_all, length-append}
+use Rattle.dwz_def_reading.specs.Files.{no_files_before}
 use Rattle.dwz_def_reading.specs.Units.{entries_in}
 use Rattle.dwz_def_reading.proofs.ListFacts.{item_got}
 use Rattle.dwz_def_tops.specs.Spots.{EntryName, FileUnit, units_of}
@@ -8,6 +9,7 @@ use Rattle.dwz_graph.specs.declared.file.File.{File}
 use Rattle.dwz_graph.specs.Files.{AreKept, docs_of}
 use Rattle.dwz_graph.specs.Index.{Index}
 use Rattle.dwz_graph.specs.Indexed.{AreIndexes}
+use Rattle.dwz_graph.proofs.GraphLemmas.{as_many}
 use Rattle.dwz_graph.proofs.IndexRoom.{many_units}
 use Rattle.dwz_def_reading.specs.Meanings.{IfSo}
 use Rattle.dwz_layout.specs.declared.order.UnitItems.{UnitItems}
@@ -22,7 +24,7 @@ use Rattle.dwz_law_files.specs.Few.{HasSmallNumbers}
 use Rattle.dwz_law_files.proofs.FilesFew.{file_small}
 use Rattle.dwz_layout_order.specs.Marks.{flag_at}
 use Rattle.dwz_layout_order.specs.declared.orders.Settled.{Settled}
-use Rattle.dwz_layout_order.specs.Ordered.{AreOrders, FilePut, FilesPut, FirstFile, PartsPut, from_index, next_index}
+use Rattle.dwz_layout_order.specs.Ordered.{AreOrders, AreOrdersBehind, FilePut, FilesPut, FirstFile, PartsPut, from_index, next_index}
 use Rattle.dwz_layout_order.specs.Steps.{PutsFile}
 
 abbrev pub IsPut : Settled → (number start : ℕ) → File → Index → List UnitItems → Type 0
@@ -131,22 +133,14 @@ module _ (contents : List (List ℕ)) (files : List File) (indexes : List Index)
       (subst (λ (fs : List File). FilesPut s number start fs [] []) (sym none) refl) in
       subst (FilesPut s 0 0 files indexes) (append-nil g.others) (g.all [] nothing)
 
--- ---- with the common file
+-- ---- with the items of lists
 
-pub record Started (s : Settled) (files : List File) (indexes : List Index) (number start : ℕ) (orders : List (List UnitItems)) : Type 0 where
-  pub common : List UnitItems
-  pub common_put : PartsPut s (length files) 0 s.plan.now.partials common
-  pub going : Going s files indexes common number start orders
+module _ (contents : List (List ℕ)) (files : List File) (indexes : List Index) (kept : AreKept contents files) (are : AreIndexes (docs_of contents) indexes) (s : Settled)
+    (common : List UnitItems) where
+  pub starts : (orders : List (List UnitItems)) → orders ≡ common ∷ [] → Going s files indexes common 0 0 orders
+  starts orders e = subst (Going s files indexes common 0 0) (sym e) (begins contents files indexes kept are s common)
 
-module _ (contents : List (List ℕ)) (files : List File) (indexes : List Index) (kept : AreKept contents files) (are : AreIndexes (docs_of contents) indexes) (s : Settled) where
-  pub starts : (common : List UnitItems) (orders : List (List UnitItems)) → PartsPut s (length files) 0 s.plan.now.partials common → orders ≡ common ∷ [] → Started s files indexes 0 0 orders
-  starts common orders put e = record {
-    common = common;
-    common_put = put;
-    going = subst (Going s files indexes common 0 0) (sym e) (begins contents files indexes kept are s common);
-  }
-
-  module _ (number start : ℕ) (orders : List (List UnitItems)) (h : Started s files indexes number start orders) (f : File) (x : Index) (lt : number < length files) (f_is : f ≡ get_or files number f)
+  module _ (number start : ℕ) (orders : List (List UnitItems)) (g : Going s files indexes common number start orders) (f : File) (x : Index) (lt : number < length files) (f_is : f ≡ get_or files number f)
       (x_is : x ≡ get_or indexes number x) where
     x_lt : number < length indexes
     x_lt = let m = many contents files indexes kept are in let b = m.1 in omega arith
@@ -158,29 +152,41 @@ module _ (contents : List (List ℕ)) (files : List File) (indexes : List Index)
     x_got = item_got indexes number x x_lt x_is
 
     pub file_is_small : HasSmallNumbers x.starts start (entries_in (raw_units f.units)) × (length (raw_units f.units) ≤ entries_in (raw_units f.units))
-    file_is_small = small contents files indexes kept are s h.common number start orders h.going f x f_got x_got
+    file_is_small = small contents files indexes kept are s common number start orders g f x f_got x_got
 
     pub units_within : x.starts.unit + length (raw_units f.units) ≤ length (units_of (docs_of contents))
-    units_within = within contents files indexes kept are s h.common number start orders h.going f x f_got x_got
+    units_within = within contents files indexes kept are s common number start orders g f x f_got x_got
 
     pub steps_many : length x.steps ≡ entries_in (raw_units f.units)
-    steps_many = steps contents files indexes kept are s h.common number start orders h.going f x f_got x_got
+    steps_many = steps contents files indexes kept are s common number start orders g f x f_got x_got
 
     pub one_more : (new : List (List UnitItems)) (next : ℕ) → next ≡ start + length x.steps → PutsFile (IsPut s number start f x) (flag_at s.files.now number) orders new
-        → Started s files indexes (number + 1) next new
-    one_more new next e put = record {
-      common = h.common;
-      common_put = h.common_put;
-      going = goes_on contents files indexes kept are s h.common number start orders h.going f x f_got x_got new next e put;
-    }
+        → Going s files indexes common (number + 1) next new
+    one_more new next e put = goes_on contents files indexes kept are s common number start orders g f x f_got x_got new next e put
 
-  pub all_put : (number start : ℕ) (orders : List (List UnitItems)) → length files ≤ number → Started s files indexes number start orders → AreOrders contents indexes s orders
-  all_put number start orders le h = record {
+  pub all_put : (number start : ℕ) (orders : List (List UnitItems)) → length files ≤ number → Going s files indexes common number start orders → AreOrdersBehind common contents indexes s orders
+  all_put number start orders le g = record {
     files = files;
     kept = kept;
-    common = h.common;
-    others = h.going.others;
-    orders_are = h.going.orders_are;
-    common_put = h.common_put;
-    files_put = ends contents files indexes kept are s h.common number start orders le h.going;
+    others = g.others;
+    orders_are = g.orders_are;
+    files_put = ends contents files indexes kept are s common number start orders le g;
   }
+
+-- ---- with the common file
+
+-- so many files
+pub files_long : (contents : List (List ℕ)) (files : List File) → AreKept contents files → length contents ≡ length files
+files_long contents files kept = sym (as_many no_files_before 0 contents files kept.end kept.are)
+
+pub with_common : (contents : List (List ℕ)) (indexes : List Index) (s : Settled) (common : List UnitItems) (orders : List (List UnitItems))
+    → PartsPut s (length contents) 0 s.plan.now.partials common → AreOrdersBehind common contents indexes s orders → AreOrders contents indexes s orders
+with_common contents indexes s common orders put b = record {
+  files = b.files;
+  kept = b.kept;
+  common = common;
+  others = b.others;
+  orders_are = b.orders_are;
+  common_put = subst (λ (n : ℕ). PartsPut s n 0 s.plan.now.partials common) (files_long contents b.files b.kept) put;
+  files_put = b.files_put;
+}

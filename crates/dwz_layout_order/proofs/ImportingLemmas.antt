@@ -2,31 +2,30 @@
 use Rattle.std.proofs.Common.{◌≡◌, ◌↔◌, ◌⊎◌, ℕ, zero, suc, ◌+◌, ◌<◌, ◌≤◌, ◌==◌, ◌&&◌, Bool, true, false, List, [], ◌∷◌, ◌++◌}
 use Rattle.std.proofs.Common.{Option, Some, length, map, take, get_or, slice_get, refl, sym, ap, subst, ◌∙◌, inl, inr, ⊎_elim, arith, eqb-true, eq-eqb}
 use Rattle.std.specs.Prelude.{replicate, slice_index_or}
-use Rattle.std.specs.List.{list_any, range_with_len}
+use Rattle.std.specs.List.{list_any}
 use Rattle.std.proofs.lemmas.Bool.{and_from, and_parts}
 use Rattle.std.proofs.lemmas.List.{take_all}
 use Rattle.std.proofs.lemmas.Option.{get_or_from_slice_get}
 use Rattle.dwz_def_reading.specs.Lists.{In}
-use Rattle.dwz_def_reading.proofs.ListFacts.{got_map, in_cases, in_left, in_map, in_right, replicate_long}
+use Rattle.dwz_def_reading.proofs.ListFacts.{get_first, got_map, got_there, in_cases, in_left, in_map, in_right, replicate_long}
 use Rattle.dwz_def_reading.proofs.CaseFacts.{same_test}
 use Rattle.dwz_def_reading.specs.Documents.{Doc}
-use Rattle.dwz_def_tops.proofs.Members.{any_from, any_true, in_map_from, nth_get}
+use Rattle.dwz_def_tops.proofs.Members.{any_from, any_true, in_map_from}
 use Rattle.dwz_def_tops.specs.Spots.{EntryName, FileUnit, file_numbers, units_of}
 use Rattle.dwz_groups.specs.declared.tops.Tops.{Tops}
-use Rattle.dwz_def_plan.specs.Homes.{Common, Home, Local, Rule, file_of, same_home}
-use Rattle.dwz_def_plan.specs.Plan.{PartialUnit, distinct, local_partials, partial_with, partials, partials_at, representatives, users_of}
-use Rattle.dwz_def_plan.proofs.PlanLemmas.{distinct_in, home_true}
-use Rattle.dwz_def_plan.proofs.UserLemmas.{Numbered, user_unit}
+use Rattle.dwz_def_plan.specs.Homes.{Common, Home, Local, file_of, same_home}
+use Rattle.dwz_def_plan.specs.Moves.{Move}
+use Rattle.dwz_def_plan.specs.Plan.{PartialUnit}
+use Rattle.dwz_def_plan.proofs.PlanLemmas.{home_true}
 use Rattle.dwz_def_readback.specs.Files.{imports_common}
 use Rattle.dwz_plan.specs.declared.plan.Partial.{Partial}
 use Rattle.dwz_plan.specs.Planned.{Planned, file_of_home}
-use Rattle.dwz_plan.specs.Shows.{ShowsPlan, ShowsTops, shown_part}
-use Rattle.dwz_plan.proofs.BridgeLemmas.{file_is, file_numbers_are}
+use Rattle.dwz_plan.specs.Shows.{shown_part}
+use Rattle.dwz_plan.proofs.BridgeLemmas.{file_is}
 use Rattle.dwz_groups.specs.Spreading.{IsMarked}
 use Rattle.dwz_move.specs.Marked.{Marks, if_asked}
-use Rattle.dwz_layout_numbers.specs.Owners.{move_of}
+use Rattle.dwz_layout_order.specs.Behind.{ArePlannedFirst, StandFirst}
 use Rattle.dwz_layout_order.proofs.ChangedLemmas.{flags_are, none_set}
-use Rattle.dwz_layout_order.proofs.FitLemmas.{IsHomeOf, home_of, in_range}
 use Rattle.dwz_move.proofs.MarkLemmas.{marks_append, marks_empty}
 
 -- ---- the files of units, one after the other
@@ -128,59 +127,30 @@ module _ (count : ℕ) (files : List ℕ) (parts : List Partial) (k : ℕ) (x : 
     λ is. ⊎_elim (λ o. subst (λ (w : List Bool). IsMarked w file) (sym same) o) (λ (u : Uses count files x file). absurd (other u.common)) is,
   ))
 
--- ---- by the plan
+-- ---- by the move
 
-at_users : (rule : Rule) (units : List (FileUnit EntryName)) (h : Home) (p : PartialUnit) → In p (partials_at rule units h) → (u : ℕ) → In u p.users → Numbered 0 units u
-unfolding partials_at
-at_users rule units h p there u is =
-    let o = in_map_from (partial_with rule units h) p (distinct (map (users_of rule.alike units) (representatives rule units h))) there in
-    let t = in_map_from (users_of rule.alike units) o.source (representatives rule units h) (distinct_in o.source (map (users_of rule.alike units) (representatives rule units h)) o.there) in
-    let same : p.users ≡ users_of rule.alike units t.source = sym (ap (λ (w : PartialUnit). w.users) o.is) ∙ sym t.is in
-    user_unit rule.alike units t.source.number u (subst (In u) same is)
-
-local_users : (rule : Rule) (units : List (FileUnit EntryName)) (files : List ℕ) (p : PartialUnit) → In p (local_partials rule units files) → (u : ℕ) → In u p.users → Numbered 0 units u
-unfolding local_partials
-local_users rule units [] p there u is = absurd there
-local_users rule units (file ∷ files) p there u is = elim (in_cases p (partials_at rule units (Local file)) (local_partials rule units files) there) [
-  | inl a ↦ at_users rule units (Local file) p a u is
-  | inr b ↦ local_users rule units files p b u is
-]
-
--- users are units
-users_there : (rule : Rule) (units : List (FileUnit EntryName)) (files : List ℕ) (p : PartialUnit) → In p (partials rule units files) → (u : ℕ) → In u p.users → Numbered 0 units u
-unfolding partials
-users_there rule units files p there u is = elim (in_cases p (partials_at rule units Common) (local_partials rule units files) there) [
-  | inl a ↦ at_users rule units Common p a u is
-  | inr b ↦ local_users rule units files p b u is
-]
-
-file_got : (units : List (FileUnit EntryName)) (u : ℕ) → Numbered 0 units u → slice_get (map (λ (f : FileUnit EntryName). f.file) units) u ≡ Some (file_of units u)
-file_got units u n =
-    let got = got_map (λ (f : FileUnit EntryName). f.file) units u n.one (nth_get 0 units u u n.one n.nth (omega arith)) in
-    got ∙ ap (λ (k : ℕ). Some k) (sym (file_is units u ∙ get_or_from_slice_get (map (λ (f : FileUnit EntryName). f.file) units) u n.one.file 0 got))
+file_got : (units : List (FileUnit EntryName)) (u : ℕ) → u < length units → slice_get (map (λ (f : FileUnit EntryName). f.file) units) u ≡ Some (file_of units u)
+file_got units u lt =
+    let one = got_there units u lt in
+    let got = got_map (λ (f : FileUnit EntryName). f.file) units u one.0 one.1 in
+    got ∙ ap (λ (k : ℕ). Some k) (sym (file_is units u ∙ get_or_from_slice_get (map (λ (f : FileUnit EntryName). f.file) units) u one.0.file 0 got))
 
 some_same : (m n : ℕ) → Some m ≡ Some n → m ≡ n
 some_same m n e = cc
 
-common_home : (count : ℕ) (h : Home) → IsHomeOf (range_with_len 0 count) h → file_of_home count h ≡ count → h ≡ Common
+common_home : (count : ℕ) (h : Home) → (h ≡ Common) ⊎ ((file : ℕ) × (file < count) × (h ≡ Local file)) → file_of_home count h ≡ count → h ≡ Common
 common_home count h (inl e) same = e
-common_home count h (inr o) same = absurd (let low = in_range 0 count o.0 o.1 in let is : o.0 ≡ count = sym (ap (file_of_home count) o.2) ∙ same in omega arith)
+common_home count h (inr o) same = absurd (let low = o.1 in let is : o.0 ≡ count = sym (ap (file_of_home count) o.2) ∙ same in omega arith)
 
-module _ (docs : List (Doc ℕ)) (rule : Rule) (tops : Tops) (plan : Planned) (shows : ShowsTops (units_of docs) tops) (planned : ShowsPlan rule (units_of docs) (length docs) plan) where
+module _ (docs : List (Doc ℕ)) (m : Move) (tops : Tops) (plan : Planned) (planned : ArePlannedFirst m (units_of docs) (length docs) tops plan) where
   abbrev units : List (FileUnit EntryName)
   units = units_of docs
 
   abbrev count : ℕ
   count = length docs
 
-  abbrev parts_by : List ℕ → List PartialUnit
-  parts_by files = partials rule units files
-
-  abbrev ps : List PartialUnit
-  ps = parts_by (range_with_len 0 count)
-
-  ps_are : (move_of rule docs).parts ≡ ps
-  ps_are = ap parts_by (file_numbers_are 0 docs)
+  abbrev first : StandFirst (units_of docs) tops
+  first = planned.rows
 
   abbrev is_user : ℕ → PartialUnit → Bool
   is_user file part = list_any (λ i. file_of units i == file) part.users
@@ -188,31 +158,34 @@ module _ (docs : List (Doc ℕ)) (rule : Rule) (tops : Tops) (plan : Planned) (s
   abbrev test : ℕ → PartialUnit → Bool
   test file part = same_home part.home Common && is_user file part
 
-  file_at : (p : PartialUnit) → In p ps → (u : ℕ) → In u p.users → slice_get tops.files_of_units u ≡ Some (file_of units u)
-  file_at p there u is = ap (λ (fs : List ℕ). slice_get fs u) shows.files_of_units ∙ file_got units u (users_there rule units (range_with_len 0 count) p there u is)
+  file_at : (p : PartialUnit) → In p m.parts → (u : ℕ) → In u p.users → slice_get tops.files_of_units u ≡ Some (file_of units u)
+  file_at p there u is =
+      ap (λ (fs : List ℕ). slice_get fs u) first.files_of_units
+      ∙ get_first first.own.files_of_units first.files_behind u (file_of units u)
+      (ap (λ (fs : List ℕ). slice_get fs u) first.shows.files_of_units ∙ file_got units u (planned.users p there u is))
 
-  imports_so : (file : ℕ) → UsesOne count tops.files_of_units plan.partials file → imports_common (move_of rule docs) units file ≡ true
+  imports_so : (file : ℕ) → UsesOne count tops.files_of_units plan.partials file → imports_common m units file ≡ true
   unfolding imports_common
   imports_so file u =
-      let o = in_map_from (shown_part count) u.0 ps (subst (In u.0) (sym planned.partials) u.1) in
+      let o = in_map_from (shown_part count) u.0 m.parts (subst (In u.0) (sym planned.moves.partials) u.1) in
       let p = o.source in
-      let common : p.home ≡ Common = common_home count p.home (home_of rule units (range_with_len 0 count) p o.there) (ap (λ (w : Partial). w.file) o.is ∙ u.2.common) in
+      let common : p.home ≡ Common = common_home count p.home (planned.homes p o.there) (ap (λ (w : Partial). w.file) o.is ∙ u.2.common) in
       let user = u.2.user in
       let uses : In user p.users = subst (In user) (sym (ap (λ (w : Partial). w.users) o.is)) u.2.there in
       let same : file_of units user ≡ file = some_same (file_of units user) file (sym (file_at p o.there user uses) ∙ u.2.file_is) in
       let by_user : is_user file p ≡ true = any_true (λ i. file_of units i == file) user p.users uses (eq-eqb (file_of units user) file same) in
       let passes = and_from (same_home p.home Common) (is_user file p) (ap (λ (h : Home). same_home h Common) common) by_user in
-      ap (list_any (test file)) ps_are ∙ any_true (test file) p ps o.there passes
+      any_true (test file) p m.parts o.there passes
 
-  so_imports : (file : ℕ) → imports_common (move_of rule docs) units file ≡ true → UsesOne count tops.files_of_units plan.partials file
+  so_imports : (file : ℕ) → imports_common m units file ≡ true → UsesOne count tops.files_of_units plan.partials file
   unfolding imports_common
   so_imports file e =
-      let o = any_from (test file) ps (sym (ap (list_any (test file)) ps_are) ∙ e) in
+      let o = any_from (test file) m.parts e in
       let p = o.one in
       let both = and_parts (same_home p.home Common) (is_user file p) o.passes in
       let user = any_from (λ i. file_of units i == file) p.users both.1 in (
         shown_part count p,
-        subst (In (shown_part count p)) planned.partials (in_map (shown_part count) p ps o.there),
+        subst (In (shown_part count p)) planned.moves.partials (in_map (shown_part count) p m.parts o.there),
         record {
           common = ap (file_of_home count) (home_true p.home Common both.0);
           user = user.one;
@@ -222,11 +195,11 @@ module _ (docs : List (Doc ℕ)) (rule : Rule) (tops : Tops) (plan : Planned) (s
       )
 
   pub flags_so : (files : ℕ) (flags : List Bool) → length docs ≡ files → Flagged files tops.files_of_units plan.partials flags
-      → flags ≡ map (imports_common (move_of rule docs) (units_of docs)) (file_numbers 0 docs)
+      → flags ≡ map (imports_common m (units_of docs)) (file_numbers 0 docs)
   flags_so files flags many flagged =
       let h = subst (λ (n : ℕ). Flagged n tops.files_of_units plan.partials flags) (sym many) flagged in
-      flags_are (imports_common (move_of rule docs) units) flags 0 docs h.len (λ k lt.
+      flags_are (imports_common m units) flags 0 docs h.len (λ k lt.
       let each = h.each k lt in
       let at : k ≡ 0 + k = omega arith in
-      same_test (slice_index_or flags k false) (imports_common (move_of rule docs) units k) (λ m. imports_so k (each.0 m)) (λ c. each.1 (so_imports k c))
-      ∙ ap (imports_common (move_of rule docs) units) at)
+      same_test (slice_index_or flags k false) (imports_common m units k) (λ w. imports_so k (each.0 w)) (λ c. each.1 (so_imports k c))
+      ∙ ap (imports_common m units) at)

@@ -22,6 +22,7 @@ pub mod ChangedLemmas
 pub mod PartSteps
 pub mod FileSteps
 pub mod FitLemmas
+pub mod BehindLemmas
 pub mod ImportingLemmas
 pub use Rattle.dwz_law_files.proofs.FileCounts
 pub use Rattle.dwz_law_files.proofs.FileEntries

@@ -1,9 +1,11 @@
 -- The partial units of a file by their numbers, one by one.
 use Rattle.std.proofs.Common.{◌≡◌, ℕ, zero, suc, ◌+◌, ◌<◌, ◌≤◌, ◌==◌, cond, Bool, true, false, All, List, [], ◌∷◌, ◌++◌, Some, length, map, filter, take, get_or, slice_get, refl, sym, ap, subst, ◌∙◌}
-use Rattle.std.proofs.Common.{arith}
+use Rattle.std.proofs.Common.{arith, eqb-true}
 use Rattle.std.specs.Prelude.{slice_index_or}
 use Rattle.std.specs.List.{range_with_len}
 use Rattle.std.proofs.lemmas.List.{take_all, take_more}
+use Rattle.std.proofs.lemmas.Option.{get_or_from_slice_get}
+use Rattle.dwz_def_reading.proofs.ListFacts.{got_below, same_got}
 use Rattle.dwz_groups.specs.declared.groups.Edge.{Edge}
 use Rattle.dwz_groups.specs.Groups.{grouped, values_at}
 use Rattle.dwz_def_reading.specs.Meanings.{IfSo}
@@ -12,8 +14,8 @@ use Rattle.dwz_plan.specs.declared.plan.Partial.{Partial}
 use Rattle.dwz_layout_order.specs.Orders.{First}
 use Rattle.dwz_layout_order.specs.Parts.{file_pair, file_pairs}
 use Rattle.dwz_layout_order.specs.declared.orders.Settled.{Settled}
-use Rattle.dwz_layout_order.specs.Ordered.{PartPut, PartsPut}
-use Rattle.dwz_layout_order.specs.Steps.{NumberPut, NumbersPut}
+use Rattle.dwz_layout_order.specs.Ordered.{AreSettled, PartPut, PartsPut}
+use Rattle.dwz_layout_order.specs.Steps.{HoldsSpaced, NumberPut, NumbersPut}
 
 -- ---- what is written of them
 
@@ -102,6 +104,40 @@ values_low n count file (part ∷ parts) le =
 
 pub numbers_low : (s : Settled) (file : ℕ) (numbers : List ℕ) → numbers ≡ values_at (file_pairs 0 s.plan.now.partials) file → All (λ n. n < length s.plan.now.partials) numbers
 numbers_low s file numbers e = subst (Below (length s.plan.now.partials)) (sym e) (values_low 0 (length s.plan.now.partials) file s.plan.now.partials (omega arith))
+
+-- each is of that file
+of_cond : (Q : ℕ → Type 0) (b : Bool) (n : ℕ) (ns : List ℕ) → (b ≡ true → Q n) → All Q ns → All Q (cond b (n ∷ ns) ns)
+of_cond Q true n ns first h zero d lt = first refl
+of_cond Q true n ns first h (suc k) d lt = h k d (omega arith)
+of_cond Q false n ns first h k d lt = h k d lt
+
+of_file : (s : Settled) (Q : ℕ → Type 0) (file n : ℕ) (parts : List Partial) → From s n parts
+    → ((k : ℕ) (part : Partial) → slice_get s.plan.now.partials k ≡ Some part → part.file ≡ file → Q k) → All Q (values_at (file_pairs n parts) file)
+of_file s Q file n [] from h = subst (λ (w : List ℕ). All Q w) (sym (values_none n file)) (λ k d lt. absurd (omega arith))
+of_file s Q file n (part ∷ parts) from h =
+    subst (λ (w : List ℕ). All Q w) (sym (values_step n part parts file))
+    (of_cond Q (part.file == file) n (values_at (file_pairs (suc n) parts) file) (λ e. h n part there (eqb-true part.file file e)) (of_file s Q file (suc n) parts later h))
+  where
+    there : slice_get s.plan.now.partials n ≡ Some part
+    there = (let z : n ≡ n + 0 = omega arith in ap (slice_get s.plan.now.partials) z ∙ from 0 part refl)
+
+    later : From s (suc n) parts
+    later = λ k x e. (let z : suc n + k ≡ n + suc k = omega arith in ap (slice_get s.plan.now.partials) z ∙ from (suc k) x e)
+
+-- so they hold tops whose spaces are known
+pub hold_spaced : (count : ℕ) (s : Settled) (file : ℕ) (numbers : List ℕ) → AreSettled count s → file < count → numbers ≡ values_at (file_pairs 0 s.plan.now.partials) file
+    → All (λ n. HoldsSpaced s n) numbers
+hold_spaced count s file numbers h lt e =
+    subst (λ (w : List ℕ). All (λ n. HoldsSpaced s n) w) (sym e)
+    (of_file s (λ n. HoldsSpaced s n) file 0 s.plan.now.partials (λ k part got. (let z : 0 + k ≡ k = omega arith in ap (slice_get s.plan.now.partials) z ∙ got))
+    (λ k part got same other there. (
+    let is : other ≡ part = same_got s.plan.now.partials k other part there got in
+    let at : get_or s.plan.now.partials k part ≡ other = get_or_from_slice_get s.plan.now.partials k other part there in
+    subst (λ (w : Partial). All (λ t. t < length s.of_tops.now) w.tops) at
+    (h.inside k part (got_below s.plan.now.partials k part got) (let low = ap (λ (w : Partial). w.file) (at ∙ is) in omega arith)))))
+
+pub settled_below : (count less : ℕ) (s : Settled) → less ≤ count → AreSettled count s → AreSettled less s
+settled_below count less s le h = record { spaced = h.spaced; inside = λ k d lt low. h.inside k d lt (omega arith) }
 
 map_range : {X : Type 0} (f : ℕ → X) (s n k : ℕ) (d : X) → k < n → get_or (map f (range_with_len s n)) k d ≡ f (s + k)
 map_range f s zero k d lt = absurd (omega arith)

@@ -1,3 +1,4 @@
+pub mod Behind
 pub mod Kept
 pub mod Lists
 pub mod Marks

@@ -23,14 +23,18 @@ use Rattle.dwz_layout_order.specs.Orders.{First}
 use Rattle.dwz_layout_order.specs.Parts.{IsPart}
 use Rattle.dwz_layout_order.specs.declared.orders.Settled.{Settled}
 
--- spaces stand behind those that they stand in, and tops in these; the partial units hold some of these tops, and there are few
-pub record AreSettled (s : Settled) : Type 0 where
+-- spaces stand behind those that they stand in, and tops in these; there are few partial units, and few tops in each
+pub record AreSpaced (s : Settled) : Type 0 where
   pub rising : IsRising s.rows.now
   pub within : All (λ x. x.inner ≤ length s.rows.now) s.of_tops.now
   pub few : length s.rows.now + 2 < 2 ^ 32
   pub few_parts : length s.plan.now.partials < 2 ^ 32
   pub few_tops : All (λ part. length part.tops < 2 ^ 32) s.plan.now.partials
-  pub inside : All (λ part. All (λ t. t < length s.of_tops.now) part.tops) s.plan.now.partials
+
+-- and the partial units of files with numbers below `count` hold some of these tops
+pub record AreSettled (count : ℕ) (s : Settled) : Type 0 where
+  pub spaced : AreSpaced s
+  pub inside : All (λ part. part.file < count → All (λ t. t < length s.of_tops.now) part.tops) s.plan.now.partials
 
 -- the line table of the partial unit with that number
 abbrev pub line_given : Settled → ℕ → Option ℕ
@@ -76,6 +80,19 @@ FilesPut s number start (f ∷ files) (x ∷ indexes) orders =
     (FilesPut s (suc number) (start + length x.steps) files indexes) orders)
     (FilesPut s (suc number) (start + length x.steps) files indexes orders)
 FilesPut s number start _ _ orders = ⊥
+
+-- behind what is written of the common file the files are written
+pub record AreOrdersBehind (common : List UnitItems) (contents : List (List ℕ)) (indexes : List Index) (s : Settled)
+    (orders : List (List UnitItems)) : Type 0 where
+  pub files : List File
+  pub kept : AreKept contents files
+  pub others : List (List UnitItems)
+  pub orders_are : orders ≡ common ∷ others
+  pub files_put : FilesPut s 0 0 files indexes others
+
+-- nothing is written of a common file that stands
+abbrev pub AreOrdersOver : (contents : List (List ℕ)) (indexes : List Index) → Settled → List (List UnitItems) → Type 0
+AreOrdersOver contents indexes s orders = AreOrdersBehind [] contents indexes s orders
 
 -- the common file, whose number is that of the files, is written first, and then the others
 pub record AreOrders (contents : List (List ℕ)) (indexes : List Index) (s : Settled) (orders : List (List UnitItems)) : Type 0 where

@@ -1,5 +1,5 @@
 -- Inner: no public clause cites what follows. What is written, step by step.
-use Rattle.std.specs.Prelude.{◌≡◌, ℕ, Bool, List, [], ◌∷◌, ◌++◌, Some, slice_get}
+use Rattle.std.specs.Prelude.{◌≡◌, ℕ, ◌<◌, All, Bool, List, [], ◌∷◌, ◌++◌, Some, length, slice_get}
 use Rattle.dwz_groups.specs.Groups.{values_at}
 use Rattle.dwz_def_reading.specs.Meanings.{IfSo}
 use Rattle.dwz_layout_order.specs.Parts.{file_pairs}
@@ -11,6 +11,10 @@ use Rattle.dwz_layout_order.specs.Ordered.{PartPut}
 -- the numbers of the partial units of a file
 abbrev pub AreNumbersOf : Settled → ℕ → List ℕ → Type 0
 AreNumbersOf s file numbers = numbers ≡ values_at (file_pairs 0 s.plan.now.partials) file
+
+-- the partial unit of that number holds tops whose spaces are known
+abbrev pub HoldsSpaced : Settled → ℕ → Type 0
+HoldsSpaced s n = (part : Partial) → slice_get s.plan.now.partials n ≡ Some part → All (λ t. t < length s.of_tops.now) part.tops
 
 -- the partial unit of that number is there, and is written so
 pub record NumberPut (s : Settled) (n : ℕ) (o : UnitItems) : Type 0 where

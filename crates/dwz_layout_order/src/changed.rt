@@ -2,11 +2,10 @@
 
 ghost use Rattle.std.specs.Prelude.{◌≡◌, ℕ, ◌<◌, ◌^◌, List, length, map, not, slice_get, IfOk};
 ghost use Rattle.dwz_def_tops.specs.Spots.{file_numbers, units_of};
-ghost use Rattle.dwz_layout_numbers.specs.Owners.{move_of};
 ghost use Rattle.dwz_def_reading.specs.Documents.{Doc};
-ghost use Rattle.dwz_def_plan.specs.Homes.{Rule};
+ghost use Rattle.dwz_def_plan.specs.Moves.{Move};
+ghost use Rattle.dwz_layout_order.specs.Behind.{ArePlannedFirst};
 ghost use Rattle.dwz_layout_order.specs.Marks.{stays_in};
-ghost use Rattle.dwz_plan.specs.Shows.{ShowsPlan, ShowsTops};
 ghost use Rattle.dwz_def_images.specs.Units.{changes};
 
 use dwz_groups::Tops;
@@ -35,7 +34,7 @@ pub(crate) fn file_of(files_of_units: &[u32], unit: u32) -> Option<u32>
     files_of_units.get(unit as usize).copied()
 }
 
-/// For each file whether something of it moves, by the tops of all files and their plan.
+/// For each file whether something of it moves, by the tops of all files and their plan. Tops of others may stand behind these.
 pub fn changed_files(
     alloc: Global,
     tops: &Tops,
@@ -44,9 +43,8 @@ pub fn changed_files(
 ) -> Result<Vec<bool>, NoMemory>
     requires homes { length plan.now.homes ≡ length tops.now.rows }
     requires few { length tops.now.rows < 2 ^ 32 }
-    ensures { (docs : List (Doc ℕ)) (rule : Rule) → length docs ≡ files → ShowsTops (units_of docs) tops.now
-        → ShowsPlan rule (units_of docs) (length docs) plan.now
-        → IfOk result (λ flags. flags.items ≡ map (changes (move_of rule docs) (units_of docs)) (file_numbers 0 docs)) }
+    ensures { (docs : List (Doc ℕ)) (m : Move) → length docs ≡ files → ArePlannedFirst m (units_of docs) (length docs) tops.now plan.now
+        → IfOk result (λ flags. flags.items ≡ map (changes m (units_of docs)) (file_numbers 0 docs)) }
 {
     let files_of_units = tops.files_of_units.as_slice();
     let mut flags = vec![in alloc; false; files as usize]?;

@@ -3,10 +3,9 @@
 ghost use Rattle.std.specs.Prelude.{◌≡◌, ℕ, List, length, map, slice_get, IfOk};
 ghost use Rattle.dwz_def_tops.specs.Spots.{file_numbers, units_of};
 ghost use Rattle.dwz_def_readback.specs.Files.{imports_common};
-ghost use Rattle.dwz_layout_numbers.specs.Owners.{move_of};
 ghost use Rattle.dwz_def_reading.specs.Documents.{Doc};
-ghost use Rattle.dwz_def_plan.specs.Homes.{Rule};
-ghost use Rattle.dwz_plan.specs.Shows.{ShowsPlan, ShowsTops};
+ghost use Rattle.dwz_def_plan.specs.Moves.{Move};
+ghost use Rattle.dwz_layout_order.specs.Behind.{ArePlannedFirst};
 ghost use Rattle.dwz_move.specs.Marked.{Marks};
 
 use crate::changed::file_of;
@@ -33,9 +32,8 @@ pub fn importing_files(
     plan: &Plan,
     files: u32,
 ) -> Result<Vec<bool>, NoMemory>
-    ensures { (docs : List (Doc ℕ)) (rule : Rule) → length docs ≡ files → ShowsTops (units_of docs) tops.now
-        → ShowsPlan rule (units_of docs) (length docs) plan.now
-        → IfOk result (λ flags. flags.items ≡ map (imports_common (move_of rule docs) (units_of docs)) (file_numbers 0 docs)) }
+    ensures { (docs : List (Doc ℕ)) (m : Move) → length docs ≡ files → ArePlannedFirst m (units_of docs) (length docs) tops.now plan.now
+        → IfOk result (λ flags. flags.items ≡ map (imports_common m (units_of docs)) (file_numbers 0 docs)) }
 {
     let files_of_units = tops.files_of_units.as_slice();
     let mut flags = vec![in alloc; false; files as usize]?;

@@ -8,8 +8,10 @@ ghost use Rattle.dwz_graph.specs.Files.{docs_of};
 ghost use Rattle.dwz_graph.specs.Index.{Index};
 ghost use Rattle.dwz_graph.specs.Indexed.{AreIndexes};
 ghost use Rattle.dwz_layout_order.specs.Marks.{flag_at};
-ghost use Rattle.dwz_layout_order.specs.Ordered.{AreOrders, AreSettled, FilePut, from_index, next_index};
-ghost use Rattle.dwz_layout_order.specs.Steps.{AreNumbersOf, NumbersPut, PutsFile};
+ghost use Rattle.dwz_groups.specs.Groups.{grouped};
+ghost use Rattle.dwz_layout_order.specs.Ordered.{AreOrders, AreOrdersBehind, AreOrdersOver, AreSettled, AreSpaced, FilePut, from_index, next_index};
+ghost use Rattle.dwz_layout_order.specs.Parts.{file_pairs};
+ghost use Rattle.dwz_layout_order.specs.Steps.{AreNumbersOf, HoldsSpaced, NumbersPut, PutsFile};
 ghost use Rattle.dwz_unit.specs.Rows.{units_of as raw_units};
 
 use crate::{Marks, Next, Source, part_items, parts_of_files, put_units};
@@ -66,8 +68,9 @@ fn parts_items(
     settled: &Settled,
     numbers: &[u32],
 ) -> Result<Vec<UnitItems>, NoMemory>
-    requires settled { AreSettled settled.now }
+    requires settled { AreSpaced settled.now }
     requires there { All (λ n. n < length settled.now.plan.now.partials) numbers.now }
+    requires inside { All (λ n. HoldsSpaced settled.now n) numbers.now }
     ensures { IfOk result (λ order. NumbersPut settled.now numbers.now order.items) }
 {
     let partials = settled.plan.partials();
@@ -92,7 +95,7 @@ fn file_items(
     start: u32,
     numbers: &[u32],
 ) -> Result<FileItems, NoMemory>
-    requires settled { AreSettled settled.now }
+    requires settled { AreSettled (number + 1) settled.now }
     requires numbers { AreNumbersOf settled.now number numbers.now }
     requires small { HasSmallNumbers index.now.starts start (entries_in (raw_units file.now.units)) }
     requires few_units { length (raw_units file.now.units) ≤ entries_in (raw_units file.now.units) }
@@ -134,7 +137,7 @@ fn put_file(
     start: u32,
     parts: &Groups,
 ) -> Result<(), NoMemory>
-    requires settled { AreSettled settled.now }
+    requires settled { AreSettled (number + 1) settled.now }
     requires there { number < length parts.now }
     requires numbers { AreNumbersOf settled.now number (slice_index_or parts.now number []) }
     requires small { HasSmallNumbers index.now.starts start (entries_in (raw_units file.now.units)) }
@@ -152,24 +155,34 @@ fn put_file(
     Ok(())
 }
 
-/// What is written of all files: of the common file its partial units, and then of each file that is written its partial units and its old
-/// ones. A partial unit is the common file's where its file is the number of files.
-pub fn orders_of_files(
+// For each file, and behind all for the common one, the numbers of its partial units in order.
+fn parts_of(alloc: Global, graph: &Graph, settled: &Settled) -> Result<Groups, NoMemory>
+    requires few { length graph.now.given < 2 ^ 32 }
+    requires few_parts { length settled.now.plan.now.partials < 2 ^ 32 }
+    requires files { All (λ part. part.file ≤ length graph.now.given) settled.now.plan.now.partials }
+    ensures { IfOk result (λ parts. parts ≡ grouped (length graph.now.given + 1) (file_pairs 0 settled.now.plan.now.partials)) }
+{
+    let files = graph.files().len();
+    parts_of_files(alloc, files as u32, settled.plan.partials())
+}
+
+// Behind what is written of the common file, what is written of each file. `parts` has for each file the numbers of its partial units.
+fn orders_behind(
     alloc: Global,
     graph: &Graph,
     settled: &Settled,
+    common: Vec<UnitItems>,
+    parts: &Groups,
 ) -> Result<Vec<FileItems>, NoMemory>
     requires few { length graph.now.given < 2 ^ 32 }
-    requires settled { AreSettled settled.now }
-    requires files { All (λ part. part.file ≤ length graph.now.given) settled.now.plan.now.partials }
+    requires settled { AreSettled (length graph.now.given) settled.now }
     requires imports { length (units_of (docs_of graph.now.given)) ≤ length settled.now.plan.now.imports }
+    requires parts { parts.now ≡ grouped (length graph.now.given + 1) (file_pairs 0 settled.now.plan.now.partials) }
     ensures { (indexes : List Index) → AreIndexes (docs_of graph.now.given) indexes
-        → IfOk result (λ orders. AreOrders graph.now.given indexes settled.now orders.items) }
+        → IfOk result (λ orders. AreOrdersBehind common.items graph.now.given indexes settled.now orders.items) }
 {
     let files = graph.files();
     let indexes = graph.indexes();
-    let parts = parts_of_files(alloc, files.len() as u32, settled.plan.partials())?;
-    let common = parts_items(alloc, settled, parts.get(files.len()))?;
     let mut orders = Vec::new(alloc);
     orders.push(DwzList::new(common))?;
     let mut start = 0;
@@ -183,9 +196,46 @@ pub fn orders_of_files(
             index,
             number as u32,
             start,
-            &parts,
+            parts,
         )?;
         start += index.len();
     }
     Ok(orders)
+}
+
+/// What is written of all files: of the common file its partial units, and then of each file that is written its partial units and its old
+/// ones. A partial unit is the common file's where its file is the number of files.
+pub fn orders_of_files(
+    alloc: Global,
+    graph: &Graph,
+    settled: &Settled,
+) -> Result<Vec<FileItems>, NoMemory>
+    requires few { length graph.now.given < 2 ^ 32 }
+    requires settled { AreSettled (length graph.now.given + 1) settled.now }
+    requires files { All (λ part. part.file ≤ length graph.now.given) settled.now.plan.now.partials }
+    requires imports { length (units_of (docs_of graph.now.given)) ≤ length settled.now.plan.now.imports }
+    ensures { (indexes : List Index) → AreIndexes (docs_of graph.now.given) indexes
+        → IfOk result (λ orders. AreOrders graph.now.given indexes settled.now orders.items) }
+{
+    let parts = parts_of(alloc, graph, settled)?;
+    let common = parts_items(alloc, settled, parts.get(graph.files().len()))?;
+    orders_behind(alloc, graph, settled, common, &parts)
+}
+
+/// What is written of all files over a common file that stands: of that nothing, and then of each file that is written its partial units
+/// and its old ones.
+pub fn orders_over(
+    alloc: Global,
+    graph: &Graph,
+    settled: &Settled,
+) -> Result<Vec<FileItems>, NoMemory>
+    requires few { length graph.now.given < 2 ^ 32 }
+    requires settled { AreSettled (length graph.now.given) settled.now }
+    requires files { All (λ part. part.file ≤ length graph.now.given) settled.now.plan.now.partials }
+    requires imports { length (units_of (docs_of graph.now.given)) ≤ length settled.now.plan.now.imports }
+    ensures { (indexes : List Index) → AreIndexes (docs_of graph.now.given) indexes
+        → IfOk result (λ orders. AreOrdersOver graph.now.given indexes settled.now orders.items) }
+{
+    let parts = parts_of(alloc, graph, settled)?;
+    orders_behind(alloc, graph, settled, Vec::new(alloc), &parts)
 }

@@ -22,3 +22,12 @@ pub mod PlaceLemmas
 pub mod TopSteps
 pub mod PartLemmas
 pub mod LinesLemmas
+pub mod BesideLists
+pub mod BehindTops
+pub mod BehindUnits
+pub mod BehindMade
+pub mod OverMade
+pub mod OverNeeds
+pub mod OverParts
+pub mod OverShown
+pub mod OverSteps

@@ -83,9 +83,12 @@ own_low : (n : ℕ) (h : Home) → h ≢ Common → IsOneOf n h → file_of_home
 own_low n h other (inl e) = absurd (other e)
 own_low n h other (inr f) = (let same : file_of_home n h ≡ f.0 = ap (file_of_home n) f.2 in omega (arith, same, f.1))
 
-pub own_files : (rule : Rule) (units : List (FileUnit EntryName)) (n : ℕ) (plan : Planned) → IsAlike Apart units rule.alike → ShowsPlan rule units n plan → All (λ part. part.file < n) plan.partials
-own_files rule units n plan is shows = all_from_in (λ (part : Partial). part.file < n) plan.partials
+pub own_files_by : (rule : Rule) (units : List (FileUnit EntryName)) (n : ℕ) (plan : Planned) → ((part : PartialUnit) → In part (partials rule units (range_with_len 0 n)) → part.home ≢ Common)
+    → ShowsPlan rule units n plan → All (λ part. part.file < n) plan.partials
+own_files_by rule units n plan other shows = all_from_in (λ (part : Partial). part.file < n) plan.partials
     (λ part there. (
     let o = shown rule units n plan shows part there in
-    let other = no_home units rule is (range_with_len 0 n) o.unit o.there in
-    omega (arith, o.file, own_low n o.unit.home other (home_in_files rule units n o.unit o.there))))
+    omega (arith, o.file, own_low n o.unit.home (other o.unit o.there) (home_in_files rule units n o.unit o.there))))
+
+pub own_files : (rule : Rule) (units : List (FileUnit EntryName)) (n : ℕ) (plan : Planned) → IsAlike Apart units rule.alike → ShowsPlan rule units n plan → All (λ part. part.file < n) plan.partials
+own_files rule units n plan is shows = own_files_by rule units n plan (no_home units rule is (range_with_len 0 n)) shows

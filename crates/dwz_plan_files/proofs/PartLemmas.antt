@@ -1,25 +1,18 @@
 -- The root of a partial unit: where an entry of its tops has a path it names the line table of the unit that they are all of.
-use Rattle.std.proofs.Common.{◌≡◌, ℕ, ◌<◌, ◌||◌, Bool, true, false, List, [], ◌∷◌, length, map, pos, Option, Some, None, slice_get, refl, sym, ap, subst, ◌∙◌, inl, inr, arith}
+use Rattle.std.proofs.Common.{◌≡◌, ◌⊎◌, ℕ, ◌<◌, ◌||◌, Bool, true, false, List, [], ◌∷◌, length, map, pos, Option, Some, None, slice_get, refl, sym, ap, subst, ◌∙◌, inl, inr, arith}
 use Rattle.std.specs.List.{list_any}
 use Rattle.dwz_def_reading.specs.Lists.{In}
 use Rattle.dwz_def_reading.specs.Documents.{Attr, Doc, Sec, first_named}
-use Rattle.dwz_def_tops.specs.Lists.{Nth}
 use Rattle.dwz_def_tops.proofs.Members.{each_of}
-use Rattle.dwz_def_tops.specs.Alike.{IsAlike, TopScope}
-use Rattle.dwz_def_tops.specs.Spots.{EntryName, FileUnit, Top, file_numbers, tops_of, units_of}
-use Rattle.dwz_def_tops.proofs.RowLemmas.{top_of}
+use Rattle.dwz_def_tops.specs.Spots.{EntryName, FileUnit, Top, tops_of, units_of}
 use Rattle.dwz_def_tops.proofs.TopNumbers.{top_there}
-use Rattle.dwz_def_plan.specs.Homes.{Common, Home, IsChoice, Local, Rule, Stay, is_home}
+use Rattle.dwz_def_plan.specs.Homes.{Common, Home, Local}
 use Rattle.dwz_def_plan.specs.Moves.{first_unit, line_attr, line_attrs, line_in, line_of, names_path, root_of}
-use Rattle.dwz_def_plan.specs.Plan.{PartialUnit, partials}
-use Rattle.dwz_def_readback.proofs.HomeLemmas.{part_is, top_file}
-use Rattle.dwz_def_readback.proofs.OriginLemmas.{first_is}
-use Rattle.dwz_def_readback.proofs.SameLemmas.{numbers_in}
-use Rattle.dwz_def_images.proofs.FileLemmas.{files_are}
+use Rattle.dwz_def_plan.specs.Plan.{PartialUnit}
 use Rattle.dwz_layout.specs.declared.order.Sort.TheVariants.{Partial as PartialSort}
 use Rattle.dwz_plan.specs.Planned.{file_of_home}
 use Rattle.dwz_layout_order.specs.Orders.{ShowsLine}
-use Rattle.dwz_plan_files.specs.Roots.{path_in, root_line}
+use Rattle.dwz_plan_files.specs.Roots.{IsOfOneUnit, path_in, root_line}
 use Rattle.dwz_graph.specs.declared.file.File.{File}
 use Rattle.dwz_graph.specs.Files.{docs_of}
 use Rattle.dwz_groups.specs.declared.tops.Tops.{Tops}
@@ -73,25 +66,18 @@ common_line units part home e = line_shown units part 0 (line_attr (pos 0) (Sec 
 
 -- ---- the partial unit with a number
 
-module _ (docs : List (Doc ℕ)) (scope : TopScope) (rule : Rule) (alike : IsAlike scope (units_of docs) rule.alike) (choice : IsChoice (units_of docs) rule)
-    (n : ℕ) (part : PartialUnit) (nth : Nth 0 (partials rule (units_of docs) (file_numbers 0 docs)) n part) where
+module _ (docs : List (Doc ℕ)) (part : PartialUnit) (one : IsOfOneUnit (units_of docs) part) where
   abbrev units : List (FileUnit EntryName)
   units = units_of docs
 
-  abbrev files : List ℕ
-  files = file_numbers 0 docs
-
-  inside : (t : Top) → In t part.tops → In t (tops_of (units_of docs))
-  inside t there = (((part_is scope units rule alike choice files n part nth).tops t).0 there).there
-
   pub tops_are : AreTops (units_of docs) part.tops (map (λ t. t.number) part.tops)
-  tops_are = are_tops units part.tops inside
+  tops_are = are_tops units part.tops one.there
 
   -- all tops have the root of the first
   pub have_line : (line : Option ℕ) → SaysLine (first_named 0x10 (root_of (units_of docs) (first_unit part.tops))) line → HaveLine (units_of docs) part.tops line
   have_line line h =
       each_of (λ t. SaysLine (root_line units t) line) part.tops
-      (λ t there. subst (λ (k : ℕ). SaysLine (first_named 0x10 (root_of units k)) line) (sym (first_is scope units rule alike choice files n part nth t there)) h)
+      (λ t there. subst (λ (k : ℕ). SaysLine (first_named 0x10 (root_of units k)) line) (sym (one.unit t there)) h)
 
   -- the first of them
   pub record FirstTop : Type 0 where
@@ -102,14 +88,14 @@ module _ (docs : List (Doc ℕ)) (scope : TopScope) (rule : Rule) (alike : IsAli
     pub unit : first_unit part.tops ≡ top.unit
 
   pub first_top : FirstTop
-  first_top = by part.tops refl (part_is scope units rule alike choice files n part nth).some where
+  first_top = by part.tops refl one.some where
     by : (ts : List Top) → part.tops ≡ ts → (some : (t : Top) × In t part.tops) → FirstTop
     by [] e some = absurd (subst (In some.0) e some.1)
     by (t ∷ ts) e some = record {
       top = t;
       others = ts;
       tops_are = e;
-      got = top_there units t (inside t (subst (In t) (sym e) (inl refl)));
+      got = top_there units t (one.there t (subst (In t) (sym e) (inl refl)));
       unit = ap first_unit e;
     }
 
@@ -131,30 +117,17 @@ module _ (docs : List (Doc ℕ)) (scope : TopScope) (rule : Rule) (alike : IsAli
   first_says line h = subst (λ (k : ℕ). SaysLine (first_named 0x10 (root_of units k)) line) (sym first_top.unit) h
 
   -- its home is the common file, or one of the files
-  local_low : (file : ℕ) → part.home ≡ Local file → file < length docs
-  local_low file home =
-      let some = (part_is scope units rule alike choice files n part nth).some in
-      let t = some.0 in
-      let o = top_of 0 0 units t (inside t some.1) in
-      let of_file = top_file scope units rule alike choice files file n part nth home t some.1 in
-      let low = numbers_in 0 docs o.unit.file (files_are docs t.unit o.unit o.nth) in
-      let same = o.file_is in
-      omega arith
-
   pub home_cases : (count file : ℕ) → count ≡ length docs → file ≡ file_of_home (length docs) part.home
+      → (part.home ≡ Common) ⊎ ((f : ℕ) × (f < length docs) × (part.home ≡ Local f))
       → (line : ℕ) → SaysLine (first_named 0x10 (root_of (units_of docs) (first_unit part.tops))) (Some line) → list_any path_in part.tops ≡ true
       → (file ≡ count → ShowsLine (PartialSort (Some 0)) (line_attrs (units_of docs) part)) × ((file ≡ count → ⊥) → ShowsLine (PartialSort (Some line)) (line_attrs (units_of docs) part))
-  home_cases count file count_is file_is line h e = by part.home refl where
-    by : (home : Home) → part.home ≡ home → (file ≡ count → ShowsLine (PartialSort (Some 0)) (line_attrs (units_of docs) part))
-        × ((file ≡ count → ⊥) → ShowsLine (PartialSort (Some line)) (line_attrs (units_of docs) part))
-    by Common is =
-        let same : file ≡ length docs = file_is ∙ ap (file_of_home (length docs)) is in
-        (λ x. common_line units part is e, λ no. absurd (no (same ∙ sym count_is)))
-    by (Local f) is =
-        let same : file ≡ f = file_is ∙ ap (file_of_home (length docs)) is in
-        let less = local_low f is in
-        (λ x. absurd (omega arith), λ no. local_line units part f line is e h)
-    by Stay is = absurd (let yes = (part_is scope units rule alike choice files n part nth).moves in let no : false ≡ true = sym (ap is_home is) ∙ yes in cc)
+  home_cases count file count_is file_is (inl is) line h e =
+      let same : file ≡ length docs = file_is ∙ ap (file_of_home (length docs)) is in
+      (λ x. common_line units part is e, λ no. absurd (no (same ∙ sym count_is)))
+  home_cases count file count_is file_is (inr o) line h e =
+      let same : file ≡ o.0 = file_is ∙ ap (file_of_home (length docs)) o.2 in
+      let less = o.1 in
+      (λ x. absurd (omega arith), λ no. local_line units part o.0 line o.2 e h)
 
 -- ---- where the unit has no line table
 
@@ -167,13 +140,12 @@ none_in contents files indexes tops knows (t ∷ ts) (n ∷ numbers) are have =
     (λ i. no_path contents files indexes tops n t knows are.0 have.0 i || none_in contents files indexes tops knows ts numbers are.1 have.1 i)
 
 module _ (contents : List (List ℕ)) (files : List File) (indexes : List Index) (tops : Tops) (knows : KnowsTops contents files indexes tops)
-    (scope : TopScope) (rule : Rule) (alike : IsAlike scope (units_of (docs_of contents)) rule.alike) (choice : IsChoice (units_of (docs_of contents)) rule)
-    (n : ℕ) (part : PartialUnit) (nth : Nth 0 (partials rule (units_of (docs_of contents)) (file_numbers 0 (docs_of contents))) n part) where
+    (part : PartialUnit) (one : IsOfOneUnit (units_of (docs_of contents)) part) where
   -- the root names none
-  pub without : SaysLine (root_line (units_of (docs_of contents)) (first_top (docs_of contents) scope rule alike choice n part nth).top) None
+  pub without : SaysLine (root_line (units_of (docs_of contents)) (first_top (docs_of contents) part one).top) None
       → ShowsLine (PartialSort None) (line_attrs (units_of (docs_of contents)) part)
   without h =
       let docs = docs_of contents in
       no_line (units_of docs) part
-      (none_in contents files indexes tops knows part.tops (map (λ (t : Top). t.number) part.tops) (tops_are docs scope rule alike choice n part nth)
-      (have_line docs scope rule alike choice n part nth None (first_says docs scope rule alike choice n part nth None h)))
+      (none_in contents files indexes tops knows part.tops (map (λ (t : Top). t.number) part.tops) (tops_are docs part one)
+      (have_line docs part one None (first_says docs part one None h)))

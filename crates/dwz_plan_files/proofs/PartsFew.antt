@@ -69,3 +69,9 @@ module _ (sharing : Scope) (tops : Tops) (least : List ℕ) (len : length least 
       (all_from_in (λ (part : Partial). All (λ t. t < length tops.rows) part.tops) (among is.0 (partials g))
       (λ part there. all_from_in (λ t. t < length tops.rows) part.tops
       (λ t held. omega (arith, (fits sharing tops least is.0 part (among_in is.0 (partials g) part there)).inside t held, length-rows_from tops.files_of_units 0 tops.rows least len))))
+
+  pub held_few : All (λ part. length part.tops ≤ length tops.rows) plan.partials
+  held_few =
+      subst (λ (ps : List Partial). All (λ part. length part.tops ≤ length tops.rows) ps) (sym (among_parts g plan is))
+      (all_from_in (λ (part : Partial). length part.tops ≤ length tops.rows) (among is.0 (partials g))
+      (λ part there. omega (arith, (fits sharing tops least is.0 part (among_in is.0 (partials g) part there)).few, length-rows_from tops.files_of_units 0 tops.rows least len)))

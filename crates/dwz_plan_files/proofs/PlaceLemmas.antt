@@ -8,7 +8,7 @@ use Rattle.std.specs.Option.{is_some}
 use Rattle.std.proofs.Math.Seq.{take-append_seam}
 use Rattle.dwz_def_reading.specs.Trees.{End, Entry}
 use Rattle.dwz_def_reading.specs.Units.{RawUnit, entries_in}
-use Rattle.dwz_def_reading.proofs.ListFacts.{got_below, got_in, got_map, same_got}
+use Rattle.dwz_def_reading.proofs.ListFacts.{get_first, got_below, got_in, got_map, same_got}
 use Rattle.dwz_def_reading.specs.Documents.{Attr, Doc, attr_map, first_named, unit_map}
 use Rattle.dwz_def_reading.specs.Files.{around_of}
 use Rattle.dwz_def_reading.specs.Meanings.{Around, first_raw, scope_of, stmt_list}
@@ -26,7 +26,7 @@ use Rattle.dwz_groups.specs.declared.tops.Tops.{Tops}
 use Rattle.dwz_graph.specs.declared.index.TopEntry.{TopEntry}
 use Rattle.dwz_graph.specs.Index.{Index}
 use Rattle.dwz_layout.specs.declared.known.Row.{Row}
-use Rattle.dwz_plan.specs.Shows.{ShowsRows, ShowsTops}
+use Rattle.dwz_plan.specs.Shows.{ShowsRows}
 use Rattle.dwz_graph.proofs.RowLemmas.{row_there as row_at}
 use Rattle.dwz_move.specs.Known.{StandsAt}
 use Rattle.dwz_move.proofs.TreeBinds.{any_top}
@@ -34,6 +34,7 @@ use Rattle.dwz_unit.specs.declared.rows.RawEntry.{RawEntry}
 use Rattle.dwz_unit.specs.Rows.{EntryRow, entry_shown, rows_below, rows_of, shown_entries, units_of as raw_units}
 use Rattle.dwz_unit.proofs.RowLemmas.{shown-length}
 use Rattle.dwz_layout_order.specs.Across.{IsFileAmong, IsTopOf, file_units, name_at}
+use Rattle.dwz_layout_order.specs.Behind.{StandFirst}
 use Rattle.dwz_layout_order.proofs.FileCounts.{found}
 use Rattle.dwz_layout_order.proofs.FileEntries.{gives_top}
 use Rattle.dwz_layout_order.proofs.FileWalk.{is_among}
@@ -53,12 +54,16 @@ row_got units (row ∷ rows) [] n t h e = absurd h
 row_got units (row ∷ rows) (u ∷ tops) zero t h e = (row, refl, h.0.unit ∙ ap (λ (w : Top). w.unit) (let same : u ≡ t = cc in same))
 row_got units (row ∷ rows) (u ∷ tops) (suc n) t h e = row_got units rows tops n t h.1 e
 
-pub row_there : (units : List (FileUnit EntryName)) (tops : Tops) (n : ℕ) (t : Top) → ShowsTops units tops → slice_get (tops_of units) n ≡ Some t
+pub row_there : (units : List (FileUnit EntryName)) (tops : Tops) (n : ℕ) (t : Top) → StandFirst units tops → slice_get (tops_of units) n ≡ Some t
     → (row : TopRow) × (slice_get tops.rows n ≡ Some row) × (slice_get tops.files_of_units row.unit ≡ Some t.file)
 row_there units tops n t h e =
-    let r = row_got units tops.rows (tops_of units) n t h.rows e in
+    let r = row_got units h.own.rows (tops_of units) n t h.shows.rows e in
     let there = got_in (tops_of units) n t e in
-    (r.0, r.1, ap (slice_get tops.files_of_units) r.2 ∙ ap (λ (fs : List ℕ). slice_get fs t.unit) h.files_of_units ∙ unit_file units t there)
+    let file = ap (slice_get h.own.files_of_units) r.2 ∙ ap (λ (fs : List ℕ). slice_get fs t.unit) h.shows.files_of_units ∙ unit_file units t there in (
+      r.0,
+      ap (λ (rs : List TopRow). slice_get rs n) h.rows ∙ get_first h.own.rows h.rows_behind n r.0 r.1,
+      ap (λ (fs : List ℕ). slice_get fs r.0.unit) h.files_of_units ∙ get_first h.own.files_of_units h.files_behind r.0.unit t.file file,
+    )
 
 -- ---- the entry, by the index
 

@@ -1,5 +1,5 @@
 -- There are no more units than bytes, so their numbers are small.
-use Rattle.std.proofs.Common.{◌≡◌, ℕ, zero, suc, ◌+◌, ◌<◌, ◌≤◌, ◌^◌, List, [], ◌∷◌, length, Ok, ap, ◌∙◌, arith}
+use Rattle.std.proofs.Common.{◌≡◌, ℕ, zero, suc, ◌+◌, ◌≤◌, ◌^◌, List, [], ◌∷◌, length, Ok, ap, ◌∙◌, arith}
 use Rattle.dwz_def_reading.specs.Documents.{Doc}
 use Rattle.dwz_def_reading.specs.Files.{Limits, files_meaning, limits_after, longest_files, no_files_before}
 use Rattle.dwz_def_tops.specs.Spots.{units_of}
@@ -38,7 +38,7 @@ room most l (b ∷ contents) (y ∷ files) left n (d ∷ docs) (x ∷ indexes) s
     let within = units_few raw in
     room most (limits_after l b raw) contents files left (suc n) docs indexes (starts_behind s d x) end h.1 (r.1 ∙ ap (λ (w : List (Doc ℕ)). Ok w) same) is.1 (omega arith) k
 
-pub units_small : (contents : List (List ℕ)) (files : List File) (indexes : List Index) → AreKept contents files → AreIndexes (docs_of contents) indexes → length (units_of (docs_of contents)) < 2 ^ 32
+pub units_small : (contents : List (List ℕ)) (files : List File) (indexes : List Index) → AreKept contents files → AreIndexes (docs_of contents) indexes → length (units_of (docs_of contents)) ≤ 2 ^ 29
 unfolding longest_files
 units_small contents files indexes kept is =
     let all = (all_ends contents indexes is).0 in

@@ -4,18 +4,19 @@ use Rattle.std.specs.List.{list_any}
 use Rattle.dwz_def_reading.specs.Documents.{Doc}
 use Rattle.dwz_def_reading.specs.Lists.{Each, In}
 use Rattle.dwz_def_tops.specs.Alike.{IsAlike}
-use Rattle.dwz_def_tops.specs.Spots.{tops_of, units_of}
-use Rattle.dwz_def_plan.specs.Homes.{Common, IsChoice, Rule, same_home}
+use Rattle.dwz_def_tops.specs.Spots.{EntryName, FileUnit, tops_of, units_of}
+use Rattle.dwz_def_plan.specs.Homes.{Common, IsChoice, same_home}
+use Rattle.dwz_def_plan.specs.Moves.{Move}
 use Rattle.dwz_def_plan.specs.Plan.{PartialUnit, pinned_of}
 use Rattle.dwz_def_images.specs.Units.{common_units}
 use Rattle.dwz_groups.specs.declared.tops.Tops.{Tops}
 use Rattle.dwz_plan.specs.declared.plan.Scope.{Scope}
 use Rattle.dwz_plan.specs.declared.plan.Scope.TheVariants.{Each as EachAlone}
 use Rattle.dwz_plan.specs.Planned.{Planned}
-use Rattle.dwz_plan.specs.Shows.{ShowsPlan}
 use Rattle.dwz_move_files.specs.Outlines.{IsOutline}
 use Rattle.dwz_label_files.specs.LeastLaws.{flags_of}
 use Rattle.dwz_label_files.specs.Shown.{ShowTargets}
+use Rattle.dwz_layout_order.specs.Behind.{ArePlannedFirst}
 use Rattle.dwz_layout_order.specs.declared.marks.Marks.{Marks}
 use Rattle.dwz_layout_order.specs.Marks.{mark_at, mark_of}
 use Rattle.dwz_layout_order.specs.Named.{MarksTop}
@@ -55,7 +56,7 @@ NoUnitsLaw = (docs : List (Doc ℕ)) → common_units (move_of (rule_by EachAlon
 -- by their rows, and by where they go
 abbrev pub MarksLaw : Type 0
 MarksLaw =
-    (docs : List (Doc ℕ)) (rule : Rule) (tops : Tops) (plan : Planned) (marks : Marks) → IsOutline docs tops
-    → ShowsPlan rule (units_of docs) (length docs) plan
+    (m : Move) (units : List (FileUnit EntryName)) (files : ℕ) (tops : Tops) (plan : Planned) (marks : Marks)
+    → ArePlannedFirst m units files tops plan
     → ((k : ℕ) → k < length tops.rows → mark_at marks.tops.now k ≡ mark_of tops.rows plan.homes k)
-    → Each (MarksTop (move_of rule docs).gone (pinned_of (units_of docs)) marks) (tops_of (units_of docs))
+    → Each (MarksTop m.gone (pinned_of units) marks) (tops_of units)

@@ -4,6 +4,8 @@ pub mod Pinned
 pub mod Places
 pub mod Rules
 pub mod Fits
+pub mod Over
 pub mod Laws
 pub mod Roots
 pub mod Steps
+pub mod Behind

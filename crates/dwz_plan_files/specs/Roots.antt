@@ -2,20 +2,28 @@
 use Rattle.std.specs.Prelude.{◌≡◌, ℕ, Bool, List, None, Option, length, slice_index_or}
 use Rattle.std.specs.List.{list_any}
 use Rattle.dwz_def_tops.specs.Alike.{any_attr, any_in}
-use Rattle.dwz_def_tops.specs.Spots.{EntryName, FileUnit, Top}
+use Rattle.dwz_def_tops.specs.Spots.{EntryName, FileUnit, Top, tops_of}
 use Rattle.dwz_layout_numbers.specs.Befores.{is_pair_file}
 use Rattle.dwz_def_reading.specs.Documents.{Attr, first_named}
-use Rattle.dwz_def_plan.specs.Moves.{Move, has_path, root_of}
+use Rattle.dwz_def_reading.specs.Lists.{In}
+use Rattle.dwz_def_plan.specs.Moves.{Move, first_unit, has_path, line_attrs, root_of}
 use Rattle.dwz_def_plan.specs.Plan.{PartialUnit}
 use Rattle.dwz_layout_order.specs.Orders.{ShowsLine}
 use Rattle.dwz_layout.specs.declared.order.Sort.TheVariants.{Partial as PartialSort}
 use Rattle.dwz_def_tops.specs.Lists.{Nth}
 use Rattle.dwz_unit.specs.Rows.{EntryRow}
 
--- for each partial unit the offset of the line table that its root names, if it names one
-pub record AreLines (m : Move) (lines : List (Option ℕ)) : Type 0 where
+-- all tops of a partial unit are of one of these units
+pub record IsOfOneUnit (units : List (FileUnit EntryName)) (part : PartialUnit) : Type 0 where
+  pub some : (t : Top) × In t part.tops
+  pub there : (t : Top) → In t part.tops → In t (tops_of units)
+  pub unit : (t : Top) → In t part.tops → t.unit ≡ first_unit part.tops
+
+-- for each partial unit of tops of one of these units the offset of the line table that its root names, if it names one
+pub record AreLines (m : Move) (units : List (FileUnit EntryName)) (lines : List (Option ℕ)) : Type 0 where
   pub len : length lines ≡ length m.parts
-  pub each : (n : ℕ) (part : PartialUnit) → Nth 0 m.parts n part → ShowsLine (PartialSort (slice_index_or lines n None)) (m.roots n)
+  pub each : (n : ℕ) (part : PartialUnit) → Nth 0 m.parts n part → IsOfOneUnit units part
+      → ShowsLine (PartialSort (slice_index_or lines n None)) (line_attrs units part)
 
 -- ---- inner: no public clause cites what follows
 

@@ -1,6 +1,7 @@
 -- Inner: no public clause cites what follows. Where tops stand, and what the roots of their units say of a line table.
 use Rattle.std.specs.Prelude.{◌≡◌, ℕ, pos, List, [], ◌∷◌, None, Option, Some, slice_get}
 use Rattle.dwz_layout_order.specs.Across.{IsFileAmong, IsTopOf}
+use Rattle.dwz_layout_order.specs.Behind.{StandFirst}
 use Rattle.dwz_def_tops.specs.Spots.{EntryName, FileUnit, Top, tops_of, units_of}
 use Rattle.dwz_def_reading.specs.Entries.{RawAttr}
 use Rattle.dwz_graph.specs.declared.file.File.{File}
@@ -12,15 +13,14 @@ use Rattle.dwz_graph.specs.Indexed.{AreIndexes}
 use Rattle.dwz_def_reading.specs.Documents.{Attr}
 use Rattle.dwz_def_reading.specs.Meanings.{number_of}
 use Rattle.dwz_layout.specs.declared.known.Row.{Row}
-use Rattle.dwz_plan.specs.Shows.{ShowsTops}
 use Rattle.dwz_def_reading.specs.Lists.{Each}
 use Rattle.dwz_plan_files.specs.Roots.{root_line}
 
--- files that are kept, their indexes, and rows of their tops
+-- files that are kept, their indexes, and rows of their tops, behind which others may stand
 pub record KnowsTops (contents : List (List ℕ)) (files : List File) (indexes : List Index) (tops : Tops) : Type 0 where
   pub kept : AreKept contents files
   pub indexed : AreIndexes (docs_of contents) indexes
-  pub shows : ShowsTops (units_of (docs_of contents)) tops
+  pub first : StandFirst (units_of (docs_of contents)) tops
 
 -- the top stands there
 pub record IsPlaced (contents : List (List ℕ)) (files : List File) (t : Top) (p : Row) : Type 0 where

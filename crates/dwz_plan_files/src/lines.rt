@@ -3,20 +3,18 @@
 //! Whether an entry names a path is told by names and forms alone: a file that reads has a path for each number of a file that its line
 //! table numbers, and without a table there is only 0.
 
-ghost use Rattle.std.specs.Prelude.{◌≡◌, ℕ, List, length, slice_get, IfOk};
-ghost use Rattle.dwz_def_tops.specs.Alike.{IsAlike, TopScope};
-ghost use Rattle.dwz_def_tops.specs.Spots.{file_numbers, units_of};
+ghost use Rattle.std.specs.Prelude.{◌≡◌, ◌⊎◌, ℕ, ◌<◌, List, length, slice_get, IfOk};
+ghost use Rattle.dwz_def_tops.specs.Spots.{units_of};
 ghost use Rattle.dwz_graph.specs.Files.{docs_of};
-ghost use Rattle.dwz_layout_numbers.specs.Owners.{move_of};
-ghost use Rattle.dwz_def_plan.specs.Homes.{IsChoice, Rule};
-ghost use Rattle.dwz_def_plan.specs.Moves.{line_attrs};
-ghost use Rattle.dwz_def_plan.specs.Plan.{PartialUnit, partials};
+ghost use Rattle.dwz_def_plan.specs.Homes.{Common, Local};
+ghost use Rattle.dwz_def_plan.specs.Moves.{Move, line_attrs};
+ghost use Rattle.dwz_def_plan.specs.Plan.{PartialUnit};
+ghost use Rattle.dwz_layout_order.specs.Behind.{ArePlannedFirst};
 ghost use Rattle.dwz_layout_order.specs.Orders.{ShowsLine};
 ghost use Rattle.dwz_layout.specs.declared.order.Sort.TheVariants.{Partial as PartialSort};
-ghost use Rattle.dwz_plan.specs.Shows.{ShowsPlan, ShowsTops, shown_part};
-ghost use Rattle.dwz_plan_files.specs.Roots.{AreLines};
+ghost use Rattle.dwz_plan.specs.Shows.{shown_part};
+ghost use Rattle.dwz_plan_files.specs.Roots.{AreLines, IsOfOneUnit};
 ghost use Rattle.dwz_plan_files.specs.Steps.{KnowsTops};
-ghost use Rattle.dwz_def_tops.specs.Lists.{Nth};
 
 use crate::tops::{any_top_numbers_file, line_of_top};
 use dwz_graph::{File, Graph, Index};
@@ -36,10 +34,9 @@ fn first_of(list: &[u32]) -> Option<u32>
 // The line table that the root of a partial unit names: none, where no entry of its tops has a path as its file; 0 in the common file; and
 // else that of the unit of its tops. All of these are of one unit.
 fn part_line(files: &[File], indexes: &[Index], tops: &Tops, part: &Partial) -> Option<u32>
-    ensures { (contents : List (List ℕ)) (scope : TopScope) (rule : Rule) (n : ℕ) (p : PartialUnit)
-        → KnowsTops contents files.now indexes.now tops.now → IsAlike scope (units_of (docs_of contents)) rule.alike
-        → IsChoice (units_of (docs_of contents)) rule
-        → Nth 0 (partials rule (units_of (docs_of contents)) (file_numbers 0 (docs_of contents))) n p
+    ensures { (contents : List (List ℕ)) (p : PartialUnit) → KnowsTops contents files.now indexes.now tops.now
+        → IsOfOneUnit (units_of (docs_of contents)) p
+        → (p.home ≡ Common) ⊎ ((file : ℕ) × (file < length (docs_of contents)) × (p.home ≡ Local file))
         → part.now ≡ shown_part (length (docs_of contents)) p
         → ShowsLine (PartialSort result) (line_attrs (units_of (docs_of contents)) p) }
 {
@@ -62,10 +59,9 @@ pub fn part_lines(
     tops: &Tops,
     plan: &Plan,
 ) -> Result<Vec<Option<u32>>, NoMemory>
-    ensures { (scope : TopScope) (rule : Rule) → IsAlike scope (units_of (docs_of graph.now.given)) rule.alike
-        → IsChoice (units_of (docs_of graph.now.given)) rule → ShowsTops (units_of (docs_of graph.now.given)) tops.now
-        → ShowsPlan rule (units_of (docs_of graph.now.given)) (length (docs_of graph.now.given)) plan.now
-        → IfOk result (λ lines. AreLines (move_of rule (docs_of graph.now.given)) lines.items) }
+    ensures { (m : Move)
+        → ArePlannedFirst m (units_of (docs_of graph.now.given)) (length (docs_of graph.now.given)) tops.now plan.now
+        → IfOk result (λ lines. AreLines m (units_of (docs_of graph.now.given)) lines.items) }
 {
     let files = graph.files();
     let indexes = graph.indexes();

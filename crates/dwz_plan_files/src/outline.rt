@@ -21,7 +21,7 @@ pub fn apart_laws()
     ensures units { NoUnitsLaw }
 {}
 
-/// By the outline of files and their plan it is known of each top whether it stays in its unit, and whether it is pinned.
+/// By the rows of tops and their plan it is known of each top whether it stays in its unit, and whether it is pinned.
 pub fn mark_laws()
     ensures { MarksLaw }
 {}

@@ -9,7 +9,7 @@ ghost use Rattle.dwz_graph.specs.declared.file.File.{File};
 ghost use Rattle.dwz_graph.specs.Files.{docs_of};
 ghost use Rattle.dwz_graph.specs.declared.index.TopEntry.{TopEntry};
 ghost use Rattle.dwz_def_reading.specs.Meanings.{first_raw};
-ghost use Rattle.dwz_plan.specs.Shows.{ShowsTops};
+ghost use Rattle.dwz_layout_order.specs.Behind.{StandFirst};
 ghost use Rattle.dwz_plan_files.specs.Steps.{IsPlacedAt, KnowsTops, LineIs, LineOf};
 ghost use Rattle.dwz_unit.specs.Rows.{attr_view, units_of as raw_units};
 
@@ -29,7 +29,7 @@ fn file_of_unit(files_of_units: &[u32], unit: u32) -> Option<u32>
 
 // The file of a top.
 fn file_of(tops: &Tops, top: u32) -> Option<u32>
-    ensures { (units : List (FileUnit EntryName)) (t : Top) → ShowsTops units tops.now → slice_get (tops_of units) top ≡ Some t
+    ensures { (units : List (FileUnit EntryName)) (t : Top) → StandFirst units tops.now → slice_get (tops_of units) top ≡ Some t
         → result ≡ Some t.file }
 {
     let row = tops.rows.as_slice().get(top as usize)?;

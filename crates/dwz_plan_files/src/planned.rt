@@ -22,14 +22,14 @@ use std::thread::Threads;
 /// The tops of files, and their plan.
 #[derive(Drop)]
 pub struct PlannedFiles {
-    /// The tops of all files, in order of place.
+    /// The tops of all files, in order of place, and behind them those of a common file over which these are planned.
     pub tops: Tops,
     /// Which of them move, into which partial units, and what stands for each after.
     pub plan: Plan,
 }
 
-// The tops of all files, with how many files there are.
-fn tops_of<R: Threads + Sync>(
+/// The tops of all files, with how many files there are.
+pub(crate) fn tops_of<R: Threads + Sync>(
     rt: &R,
     alloc: Global,
     graph: &Graph,
@@ -39,8 +39,8 @@ fn tops_of<R: Threads + Sync>(
     requires workers { (0 < workers) × (workers ≤ 64) }
     ensures outline { IfOk result (λ tops. IsOutline (docs_of graph.now.given) tops) }
     ensures files { IfOk result (λ tops. tops.files ≡ length (docs_of graph.now.given)) }
-    ensures few_rows { IfOk result (λ tops. length tops.rows < 2 ^ 32) }
-    ensures few_units { IfOk result (λ tops. length tops.files_of_units < 2 ^ 32) }
+    ensures few_rows { IfOk result (λ tops. length tops.rows ≤ 2 ^ 29) }
+    ensures few_units { IfOk result (λ tops. length tops.files_of_units ≤ 2 ^ 29) }
 {
     let outline = outline_files(rt, alloc, graph, workers)?;
     let mut tops = outline.tops;
@@ -48,8 +48,8 @@ fn tops_of<R: Threads + Sync>(
     Ok(tops)
 }
 
-// Of each top whether it may move.
-fn movable_of(alloc: Global, tops: &Tops) -> Result<Vec<bool>, NoMemory>
+/// Of each top whether it may move.
+pub(crate) fn movable_of(alloc: Global, tops: &Tops) -> Result<Vec<bool>, NoMemory>
     ensures { IfOk result (λ flags. flags.items ≡ flags_of tops.now) }
 {
     let rows = tops.rows.as_slice();

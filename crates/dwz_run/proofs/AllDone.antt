@@ -12,14 +12,16 @@ use Rattle.dwz_run_course.specs.Puts.{HeldWith, PutsDone}
 use Rattle.dwz_gen.specs.Demo.{demo_files}
 use Rattle.dwz_def_check.specs.declared.same.Same.{Same}
 use Rattle.dwz_def_run.specs.Compares.{tells_apart}
-use Rattle.dwz_def_run.specs.Out.{Out}
 use Rattle.dwz_def_run.specs.Tells.{IsTold}
 use Rattle.dwz_def_run.proofs.Compared.{same_told}
 use Rattle.dwz_def_run.proofs.Stopping.{put_own}
 use Rattle.dwz_def_expanded.specs.NewFile.{expanded_bytes}
+use Rattle.dwz_def_run_over.specs.Comes.{Comes}
 use Rattle.dwz_run.specs.Expanding.{DidExpand, new_put}
 use Rattle.dwz_run.specs.Laws.{Did, DidAll, DidCompare, DidDemo, DidTell, FoundApart, IsDemoText, RunEnds, puts_in}
+use Rattle.dwz_run.specs.Reusing.{DidReuse, puts_of_over}
 use Rattle.dwz_run.proofs.Outputs.{Came_to, output_held, outputs}
+use Rattle.dwz_run.proofs.ReusedAfter.{after_over, kept_over}
 
 pub with_puts : (old new : FilesSeen) (store : Store) (a b : List Put) → old.held ≡ Some store → a ≡ b → HeldWith old new a
     → new.held ≡ Some (done b store)
@@ -30,10 +32,13 @@ module _ (words : List (List ℕ)) (old new : FilesSeen) (shown shown_new : Cons
   -- what was done is no answer that files differ, or it is the answer on two files
   abbrev Found : Output → List ℕ → Type 0
   Found out text =
-      ((out.differs ≡ false) × (DidAll words store old new text ⊎ (DidDemo words store old new text ⊎ (DidTell words store old new text ⊎ DidExpand words store old new text))))
+      ((out.differs ≡ false)
+      × (DidAll words store old new text
+      ⊎ (DidDemo words store old new text
+      ⊎ (DidTell words store old new text ⊎ (DidExpand words store old new text ⊎ DidReuse words store old new text)))))
       ⊎ ((same : Same) × (out.differs ≡ tells_apart same) × DidCompare words store old new text same)
 
-  found : (out : Output) (came : Came demo_files Out words old (writes out)) (text : List ℕ) → PutsDone old new (puts_unless_demo came.options.demo out)
+  found : (out : Output) (came : Came demo_files Comes words old (writes out)) (text : List ℕ) → PutsDone old new (puts_unless_demo came.options.demo out)
       → text ≡ done_text came.options out → Found out text
   found out came text puts is = by (outputs words old store told out came) where
     by : Came_to words store came.options out → Found out text
@@ -70,16 +75,31 @@ module _ (words : List (List ℕ)) (old new : FilesSeen) (shown shown_new : Cons
     )
     by (inr (inr (inr (inl x)))) = inl (
       x.same,
-      inr (inr (inr (record {
+      inr (inr (inr (inl (record {
         asks = x.asks;
         has = x.has;
         held = with_puts old new store (puts_unless_demo came.options.demo out) (new_put x.has ∷ []) told x.puts_are puts.held;
         stored = subst (λ (ps : List Put). StoredWith old new ps) x.puts_are puts.stored;
         after = put_own x.has.out (expanded_bytes x.has.file) store;
         text_is = is ∙ x.text_is;
-      }))),
+      })))),
     )
-    by (inr (inr (inr (inr c)))) = inr (
+    by (inr (inr (inr (inr (inl x))))) =
+        let o = x.asks.options in
+        let fit = x.asks.lawful.fit in
+        inl (
+          x.same,
+          inr (inr (inr (inr (record {
+            asks = x.asks;
+            has = x.has;
+            held = with_puts old new store (puts_unless_demo came.options.demo out) (puts_of_over x.has) told x.puts_are puts.held;
+            stored = subst (λ (ps : List Put). StoredWith old new ps) x.puts_are puts.stored;
+            after = after_over o fit x.asks.common x.asks.reuses x.asks.contents x.has.files x.has.contents x.has.can store x.asks.got;
+            common = kept_over o fit x.asks.common x.asks.reuses x.asks.contents x.has.files x.has.contents x.has.can store x.asks.got;
+            text_is = is ∙ x.text_is;
+          })))),
+        )
+    by (inr (inr (inr (inr (inr c))))) = inr (
       c.answer,
       c.differs,
       record {
@@ -97,9 +117,10 @@ module _ (words : List (List ℕ)) (old new : FilesSeen) (shown shown_new : Cons
   did out text same (inl (none, inl all)) = inl all
   did out text same (inl (none, inr (inl demo))) = inr (inl demo)
   did out text same (inl (none, inr (inr (inl tells)))) = inr (inr (inl tells))
-  did out text same (inl (none, inr (inr (inr expands)))) = inr (inr (inr (inl expands)))
+  did out text same (inl (none, inr (inr (inr (inl expands))))) = inr (inr (inr (inl expands)))
+  did out text same (inl (none, inr (inr (inr (inr reuses))))) = inr (inr (inr (inr (inl reuses))))
   did out text same (inr (answer, differs, compared)) =
-      inr (inr (inr (inr (subst (DidCompare words store old new text) (same_told answer (sym differs ∙ same)) compared))))
+      inr (inr (inr (inr (inr (subst (DidCompare words store old new text) (same_told answer (sym differs ∙ same)) compared)))))
 
   apart : (out : Output) (text : List ℕ) → out.differs ≡ true → Found out text → FoundApart words store old new text
   apart out text differ (inl (none, rest)) = absurd (let z : true ≡ false = sym differ ∙ none in cc)

@@ -15,7 +15,7 @@ use Rattle.dwz_outside.specs.Told.{ConsoleSeen, FilesSeen}
 use Rattle.dwz_words.specs.declared.options.Options.{Options}
 use Rattle.dwz_words.specs.Asked.{names_got}
 use Rattle.dwz_words.specs.Lawful.{Lawful}
-use Rattle.dwz_words.proofs.Fits.{with_check, with_expand, with_explain}
+use Rattle.dwz_words.proofs.Fits.{no_reuse_with_check, with_check, with_expand, with_explain, with_reuse}
 use Rattle.dwz_run_course.specs.declared.status.Status.{Status}
 use Rattle.dwz_run_course.specs.declared.status.Status.TheVariants.{Done, Refused, Usage, ReadFault, WriteFault, NoMemory, ConsoleFault, Differs}
 use Rattle.dwz_run_course.specs.declared.output.Output.{Output}
@@ -26,12 +26,13 @@ use Rattle.dwz_run_course.specs.Outcome.{Outcome, refuses, writes}
 use Rattle.dwz_run_course.proofs.Completeness.{unwritten}
 use Rattle.dwz_gen.specs.Demo.{demo_files}
 use Rattle.dwz_def_run.specs.Compares.{Compares, answer_on, common_in, tells_apart, two_in}
-use Rattle.dwz_def_run.specs.Out.{Out, OutBy}
+use Rattle.dwz_def_run.specs.Out.{OutBy}
 use Rattle.dwz_def_run.proofs.Compared.{never_silent}
 use Rattle.dwz_def_run.proofs.Gotten.{got_files}
-use Rattle.dwz_def_run.proofs.SomeOutcome.{always_some, some_outcome}
-use Rattle.dwz_run.specs.Laws.{Asks, AsksToCompare, IsFirstRefusal, NoneFailed, RunEnds, for_answer, for_demo, for_files, to_compare, to_expand, work_contents, work_options}
-use Rattle.dwz_run.proofs.Causes.{first_comes, first_of}
+use Rattle.dwz_def_run_over.specs.Comes.{Comes, ComesBy}
+use Rattle.dwz_def_run_over.proofs.OneComes.{never_nothing_comes}
+use Rattle.dwz_run.specs.Laws.{Asks, AsksToCompare, IsFirstRefusal, NoneFailed, RunEnds, for_answer, for_demo, for_files, to_compare, to_expand, to_reuse, work_contents, work_options}
+use Rattle.dwz_run.proofs.Causes.{comes_in, first_in}
 
 -- an output by which files differ is one of files that are compared
 compares_by : (b c d : Bool) (o : Options) (contents : List (List ℕ)) (out : Output) → out.differs ≡ true → OutBy b c d o contents (writes out) → c ≡ true
@@ -40,8 +41,12 @@ compares_by true false d o contents out differ given = absurd (let z : true ≡ 
 compares_by false false true o contents out differ given = absurd (let z : true ≡ false = sym differ ∙ ap (λ (x : Output). x.differs) given.3 in cc)
 compares_by false false false o contents out differ given = absurd (let z : true ≡ false = sym differ ∙ ap (λ (x : Output). x.differs) given.3 in cc)
 
-work_compares : (o : Options) (contents : List (List ℕ)) (out : Output) → out.differs ≡ true → (demo : Option ℕ) → Out (asked_by demo o) contents (writes out) → o.check ≡ true
-work_compares o contents out differ None given = compares_by o.explain o.check o.expand o contents out differ given
+compares_in : (reuse : Option (List ℕ)) (o : Options) (contents : List (List ℕ)) (out : Output) → out.differs ≡ true → ComesBy reuse o contents (writes out) → o.check ≡ true
+compares_in None o contents out differ given = compares_by o.explain o.check o.expand o contents out differ given
+compares_in (Some common) o contents out differ given = absurd (let z : true ≡ false = sym differ ∙ ap (λ (x : Output). x.differs) given.3 in cc)
+
+work_compares : (o : Options) (contents : List (List ℕ)) (out : Output) → out.differs ≡ true → (demo : Option ℕ) → Comes (asked_by demo o) contents (writes out) → o.check ≡ true
+work_compares o contents out differ None given = compares_in o.reuse o contents out differ given
 work_compares o contents out differ (Some n) given = absurd (let z : false ≡ true = compares_by false false false (demo_options o) contents out differ given in cc)
 
 pub answered : (words : List (List ℕ)) (old new : FilesSeen) (shown shown_new : ConsoleSeen) (status : Status)
@@ -67,22 +72,22 @@ module _ (words : List (List ℕ)) (old : FilesSeen) (store : Store) (told : old
   held_by o contents no_demo got = subst (λ (d : Option ℕ). AreHeld demo_files d old (names_got o) contents) (sym no_demo) (store, told, got)
 
   -- what comes of what is asked for is asked for
-  pub asked_for : (a : Asks words store) (outcome : Outcome) → Out (work_options a) (work_contents a) outcome
-      → AsksFor demo_files Out words old outcome
+  pub asked_for : (a : Asks words store) (outcome : Outcome) → Comes (work_options a) (work_contents a) outcome
+      → AsksFor demo_files Comes words old outcome
   asked_for (for_files a) outcome given = record {
     options = a.options;
     lawful = a.lawful;
     contents = a.contents;
     held = held_by a.options a.contents a.no_demo
-        (subst (λ (names : List (List ℕ)). gets store 0 names ≡ Some a.contents) (sym (got_files a.options a.lawful.fit a.slims a.no_check a.no_expand)) a.got);
-    given = subst (λ (d : Option ℕ). Out (asked_by d a.options) a.contents outcome) (sym a.no_demo) given;
+        (subst (λ (names : List (List ℕ)). gets store 0 names ≡ Some a.contents) (sym (got_files a.options a.lawful.fit a.slims a.no_check a.no_expand a.no_reuse)) a.got);
+    given = subst (λ (d : Option ℕ). Comes (asked_by d a.options) a.contents outcome) (sym a.no_demo) given;
   }
   asked_for (for_demo a) outcome given = record {
     options = a.options;
     lawful = a.lawful;
     contents = demo_files a.units;
     held = subst (λ (d : Option ℕ). AreHeld demo_files d old (names_got a.options) (demo_files a.units)) (sym a.is_demo) refl;
-    given = subst (λ (d : Option ℕ). Out (asked_by d a.options) (demo_files a.units) outcome) (sym a.is_demo) given;
+    given = subst (λ (d : Option ℕ). Comes (asked_by d a.options) (demo_files a.units) outcome) (sym a.is_demo) given;
   }
   asked_for (for_answer a) outcome given =
       let no_demo = (with_explain a.options a.lawful.fit a.tells).1 in
@@ -91,7 +96,7 @@ module _ (words : List (List ℕ)) (old : FilesSeen) (store : Store) (told : old
         lawful = a.lawful;
         contents = a.contents;
         held = held_by a.options a.contents no_demo a.got;
-        given = subst (λ (d : Option ℕ). Out (asked_by d a.options) a.contents outcome) (sym no_demo) given;
+        given = subst (λ (d : Option ℕ). Comes (asked_by d a.options) a.contents outcome) (sym no_demo) given;
       }
   asked_for (to_compare a) outcome given =
       let no_demo = (with_check a.options a.lawful.fit a.compares).1 in
@@ -100,7 +105,7 @@ module _ (words : List (List ℕ)) (old : FilesSeen) (store : Store) (told : old
         lawful = a.lawful;
         contents = a.contents;
         held = held_by a.options a.contents no_demo a.got;
-        given = subst (λ (d : Option ℕ). Out (asked_by d a.options) a.contents outcome) (sym no_demo) given;
+        given = subst (λ (d : Option ℕ). Comes (asked_by d a.options) a.contents outcome) (sym no_demo) given;
       }
   asked_for (to_expand a) outcome given =
       let no_demo = (with_expand a.options a.lawful.fit a.expands).3 in
@@ -109,7 +114,16 @@ module _ (words : List (List ℕ)) (old : FilesSeen) (store : Store) (told : old
         lawful = a.lawful;
         contents = a.contents;
         held = held_by a.options a.contents no_demo a.got;
-        given = subst (λ (d : Option ℕ). Out (asked_by d a.options) a.contents outcome) (sym no_demo) given;
+        given = subst (λ (d : Option ℕ). Comes (asked_by d a.options) a.contents outcome) (sym no_demo) given;
+      }
+  asked_for (to_reuse a) outcome given =
+      let no_demo = (with_reuse a.options a.lawful.fit a.common a.reuses).2 in
+      record {
+        options = a.options;
+        lawful = a.lawful;
+        contents = a.contents;
+        held = held_by a.options a.contents no_demo a.got;
+        given = subst (λ (d : Option ℕ). Comes (asked_by d a.options) a.contents outcome) (sym no_demo) given;
       }
 
   -- the end of what is done, by whether files are compared
@@ -117,18 +131,19 @@ module _ (words : List (List ℕ)) (old : FilesSeen) (store : Store) (told : old
   IsEnd check status = (status ≡ Done) ⊎ (status ≡ NoMemory) ⊎ ((status ≡ Differs) × (check ≡ true))
 
   -- that is known of a status where it can't be otherwise
-  end_known : (status : Status) → ((IsEnd true status → ⊥) → ⊥) → IsEnd true status
-  end_known Done not_not = inl refl
-  end_known NoMemory not_not = inr (inl refl)
-  end_known Differs not_not = inr (inr (refl, refl))
-  end_known Refused not_not = absurd (not_not (λ e. elim e [ inl x ↦ cc | inr y ↦ elim y [ inl x ↦ cc | inr x ↦ (let z = x.0 in cc) ] ]))
-  end_known Usage not_not = absurd (not_not (λ e. elim e [ inl x ↦ cc | inr y ↦ elim y [ inl x ↦ cc | inr x ↦ (let z = x.0 in cc) ] ]))
-  end_known ReadFault not_not = absurd (not_not (λ e. elim e [ inl x ↦ cc | inr y ↦ elim y [ inl x ↦ cc | inr x ↦ (let z = x.0 in cc) ] ]))
-  end_known WriteFault not_not = absurd (not_not (λ e. elim e [ inl x ↦ cc | inr y ↦ elim y [ inl x ↦ cc | inr x ↦ (let z = x.0 in cc) ] ]))
-  end_known ConsoleFault not_not = absurd (not_not (λ e. elim e [ inl x ↦ cc | inr y ↦ elim y [ inl x ↦ cc | inr x ↦ (let z = x.0 in cc) ] ]))
+  end_known : (check : Bool) (status : Status) → ((IsEnd check status → ⊥) → ⊥) → IsEnd check status
+  end_known check Done not_not = inl refl
+  end_known check NoMemory not_not = inr (inl refl)
+  end_known true Differs not_not = inr (inr (refl, refl))
+  end_known false Differs not_not = absurd (not_not (λ e. elim e [ inl x ↦ cc | inr y ↦ elim y [ inl x ↦ cc | inr x ↦ (let z = x.1 in cc) ] ]))
+  end_known check Refused not_not = absurd (not_not (λ e. elim e [ inl x ↦ cc | inr y ↦ elim y [ inl x ↦ cc | inr x ↦ (let z = x.0 in cc) ] ]))
+  end_known check Usage not_not = absurd (not_not (λ e. elim e [ inl x ↦ cc | inr y ↦ elim y [ inl x ↦ cc | inr x ↦ (let z = x.0 in cc) ] ]))
+  end_known check ReadFault not_not = absurd (not_not (λ e. elim e [ inl x ↦ cc | inr y ↦ elim y [ inl x ↦ cc | inr x ↦ (let z = x.0 in cc) ] ]))
+  end_known check WriteFault not_not = absurd (not_not (λ e. elim e [ inl x ↦ cc | inr y ↦ elim y [ inl x ↦ cc | inr x ↦ (let z = x.0 in cc) ] ]))
+  end_known check ConsoleFault not_not = absurd (not_not (λ e. elim e [ inl x ↦ cc | inr y ↦ elim y [ inl x ↦ cc | inr x ↦ (let z = x.0 in cc) ] ]))
 
   pub completes : (new : FilesSeen) (shown shown_new : ConsoleSeen) (status : Status)
-      → Complete demo_files Out words old new shown shown_new status
+      → Complete demo_files Comes words old new shown shown_new status
       → NoneFailed old new shown shown_new → (a : Asks words store)
       → ((r : Refusal) → ¬ IsFirstRefusal (work_options a) (work_contents a) r) → IsEnd (work_options a).check status
   completes new shown shown_new status complete none a free = by (work_options a).check refl where
@@ -138,26 +153,25 @@ module _ (words : List (List ℕ)) (old : FilesSeen) (store : Store) (told : old
     contents : List (List ℕ)
     contents = work_contents a
 
-    ended : (out : Output) → Out o contents (writes out) → (b : Bool) → out.differs ≡ b → (status ≡ finished b) ⊎ (status ≡ NoMemory) → IsEnd o.check status
+    ended : (out : Output) → Comes o contents (writes out) → (b : Bool) → out.differs ≡ b → (status ≡ finished b) ⊎ (status ≡ NoMemory) → IsEnd o.check status
     ended out given false e (inl done) = inl done
-    ended out given true e (inl differ) = inr (inr (differ, compares_by o.explain o.check o.expand o contents out e given))
+    ended out given true e (inl differ) = inr (inr (differ, compares_in o.reuse o contents out e given))
     ended out given b e (inr memory) = inr (inl memory)
 
-    one : (outcome : Outcome) → Out o contents outcome → IsEnd o.check status
+    one : (outcome : Outcome) → Comes o contents outcome → IsEnd o.check status
     one (writes out) given = ended out given out.differs refl (complete out (asked_for a (writes out) given) none.reads none.writes none.texts)
-    one (refuses q) given = absurd (free q (first_of o.explain o.check o.expand o contents q given))
+    one (refuses q) given = absurd (free q (first_in o.reuse o contents q given))
 
     by : (check : Bool) → o.check ≡ check → IsEnd o.check status
-    by false e = let some = some_outcome o contents e in one some.0 some.1
-    by true e =
+    by check e =
         subst (λ (b : Bool). IsEnd b status) (sym e)
-        (end_known status (λ not_so. always_some o contents (λ outcome given. not_so (subst (λ (b : Bool). IsEnd b status) e (one outcome given)))))
+        (end_known check status (λ not_so. never_nothing_comes o contents (λ outcome given. not_so (subst (λ (b : Bool). IsEnd b status) e (one outcome given)))))
 
   -- where two files that are compared read, it is told whether they mean the same
-  module _ (new : FilesSeen) (shown shown_new : ConsoleSeen) (status : Status) (complete : Complete demo_files Out words old new shown shown_new status)
+  module _ (new : FilesSeen) (shown shown_new : ConsoleSeen) (status : Status) (complete : Complete demo_files Comes words old new shown shown_new status)
       (none : NoneFailed old new shown shown_new) (a : AsksToCompare words store) (said : FinishedDocs) (first second : Doc Place)
       (read : ReadFinished (common_in a.options.sup a.contents) (two_in a.options.sup a.contents) said) (docs : said.docs ≡ first ∷ second ∷ []) where
-    answer_of : (same : Same) → IsSameAnswer (beside_common said first) (beside_common said second) same → Out a.options a.contents (writes (answer_on same))
+    answer_of : (same : Same) → IsSameAnswer (beside_common said first) (beside_common said second) same → Comes a.options a.contents (writes (answer_on same))
     answer_of same is =
         let given : Compares a.options a.contents (writes (answer_on same)) = (
           said,
@@ -166,8 +180,9 @@ module _ (words : List (List ℕ)) (old : FilesSeen) (store : Store) (told : old
           subst (λ (ds : List (Doc Place)). OfTwo (λ x y. IsSameAnswer (beside_common said x) (beside_common said y) same) ds) (sym docs) is,
           refl,
         ) in
-        subst (λ (b : Bool). OutBy b a.options.check a.options.expand a.options a.contents (writes (answer_on same))) (sym (with_check a.options a.lawful.fit a.compares).2)
-        (subst (λ (c : Bool). OutBy false c a.options.expand a.options a.contents (writes (answer_on same))) (sym a.compares) given)
+        subst (λ (w : Option (List ℕ)). ComesBy w a.options a.contents (writes (answer_on same))) (sym (no_reuse_with_check a.options a.lawful.fit a.compares))
+        (subst (λ (b : Bool). OutBy b a.options.check a.options.expand a.options a.contents (writes (answer_on same))) (sym (with_check a.options a.lawful.fit a.compares).2)
+        (subst (λ (c : Bool). OutBy false c a.options.expand a.options a.contents (writes (answer_on same))) (sym a.compares) given))
 
     ends_with : (same : Same) → IsSameAnswer (beside_common said first) (beside_common said second) same → (status ≡ finished (tells_apart same)) ⊎ (status ≡ NoMemory)
     ends_with same is = complete (answer_on same) (asked_for (to_compare a) (writes (answer_on same)) (answer_of same is)) none.reads none.writes none.texts
@@ -200,9 +215,9 @@ module _ (words : List (List ℕ)) (old : FilesSeen) (store : Store) (told : old
           λ other. apart_known status (λ not_so. never_silent (UnitsAlike v w) (whole_units v.own) (whole_units w.own) (λ same is. not_so (ends_apart other same is))),
         )
 
-  pub is_refused : (new : FilesSeen) (status : Status) → Refuses demo_files Out words old new status
+  pub is_refused : (new : FilesSeen) (status : Status) → Refuses demo_files Comes words old new status
       → ¬ (Rose old.read_faults new.read_faults)
       → (a : Asks words store) (r : Refusal) → IsFirstRefusal (work_options a) (work_contents a) r → (status ≡ Refused) ⊎ (status ≡ NoMemory)
   is_refused new status all none a r first =
       let o = work_options a in
-      all r (asked_for a (refuses r) (first_comes o.explain o.check o.expand o (work_contents a) r first)) none
+      all r (asked_for a (refuses r) (comes_in o.reuse o (work_contents a) r first)) none

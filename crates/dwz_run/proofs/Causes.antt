@@ -1,5 +1,5 @@
 -- Why a run ends as it does: what each status says, by its words and by what failed.
-use Rattle.std.proofs.Common.{◌≡◌, ◌⊎◌, ℕ, Bool, true, false, List, Option, Some, None, refl, ap, subst, inl, inr}
+use Rattle.std.proofs.Common.{◌≡◌, ◌⊎◌, ℕ, Bool, true, false, List, Option, Some, None, refl, sym, ap, subst, inl, inr}
 use Rattle.dwz_model.specs.declared.fault.Refusal.{Refusal}
 use Rattle.dwz_outside.specs.Store.{Store}
 use Rattle.dwz_outside.specs.Told.{ConsoleSeen, FilesSeen, LeavesPuts}
@@ -14,9 +14,10 @@ use Rattle.dwz_run_course.specs.Ends.{AreContents, Came, Says}
 use Rattle.dwz_run_course.specs.Gets.{gets}
 use Rattle.dwz_run_course.specs.Outcome.{name_of_file, refuses}
 use Rattle.dwz_gen.specs.Demo.{demo_files}
-use Rattle.dwz_def_run.specs.Out.{Out, OutBy, Slims}
+use Rattle.dwz_def_run.specs.Out.{OutBy, Slims}
 use Rattle.dwz_def_run.proofs.Gotten.{got_files}
-use Rattle.dwz_run.specs.Laws.{IsFirstOf, IsFirstRefusal, PutsNothing, RunEnds, WasRefused, for_answer, for_demo, for_files, to_compare, to_expand}
+use Rattle.dwz_def_run_over.specs.Comes.{Comes, ComesBy}
+use Rattle.dwz_run.specs.Laws.{IsFirstIn, IsFirstOf, IsFirstRefusal, PutsNothing, RunEnds, WasRefused, for_answer, for_demo, for_files, to_compare, to_expand, to_reuse}
 use Rattle.dwz_run.proofs.Outputs.{got_of}
 
 -- what comes of contents that are refused is their first fault, and the other way round
@@ -31,6 +32,15 @@ first_comes true c d o contents r first = first
 first_comes false true d o contents r first = first
 first_comes false false true o contents r first = first
 first_comes false false false o contents r first = first
+
+-- also over a finished common file
+pub first_in : (reuse : Option (List ℕ)) (o : Options) (contents : List (List ℕ)) (r : Refusal) → ComesBy reuse o contents (refuses r) → IsFirstIn reuse o contents r
+first_in None o contents r given = first_of o.explain o.check o.expand o contents r given
+first_in (Some common) o contents r given = given
+
+pub comes_in : (reuse : Option (List ℕ)) (o : Options) (contents : List (List ℕ)) (r : Refusal) → IsFirstIn reuse o contents r → ComesBy reuse o contents (refuses r)
+comes_in None o contents r first = first_comes o.explain o.check o.expand o contents r first
+comes_in (Some common) o contents r first = first
 
 -- the files of a demonstration were refused with their first fault
 pub demo_refused : (r : Refusal) (o : Options) (n : ℕ) (contents : List (List ℕ)) → contents ≡ demo_files n → Slims (demo_options o) contents (refuses r)
@@ -80,7 +90,7 @@ module _ (words : List (List ℕ)) (old new : FilesSeen) (shown shown_new : Cons
   -- ---- a refusal
 
   module _ (store : Store) (told : old.held ≡ Some store) where
-    refused_with : (r : Refusal) (came : Came demo_files Out words old (refuses r)) (text : List ℕ)
+    refused_with : (r : Refusal) (came : Came demo_files Comes words old (refuses r)) (text : List ℕ)
         → text ≡ refusal_text (name_of_file (asked came.options) r.file) r → WasRefused words store text
     refused_with r came text is = by came.options.demo refl came.are came.given is where
       o : Options
@@ -89,9 +99,12 @@ module _ (words : List (List ℕ)) (old new : FilesSeen) (shown shown_new : Cons
       contents : List (List ℕ)
       contents = came.contents
 
-      undemonstrated : (b c d : Bool) → o.explain ≡ b → o.check ≡ c → o.expand ≡ d → o.demo ≡ None → gets store 0 (names_got o) ≡ Some contents
+      is_first : (reuse : Option (List ℕ)) → o.reuse ≡ reuse → ComesBy reuse o contents (refuses r) → IsFirstRefusal o contents r
+      is_first reuse is given = subst (λ (w : Option (List ℕ)). IsFirstIn w o contents r) (sym is) (first_in reuse o contents r given)
+
+      undemonstrated : (b c d : Bool) → o.explain ≡ b → o.check ≡ c → o.expand ≡ d → o.reuse ≡ None → o.demo ≡ None → gets store 0 (names_got o) ≡ Some contents
           → OutBy o.explain o.check o.expand o contents (refuses r) → text ≡ refusal_text (name_of_file o r.file) r → WasRefused words store text
-      undemonstrated false false false slims none no_expand e got given is = record {
+      undemonstrated false false false slims none no_expand no_reuse e got given is = record {
         asks = for_files (record {
           options = o;
           lawful = came.lawful;
@@ -99,35 +112,46 @@ module _ (words : List (List ℕ)) (old new : FilesSeen) (shown shown_new : Cons
           slims = slims;
           no_check = none;
           no_expand = no_expand;
+          no_reuse = no_reuse;
           contents = contents;
-          got = subst (λ (names : List (List ℕ)). gets store 0 names ≡ Some contents) (got_files o came.lawful.fit slims none no_expand) got;
+          got = subst (λ (names : List (List ℕ)). gets store 0 names ≡ Some contents) (got_files o came.lawful.fit slims none no_expand no_reuse) got;
         });
         refusal = r;
-        is_first = first_of o.explain o.check o.expand o contents r given;
+        is_first = is_first None no_reuse given;
         text_is = is;
       }
-      undemonstrated false false true none no_check expands e got given is = record {
+      undemonstrated false false true none no_check expands no_reuse e got given is = record {
         asks = to_expand (record { options = o; lawful = came.lawful; expands = expands; contents = contents; got = got });
         refusal = r;
-        is_first = first_of o.explain o.check o.expand o contents r given;
+        is_first = is_first None no_reuse given;
         text_is = is;
       }
-      undemonstrated false true d none compares any e got given is = record {
+      undemonstrated false true d none compares any no_reuse e got given is = record {
         asks = to_compare (record { options = o; lawful = came.lawful; compares = compares; contents = contents; got = got });
         refusal = r;
-        is_first = first_of o.explain o.check o.expand o contents r given;
+        is_first = is_first None no_reuse given;
         text_is = is;
       }
-      undemonstrated true c d tells has any e got given is = record {
+      undemonstrated true c d tells has any no_reuse e got given is = record {
         asks = for_answer (record { options = o; lawful = came.lawful; tells = tells; contents = contents; got = got });
         refusal = r;
-        is_first = first_of o.explain o.check o.expand o contents r given;
+        is_first = is_first None no_reuse given;
         text_is = is;
       }
 
-      by : (d : Option ℕ) → o.demo ≡ d → AreContents demo_files d old (names_got o) contents → Out (asked_by d o) contents (refuses r)
+      either : (reuse : Option (List ℕ)) → o.reuse ≡ reuse → o.demo ≡ None → gets store 0 (names_got o) ≡ Some contents
+          → ComesBy reuse o contents (refuses r) → text ≡ refusal_text (name_of_file o r.file) r → WasRefused words store text
+      either None no_reuse e got given is = undemonstrated o.explain o.check o.expand refl refl refl no_reuse e got given is
+      either (Some common) reuses e got given is = record {
+        asks = to_reuse (record { options = o; lawful = came.lawful; common = common; reuses = reuses; contents = contents; got = got });
+        refusal = r;
+        is_first = is_first (Some common) reuses given;
+        text_is = is;
+      }
+
+      by : (d : Option ℕ) → o.demo ≡ d → AreContents demo_files d old (names_got o) contents → Comes (asked_by d o) contents (refuses r)
           → text ≡ refusal_text (name_of_file (asked_by d o) r.file) r → WasRefused words store text
-      by None e are given is = undemonstrated o.explain o.check o.expand refl refl refl e (got_of words old store told (names_got o) contents are) given is
+      by None e are given is = either o.reuse refl e (got_of words old store told (names_got o) contents are) given is
       by (Some n) e are given is = record {
         asks = for_demo (record { options = o; lawful = came.lawful; units = n; is_demo = e });
         refusal = r;

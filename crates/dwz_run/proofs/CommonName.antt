@@ -23,14 +23,14 @@ of_name : (name : Option (List ℕ)) → option_map_or is_file_name name true �
 of_name None e = tt
 of_name (Some word) e = no_zero word (and_parts (nat_lt 0 (length word)) (not (list_any (λ (byte : ℕ). byte == 0) word)) e).1
 
-of_either : (name common : Option (List ℕ)) → option_map_or is_file_name name true ≡ true → option_map_or is_file_name common true ≡ true
+pub of_either : (name common : Option (List ℕ)) → option_map_or is_file_name name true ≡ true → option_map_or is_file_name common true ≡ true
     → NoZero (unwrap_or name (unwrap_or common []))
 of_either None common n c = of_name common c
 of_either (Some word) common n c = of_name (Some word) n
 
 pub named_well : (o : Options) → FitTogether o → NoZero (sup_name o)
 named_well o fit =
-    let others = option_map_or is_file_name o.out true && option_map_or is_file_name o.sup true in
+    let others = option_map_or is_file_name o.out true && (option_map_or is_file_name o.reuse true && option_map_or is_file_name o.sup true) in
     let rest = (and_parts (list_all is_file_name o.files)
     (option_map_or is_file_name o.common true && (option_map_or is_file_name o.name true && others)) fit.file_names).1 in
     let common = and_parts (option_map_or is_file_name o.common true) (option_map_or is_file_name o.name true && others) rest in

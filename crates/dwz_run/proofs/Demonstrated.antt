@@ -8,7 +8,7 @@ use Rattle.dwz_report.specs.Texts.{refusal_text}
 use Rattle.dwz_words.specs.declared.options.Options.{Options}
 use Rattle.dwz_words.specs.Asked.{names_got}
 use Rattle.dwz_words.specs.Lawful.{Lawful}
-use Rattle.dwz_words.proofs.Fits.{with_demo}
+use Rattle.dwz_words.proofs.Fits.{no_reuse_with_demo, with_demo}
 use Rattle.dwz_run_course.specs.declared.output.Output.{Output}
 use Rattle.dwz_run_course.specs.declared.status.Status.{Status}
 use Rattle.dwz_run_course.specs.declared.status.Status.TheVariants.{Done, Refused, Usage, ReadFault, WriteFault, NoMemory, ConsoleFault, Differs}
@@ -17,8 +17,9 @@ use Rattle.dwz_run_course.specs.Ends.{AreContents, Came, Says, done_text, puts_u
 use Rattle.dwz_run_course.specs.Outcome.{Outcome, name_of_file, refuses, writes}
 use Rattle.dwz_run_course.specs.Puts.{PutsDone}
 use Rattle.dwz_gen.specs.Demo.{demo_files}
-use Rattle.dwz_def_run.specs.Out.{Out, Slims}
+use Rattle.dwz_def_run.specs.Out.{Slims}
 use Rattle.dwz_def_run.proofs.Gotten.{got_files}
+use Rattle.dwz_def_run_over.specs.Comes.{Comes}
 use Rattle.dwz_run.specs.Laws.{AsksForDemo, DemoEnds, IsDemoText, RunEnds}
 use Rattle.dwz_run.proofs.AllDone.{with_puts}
 use Rattle.dwz_run.proofs.Causes.{demo_refused}
@@ -44,7 +45,7 @@ module _ (words : List (List ℕ)) (old new : FilesSeen) (shown shown_new : Cons
   none_got : (name : List ℕ) → Contains (names_got o) name → ⊥
   none_got name there =
       let fit = with_demo o a.lawful.fit a.units a.is_demo in
-      let names = got_files o a.lawful.fit fit.2 fit.3 fit.4 in
+      let names = got_files o a.lawful.fit fit.2 fit.3 fit.4 (no_reuse_with_demo o a.lawful.fit a.units a.is_demo) in
       none_named o.files name no_files (subst (λ (ns : List (List ℕ)). Contains ns name) names there)
 
   -- what came is of the demonstration
@@ -54,16 +55,16 @@ module _ (words : List (List ℕ)) (old new : FilesSeen) (shown shown_new : Cons
   is_demo : (other : Options) → Lawful words other → other.demo ≡ Some a.units
   is_demo other lawful = ap (λ (x : Options). x.demo) (same_options other lawful) ∙ a.is_demo
 
-  are_made : (outcome : Outcome) (came : Came demo_files Out words old outcome) → came.contents ≡ demo_files a.units
+  are_made : (outcome : Outcome) (came : Came demo_files Comes words old outcome) → came.contents ≡ demo_files a.units
   are_made outcome came =
       subst (λ (d : Option ℕ). AreContents demo_files d old (names_got came.options) came.contents) (is_demo came.options came.lawful) came.are
 
-  of_made : (outcome : Outcome) (came : Came demo_files Out words old outcome) → Slims (demo_options o) came.contents outcome
+  of_made : (outcome : Outcome) (came : Came demo_files Comes words old outcome) → Slims (demo_options o) came.contents outcome
   of_made outcome came =
       subst (λ (x : Options). Slims (demo_options x) came.contents outcome) (same_options came.options came.lawful)
-      (subst (λ (d : Option ℕ). Out (asked_by d came.options) came.contents outcome) (is_demo came.options came.lawful) came.given)
+      (subst (λ (d : Option ℕ). Comes (asked_by d came.options) came.contents outcome) (is_demo came.options came.lawful) came.given)
 
-  made : (out : Output) (came : Came demo_files Out words old (writes out)) (text : List ℕ) → text ≡ done_text came.options out → IsDemoText a text
+  made : (out : Output) (came : Came demo_files Comes words old (writes out)) (text : List ℕ) → text ≡ done_text came.options out → IsDemoText a text
   made out came text is =
       let same = is ∙ ap (λ (x : Options). done_text x out) (same_options came.options came.lawful) in
       subst (IsDemoText a) (sym same) (demo_said_of words a came.contents out (are_made (writes out) came) came.bytes (of_made (writes out) came))
@@ -72,7 +73,7 @@ module _ (words : List (List ℕ)) (old new : FilesSeen) (shown shown_new : Cons
   no_puts : (out : Output) (other : Options) → Lawful words other → puts_unless_demo other.demo out ≡ []
   no_puts out other lawful = ap (λ (d : Option ℕ). puts_unless_demo d out) (is_demo other lawful)
 
-  refused_text : (r : Refusal) (came : Came demo_files Out words old (refuses r)) (text : List ℕ)
+  refused_text : (r : Refusal) (came : Came demo_files Comes words old (refuses r)) (text : List ℕ)
       → text ≡ refusal_text (name_of_file (asked came.options) r.file) r → text ≡ refusal_text (name_of_file (demo_options o) r.file) r
   refused_text r came text is =
       is ∙ (ap (λ (d : Option ℕ). refusal_text (name_of_file (asked_by d came.options) r.file) r) (is_demo came.options came.lawful)

@@ -1,6 +1,7 @@
 -- Of files comes what is new in them and in the common file, or the first fault of reading them.
-use Rattle.std.proofs.Common.{◌≡◌, ℕ, Bool, true, false, List, length, Option, Result, Ok, Err, Vec, Global, map, sym, ap, subst, ◌∙◌, inl}
+use Rattle.std.proofs.Common.{◌≡◌, ℕ, Bool, true, false, List, length, Option, Some, None, Result, Ok, Err, Vec, Global, map, sym, ap, subst, ◌∙◌, inl}
 use Rattle.std.specs.Prelude.{◌&&◌, not}
+use Rattle.std.specs.Option.{is_some}
 use Rattle.std.proofs.lemmas.List.{length-map}
 use Rattle.std.proofs.lemmas.List.FromFn.{length-range_with_len}
 use Rattle.dwz_model.specs.declared.fault.GraphErr.{GraphErr}
@@ -27,13 +28,15 @@ use Rattle.dwz_run_course.specs.Answers.{IsAnswer}
 use Rattle.dwz_run_course.specs.Outcome.{refuses}
 use Rattle.dwz_model.specs.declared.fault.Refusal.{Refusal}
 use Rattle.dwz_def_output.specs.Written.{stored_of}
-use Rattle.dwz_def_run.specs.Out.{Out, OutBy, Slims, rule_of, run_for, top_scope_of}
+use Rattle.dwz_def_run.specs.Out.{OutBy, Slims, rule_of, run_for, top_scope_of}
 use Rattle.dwz_def_run.specs.Compares.{Compares}
 use Rattle.dwz_def_run.specs.Expands.{Expands}
 use Rattle.dwz_def_run.specs.Tells.{TellsWhy}
+use Rattle.dwz_def_run_over.specs.Comes.{Comes, ComesBy, reusing}
+use Rattle.dwz_def_run_over.specs.Reuses.{Reuses}
 use Rattle.dwz_def_output.specs.declared.new_file.NewFile.{NewFile}
 use Rattle.dwz_def_output.specs.NewFiles.{AreNew, IsNewCommon}
-use Rattle.dwz_run_output.proofs.RunReady.{as_many}
+use Rattle.dwz_def_over.proofs.ReadOver.{read_length}
 
 -- ---- what comes of options, by what they ask for
 
@@ -57,38 +60,54 @@ first_refuses false true d o contents r none first = absurd (let two = none.no_t
 first_refuses false false true o contents r none first = absurd (let one = none.no_one in cc)
 first_refuses false false false o contents r none first = inl first
 
+-- what comes where nothing is written over a finished common file
+alone : (o : Options) (contents : List (List ℕ)) (result : Result Output GraphErr) → is_some o.reuse ≡ false
+    → IsAnswer (OutBy o.explain o.check o.expand o contents) result → IsAnswer (Comes o contents) result
+alone o contents result no_reuse is = by o.reuse no_reuse where
+  by : (reuse : Option (List ℕ)) → is_some reuse ≡ false → IsAnswer (ComesBy reuse o contents) result
+  by None e = is
+  by (Some common) e = absurd cc
+
+pub reused_as_asked : (o : Options) (contents : List (List ℕ)) (result : Result Output GraphErr) → is_some o.reuse ≡ true
+    → IsAnswer (Reuses (reusing o) contents) result → IsAnswer (Comes o contents) result
+reused_as_asked o contents result reuses is = by o.reuse reuses where
+  by : (reuse : Option (List ℕ)) → is_some reuse ≡ true → IsAnswer (ComesBy reuse o contents) result
+  by None e = absurd cc
+  by (Some common) e = is
+
 -- files that are neither compared nor written without partial units, and don't read, are refused with their first fault
-pub read_refused : (o : Options) (contents : List (List ℕ)) (e : GraphErr) → is_to_compare o.check o.explain ≡ false → is_to_expand o.expand o.explain o.check ≡ false
-    → FilesFail e (files_meaning no_files_before 0 contents) → IsAnswer (Out o contents) (Err e)
-read_refused o contents NoMemory two one fail = tt
-read_refused o contents (Refused r) two one fail =
-    let first = refused contents r fail in (first_refuses o.explain o.check o.expand o contents r (record { no_two = two; no_one = one }) first.0, first.1)
+pub read_refused : (o : Options) (contents : List (List ℕ)) (e : GraphErr) → is_some o.reuse ≡ false → is_to_compare o.check o.explain ≡ false → is_to_expand o.expand o.explain o.check ≡ false
+    → FilesFail e (files_meaning no_files_before 0 contents) → IsAnswer (Comes o contents) (Err e)
+read_refused o contents NoMemory new two one fail = alone o contents (Err NoMemory) new tt
+read_refused o contents (Refused r) new two one fail =
+    let first = refused contents r fail in
+    alone o contents (Err (Refused r)) new (first_refuses o.explain o.check o.expand o contents r (record { no_two = two; no_one = one }) first.0, first.1)
 
-pub told_as_asked : (o : Options) (contents : List (List ℕ)) (result : Result Output GraphErr) → o.explain ≡ true → IsAnswer (TellsWhy o contents) result
-    → IsAnswer (Out o contents) result
-told_as_asked o contents result tells is = subst (λ (b : Bool). IsAnswer (OutBy b o.check o.expand o contents) result) (sym tells) is
+pub told_as_asked : (o : Options) (contents : List (List ℕ)) (result : Result Output GraphErr) → is_some o.reuse ≡ false → o.explain ≡ true
+    → IsAnswer (TellsWhy o contents) result → IsAnswer (Comes o contents) result
+told_as_asked o contents result new tells is = alone o contents result new (subst (λ (b : Bool). IsAnswer (OutBy b o.check o.expand o contents) result) (sym tells) is)
 
-pub slimmed_as_asked : (o : Options) (contents : List (List ℕ)) (result : Result Output GraphErr) → o.explain ≡ false → is_to_compare o.check o.explain ≡ false
-    → is_to_expand o.expand o.explain o.check ≡ false → IsAnswer (Slims o contents) result → IsAnswer (Out o contents) result
-slimmed_as_asked o contents result slims two one is = by o.explain o.check o.expand slims (record { no_two = two; no_one = one }) where
+pub slimmed_as_asked : (o : Options) (contents : List (List ℕ)) (result : Result Output GraphErr) → is_some o.reuse ≡ false → o.explain ≡ false → is_to_compare o.check o.explain ≡ false
+    → is_to_expand o.expand o.explain o.check ≡ false → IsAnswer (Slims o contents) result → IsAnswer (Comes o contents) result
+slimmed_as_asked o contents result new slims two one is = alone o contents result new (by o.explain o.check o.expand slims (record { no_two = two; no_one = one })) where
   by : (b c d : Bool) → b ≡ false → IsForFiles b c d → IsAnswer (OutBy b c d o contents) result
   by true c d e n = absurd cc
   by false true d e n = absurd (let two = n.no_two in cc)
   by false false true e n = absurd (let one = n.no_one in cc)
   by false false false e n = is
 
-pub compared_as_asked : (o : Options) (contents : List (List ℕ)) (result : Result Output GraphErr) → is_to_compare o.check o.explain ≡ true
-    → IsAnswer (Compares o contents) result → IsAnswer (Out o contents) result
-compared_as_asked o contents result compares is = by o.explain o.check compares where
+pub compared_as_asked : (o : Options) (contents : List (List ℕ)) (result : Result Output GraphErr) → is_some o.reuse ≡ false → is_to_compare o.check o.explain ≡ true
+    → IsAnswer (Compares o contents) result → IsAnswer (Comes o contents) result
+compared_as_asked o contents result new compares is = alone o contents result new (by o.explain o.check compares) where
   by : (b c : Bool) → is_to_compare c b ≡ true → IsAnswer (OutBy b c o.expand o contents) result
   by true true n = absurd cc
   by true false n = absurd cc
   by false true n = is
   by false false n = absurd cc
 
-pub expanded_as_asked : (o : Options) (contents : List (List ℕ)) (result : Result Output GraphErr) → is_to_expand o.expand o.explain o.check ≡ true
-    → IsAnswer (Expands o contents) result → IsAnswer (Out o contents) result
-expanded_as_asked o contents result expands is = by o.explain o.check o.expand expands where
+pub expanded_as_asked : (o : Options) (contents : List (List ℕ)) (result : Result Output GraphErr) → is_some o.reuse ≡ false → is_to_expand o.expand o.explain o.check ≡ true
+    → IsAnswer (Expands o contents) result → IsAnswer (Comes o contents) result
+expanded_as_asked o contents result new expands is = alone o contents result new (by o.explain o.check o.expand expands) where
   by : (b c d : Bool) → is_to_expand d b c ≡ true → IsAnswer (OutBy b c d o contents) result
   by true c true n = absurd cc
   by true c false n = absurd cc
@@ -135,4 +154,4 @@ module _ (o : Options) (sharing : Scope) (graph : List (List ℕ)) (flags : List
   graph_rows reads made partials are =
       sym (length-range_with_len 0 (length made))
       ∙ (sym (ap (λ (files : List ℕ). length files) are.files)
-      ∙ (numbers_long 0 docs ∙ as_many no_files_before graph docs reads))
+      ∙ (numbers_long 0 docs ∙ read_length no_files_before graph docs reads))

@@ -17,7 +17,7 @@ use Rattle.dwz_def_reading.specs.Entries.{RawAttr, RawEntry}
 use Rattle.dwz_def_reading.specs.Exprs.{ExprContext, Expression, FaultInside, Field, Inside, SpellsExpr, SpellsWithin, fields_of, most_inside}
 use Rattle.dwz_def_reading.specs.Exprs.{IsExprFault, IsFaultWithin, IsFieldsFault, IsLaidFault, IsOpFault, bad_expr, bad_operand, unsupported}
 use Rattle.dwz_def_reading.specs.Files.{HasMeaningFaultBy, IsFaultBy, Limits, debug_abbrev, debug_info, limits_after, no_files_before}
-use Rattle.dwz_def_reading.specs.Finished.{FirstBy, FirstFinished, GivenCommon, common_read, common_sup_fault, debug_sup, file_sum_fault, file_sup_fault}
+use Rattle.dwz_def_reading.specs.Finished.{FirstBeside, FirstBy, FirstFinished, GivenCommon, common_read, common_sup_fault, debug_sup, file_sum_fault, file_sup_fault}
 use Rattle.dwz_def_reading.specs.Finished.{has_sup, is_of_common, is_of_file, refusal_of, rule_of_back, rule_of_common, sum_fault, sum_of, sup_fault}
 use Rattle.dwz_def_reading.specs.FirstOf.{OrElse}
 use Rattle.dwz_def_reading.specs.LineTables.{bad_line_table}
@@ -34,6 +34,7 @@ use Rattle.dwz_def_reading.specs.Supplementary.{read_sup}
 use Rattle.dwz_def_reading.specs.Trees.{End, Entry, Forest}
 use Rattle.dwz_def_reading.specs.Units.{CompileUnit, PartialUnit, RawKind, RawUnit, TypeUnit}
 use Rattle.dwz_def_reading.specs.Values.{shape_of}
+use Rattle.dwz_run_files.proofs.FirstFaults.{first_placed as given_placed}
 use Rattle.dwz_run_files.proofs.UnitFaults.{OfSection, same_place, units_placed}
 
 -- ---- the ELF file, read in any manner
@@ -288,3 +289,8 @@ finished_placed (Some bytes) files r (inl h) =
 finished_placed (Some bytes) files r (inr h) =
     let read = Some (common_read files bytes h.0) in
     first_placed (rule_of_back read) (back_sup_placed read) (limits_after no_files_before bytes h.0) 0 files r h.3
+
+-- and of files by themselves behind such a common file
+pub beside_placed : (bytes : List ℕ) (files : List (List ℕ)) (r : Refusal) → FirstBeside bytes files r → r.section ≤ 9
+beside_placed bytes files r (inl h) = refusal_placed (rule_of_common (length files)) common_sup_placed no_files_before (length files) bytes r h
+beside_placed bytes files r (inr h) = given_placed (limits_after no_files_before bytes h.0) 0 files r h.3

@@ -7,6 +7,7 @@ pub mod ExpandedAfter
 pub mod OneExpanded
 pub mod CommonName
 pub mod HeldAfter
+pub mod ReusedAfter
 pub mod ChangedFiles
 pub mod Outputs
 pub mod AllDone
@@ -16,3 +17,4 @@ pub mod Causes
 pub mod Answered
 pub mod Demonstrated
 pub mod ComparedAgain
+pub mod FilesReused

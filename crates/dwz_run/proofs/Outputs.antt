@@ -1,5 +1,5 @@
 -- What came of a run that did all is what is put of its FILEs, or of the two files of a demonstration, of which nothing is put, or the text on two
--- entries, or one FILE without its partial units, or the line on two files that were compared.
+-- entries, or one FILE without its partial units, or FILEs over a finished common file, or the line on two files that were compared.
 use Rattle.std.proofs.Common.{◌≡◌, ◌⊎◌, ℕ, Bool, true, false, List, [], ◌∷◌, ◌++◌, length, Option, Some, None, unwrap_or, refl, sym, ap, subst, ◌∙◌, inl, inr, append-nil}
 use Rattle.std.specs.Prelude.{◌&&◌, IfSome, if◌then◌else◌}
 use Rattle.dwz_def_reading.specs.Documents.{Doc}
@@ -15,7 +15,7 @@ use Rattle.dwz_outside.specs.Told.{FilesSeen}
 use Rattle.dwz_words.specs.declared.options.Options.{Options}
 use Rattle.dwz_words.specs.Asked.{names_got}
 use Rattle.dwz_words.specs.Lawful.{Lawful}
-use Rattle.dwz_words.proofs.Fits.{with_check, with_expand, with_explain}
+use Rattle.dwz_words.proofs.Fits.{with_check, with_expand, with_explain, with_reuse}
 use Rattle.dwz_run_course.specs.declared.output.Output.{Output}
 use Rattle.dwz_run_course.specs.Demo.{asked_by, demo_options}
 use Rattle.dwz_run_course.specs.Ends.{AreContents, Came, done_text, puts_unless_demo, slimmed_text}
@@ -24,17 +24,22 @@ use Rattle.dwz_run_course.specs.Outcome.{writes}
 use Rattle.dwz_gen.specs.Demo.{demo_files}
 use Rattle.dwz_def_run.specs.Compares.{Compares, answer_on, common_in, tells_apart, two_in}
 use Rattle.dwz_def_run.specs.Expands.{Expands, output_with, summary_with}
-use Rattle.dwz_def_run.specs.Out.{Out, OutBy, Slims, output_of, summary_of, sup_name, top_scope_of}
+use Rattle.dwz_def_run.specs.Out.{OutBy, Slims, output_of, summary_of, sup_name, top_scope_of}
 use Rattle.dwz_def_run.specs.Tells.{IsTold, TellsWhy, answer_of}
 use Rattle.dwz_def_output.proofs.AllMade.{common_tied, file_tied, read_back}
 use Rattle.dwz_def_run.proofs.Gotten.{are_held, got_files}
 use Rattle.dwz_def_expanded.specs.NewFile.{expanded_bytes}
+use Rattle.dwz_def_run_over.specs.Comes.{Comes, ComesBy, reusing}
+use Rattle.dwz_def_run_over.specs.Reuses.{Reuses, summary_over}
+use Rattle.dwz_def_over.specs.Over.{run_over}
 use Rattle.dwz_run.specs.Expanding.{AsksToExpand, HasOneOutput, new_put, said_of_one}
 use Rattle.dwz_run.specs.Laws.{AsksForAnswer, AsksForDemo, AsksForFiles, AsksToCompare, HasOutput, HoldAfter, IsDemoText, puts_in, run_in, said}
+use Rattle.dwz_run.specs.Reusing.{AsksToReuse, HasOverOutput, puts_of_over, said_over}
 use Rattle.dwz_run.proofs.HeldAfter.{hold_after}
 use Rattle.dwz_run.proofs.CommonName.{demo_named, named_well}
 use Rattle.dwz_run.proofs.OfBytes.{each_bytes}
 use Rattle.dwz_run.proofs.ExpandedAfter.{means_after, reads_after}
+use Rattle.dwz_run.proofs.ReusedAfter.{back_over, ties_over}
 
 -- ---- what comes of bytes reads back, and is tied to its common file
 
@@ -105,9 +110,20 @@ pub record OfExpanded (words : List (List ℕ)) (store : Store) (o : Options) (o
   pub text_is : done_text o out ≡ said_of_one asks.options has.file.file.bytes (expanded_bytes has.file)
   pub same : out.differs ≡ false
 
+-- FILEs were to be written over a finished common file, and of what came those are put, and their lines are said
+pub record OfReused (words : List (List ℕ)) (store : Store) (o : Options) (out : Output) : Type 0 where
+  pub asks : AsksToReuse words store
+  pub has : HasOverOutput asks
+  pub puts_are : puts_unless_demo o.demo out ≡ puts_of_over has
+  pub text_is : done_text o out ≡ said_over asks.options has.files
+  pub same : out.differs ≡ false
+
 abbrev pub Came_to : List (List ℕ) → Store → Options → Output → Type 0
 Came_to words store o out =
-    OfFiles words store o out ⊎ (OfDemo words o out ⊎ (OfAnswer words store o out ⊎ (OfExpanded words store o out ⊎ OfCompared words store o out)))
+    OfFiles words store o out
+    ⊎ (OfDemo words o out
+    ⊎ (OfAnswer words store o out
+    ⊎ (OfExpanded words store o out ⊎ (OfReused words store o out ⊎ OfCompared words store o out))))
 
 -- what is said of files that were slimmed, by the number of units of a demonstration
 abbrev slimmed_said : Options → {p : Options} {contents : List (List ℕ)} → HasOutput p contents → Option ℕ → List ℕ
@@ -127,9 +143,9 @@ module _ (words : List (List ℕ)) (old : FilesSeen) (store : Store) (told : old
   pub got_of : (names contents : List (List ℕ)) → IfSome old.held (λ s. gets s 0 names ≡ Some contents) → gets store 0 names ≡ Some contents
   got_of names contents is = subst (λ (h : Option Store). IfSome h (λ s. gets s 0 names ≡ Some contents)) told is
 
-  of_files : (o : Options) (contents : List (List ℕ)) (out : Output) → Lawful words o → o.demo ≡ None → o.explain ≡ false → o.check ≡ false → o.expand ≡ false
+  of_files : (o : Options) (contents : List (List ℕ)) (out : Output) → Lawful words o → o.demo ≡ None → o.explain ≡ false → o.check ≡ false → o.expand ≡ false → o.reuse ≡ None
       → gets store 0 (names_got o) ≡ Some contents → AreOfBytes contents → Slims o contents (writes out) → OfFiles words store o out
-  of_files o contents out lawful no_demo slims no_check no_expand got bytes given =
+  of_files o contents out lawful no_demo slims no_check no_expand no_reuse got bytes given =
       let g = given_of o contents out (named_well o lawful.fit) bytes given in
       record {
         asks = record {
@@ -139,8 +155,9 @@ module _ (words : List (List ℕ)) (old : FilesSeen) (store : Store) (told : old
           slims = slims;
           no_check = no_check;
           no_expand = no_expand;
+          no_reuse = no_reuse;
           contents = contents;
-          got = subst (λ (names : List (List ℕ)). gets store 0 names ≡ Some contents) (got_files o lawful.fit slims no_check no_expand) got;
+          got = subst (λ (names : List (List ℕ)). gets store 0 names ≡ Some contents) (got_files o lawful.fit slims no_check no_expand no_reuse) got;
         };
         has = g.has;
         puts_are = ap (λ (d : Option ℕ). puts_unless_demo d out) no_demo ∙ ap (λ (x : Output). x.puts) g.is;
@@ -208,7 +225,27 @@ module _ (words : List (List ℕ)) (old : FilesSeen) (store : Store) (told : old
         same = ap (λ (x : Output). x.differs) is;
       }
 
-  pub outputs : (out : Output) (came : Came demo_files Out words old (writes out))
+  of_reused : (o : Options) (contents : List (List ℕ)) (out : Output) → Lawful words o → (common : List ℕ) → o.reuse ≡ Some common
+      → gets store 0 (names_got o) ≡ Some contents → AreOfBytes contents → Reuses (reusing o) contents (writes out) → OfReused words store o out
+  of_reused o contents out lawful common reuses got bytes given =
+      let no_demo = (with_reuse o lawful.fit common reuses).2 in
+      let x = given.0 in
+      record {
+        asks = record { options = o; lawful = lawful; common = common; reuses = reuses; contents = contents; got = got };
+        has = record {
+          files = x;
+          contents = given.1;
+          can = given.2;
+          back = back_over o lawful.fit common reuses contents x given.1 given.2 bytes;
+          tied = ties_over o lawful.fit common reuses contents x given.1 given.2 bytes;
+        };
+        puts_are = ap (λ (d : Option ℕ). puts_unless_demo d out) no_demo ∙ ap (λ (y : Output). y.puts) given.3;
+        text_is = ap (done_text o) given.3
+            ∙ ap (λ (d : Option ℕ). if o.quiet then [] else slimmed_text d (summary_over (reusing o) x) (length (run_over x).move.parts)) no_demo;
+        same = ap (λ (y : Output). y.differs) given.3;
+      }
+
+  pub outputs : (out : Output) (came : Came demo_files Comes words old (writes out))
       → Came_to words store came.options out
   outputs out came = by came.options.demo refl came.are came.given where
     o : Options
@@ -217,14 +254,23 @@ module _ (words : List (List ℕ)) (old : FilesSeen) (store : Store) (told : old
     contents : List (List ℕ)
     contents = came.contents
 
-    undemonstrated : (b c d : Bool) → o.explain ≡ b → o.check ≡ c → o.expand ≡ d → o.demo ≡ None → gets store 0 (names_got o) ≡ Some contents
+    undemonstrated : (b c d : Bool) → o.explain ≡ b → o.check ≡ c → o.expand ≡ d → o.reuse ≡ None → o.demo ≡ None → gets store 0 (names_got o) ≡ Some contents
         → OutBy b c d o contents (writes out) → Came_to words store o out
-    undemonstrated false false false slims none no_expand no_demo got given = inl (of_files o contents out came.lawful no_demo slims none no_expand got came.bytes given)
-    undemonstrated false false true none no_check expands no_demo got given = inr (inr (inr (inl (of_expanded o contents out came.lawful expands got came.bytes given))))
-    undemonstrated false true d none compares any no_demo got given = inr (inr (inr (inr (of_compared o contents out came.lawful compares got given))))
-    undemonstrated true c d tells is any no_demo got given = inr (inr (inl (of_answer o contents out came.lawful tells got given)))
+    undemonstrated false false false slims none no_expand no_reuse no_demo got given =
+        inl (of_files o contents out came.lawful no_demo slims none no_expand no_reuse got came.bytes given)
+    undemonstrated false false true none no_check expands no_reuse no_demo got given =
+        inr (inr (inr (inl (of_expanded o contents out came.lawful expands got came.bytes given))))
+    undemonstrated false true d none compares any no_reuse no_demo got given =
+        inr (inr (inr (inr (inr (of_compared o contents out came.lawful compares got given)))))
+    undemonstrated true c d tells is any no_reuse no_demo got given = inr (inr (inl (of_answer o contents out came.lawful tells got given)))
 
-    by : (d : Option ℕ) → o.demo ≡ d → AreContents demo_files d old (names_got o) contents → Out (asked_by d o) contents (writes out)
+    either : (reuse : Option (List ℕ)) → o.reuse ≡ reuse → o.demo ≡ None → gets store 0 (names_got o) ≡ Some contents
+        → ComesBy reuse o contents (writes out) → Came_to words store o out
+    either None no_reuse no_demo got given = undemonstrated o.explain o.check o.expand refl refl refl no_reuse no_demo got given
+    either (Some common) reuses no_demo got given =
+        inr (inr (inr (inr (inl (of_reused o contents out came.lawful common reuses got came.bytes given)))))
+
+    by : (d : Option ℕ) → o.demo ≡ d → AreContents demo_files d old (names_got o) contents → Comes (asked_by d o) contents (writes out)
         → Came_to words store o out
     by (Some n) e are given =
         let a : AsksForDemo words = record { options = o; lawful = came.lawful; units = n; is_demo = e } in
@@ -234,7 +280,7 @@ module _ (words : List (List ℕ)) (old : FilesSeen) (store : Store) (told : old
           is_text = demo_said_of words a contents out are came.bytes given;
           same = ap (λ (x : Output). x.differs) given.3;
         }))
-    by None e are given = undemonstrated o.explain o.check o.expand refl refl refl e (got_of (names_got o) contents are) given
+    by None e are given = either o.reuse refl e (got_of (names_got o) contents are) given
 
 -- all puts done, the FILEs hold what they have after
 pub output_held : {words : List (List ℕ)} {store : Store} (a : AsksForFiles words store) (out : HasOutput a.options a.contents)

@@ -12,13 +12,15 @@ use Rattle.dwz_run_course.specs.Ends.{Came, Says, puts_unless_demo}
 use Rattle.dwz_run_course.specs.Outcome.{writes}
 use Rattle.dwz_run_course.specs.Puts.{PutsStopped}
 use Rattle.dwz_gen.specs.Demo.{demo_files}
-use Rattle.dwz_def_run.specs.Out.{Out}
 use Rattle.dwz_def_run.proofs.Stopping.{stops}
+use Rattle.dwz_def_run_over.specs.Comes.{Comes}
 use Rattle.dwz_run.specs.Expanding.{StoppedOne, new_put}
 use Rattle.dwz_run.specs.Laws.{AsksForFiles, HasOutput, ReadOn, RunEnds, StoppedAt, puts_in}
+use Rattle.dwz_run.specs.Reusing.{StoppedOver, puts_of_over}
 use Rattle.dwz_run.proofs.AllDone.{with_puts}
 use Rattle.dwz_run.proofs.ChangedFiles.{changed_there}
 use Rattle.dwz_run.proofs.Outputs.{Came_to, outputs}
+use Rattle.dwz_run.proofs.ReusedAfter.{between_over, common_kept}
 
 -- after the first puts each FILE is as it was or as it is made, and either reads by what is known of all files together
 pub read_on : (words : List (List ℕ)) (store : Store) (a : AsksForFiles words store) (out : HasOutput a.options a.contents) (count : ℕ)
@@ -49,11 +51,15 @@ only_fails one (b ∷ before) p after e = absurd (none_fails before p after (tai
   tail_is same = cc
 
 module _ (words : List (List ℕ)) (old new : FilesSeen) (shown shown_new : ConsoleSeen) (store : Store) (told : old.held ≡ Some store) where
-  stopped_at : (out : Output) (came : Came demo_files Out words old (writes out)) (name text : List ℕ)
+  -- one of several puts failed, or the one, or one of those over a finished common file
+  abbrev IsStopped : List ℕ → Type 0
+  IsStopped text = StoppedAt words store old new text ⊎ (StoppedOne words store old new text ⊎ StoppedOver words store old new text)
+
+  stopped_at : (out : Output) (came : Came demo_files Comes words old (writes out)) (name text : List ℕ)
       → PutsStopped old new (puts_unless_demo came.options.demo out) name
-      → text ≡ write_text name → StoppedAt words store old new text ⊎ StoppedOne words store old new text
+      → text ≡ write_text name → IsStopped text
   stopped_at out came name text s is = by (outputs words old store told out came) where
-    by : Came_to words store came.options out → StoppedAt words store old new text ⊎ StoppedOne words store old new text
+    by : Came_to words store came.options out → IsStopped text
     by (inl f) =
         let has = f.has in
         let puts_are : puts_in has ≡ s.before ++ s.failed ∷ s.after = sym f.puts_are ∙ s.puts_are in
@@ -75,16 +81,35 @@ module _ (words : List (List ℕ)) (old new : FilesSeen) (shown shown_new : Cons
     by (inr (inr (inr (inl x)))) =
         let only = only_fails (new_put x.has) s.before s.failed s.after (sym x.puts_are ∙ s.puts_are) in
         let name_is : name ≡ x.has.out = s.name_is ∙ ap (λ (p : Put). p.name) only.1 in
-        inr (record {
+        inr (inl (record {
           asks = x.asks;
           has = x.has;
           fault = subst (FailedWrite old new) name_is s.fault;
           held = with_puts old new store s.before [] told only.0 s.held;
           stored = subst (λ (ps : List Put). StoredWith old new ps) only.0 s.stored;
           text_is = is ∙ ap write_text name_is;
-        })
-    by (inr (inr (inr (inr c)))) = absurd (none_fails s.before s.failed s.after (sym c.puts_are ∙ s.puts_are))
+        }))
+    by (inr (inr (inr (inr (inl x))))) =
+        let o = x.asks.options in
+        let fit = x.asks.lawful.fit in
+        let puts_are : puts_of_over x.has ≡ s.before ++ s.failed ∷ s.after = sym x.puts_are ∙ s.puts_are in
+        let k = length s.before in
+        let first : s.before ≡ take k (puts_of_over x.has) = sym (ap (take k) puts_are ∙ take-append_seam s.before (s.failed ∷ s.after)) in
+        inr (inr (record {
+          asks = x.asks;
+          has = x.has;
+          count = k;
+          failed = s.failed;
+          next = ap (λ (ps : List Put). slice_get ps k) puts_are ∙ next_is s.before s.failed s.after;
+          fault = subst (FailedWrite old new) s.name_is s.fault;
+          held = with_puts old new store s.before (take k (puts_of_over x.has)) told first s.held;
+          stored = subst (λ (ps : List Put). StoredWith old new ps) first s.stored;
+          after = between_over o fit x.asks.common x.asks.reuses x.asks.contents x.has.files x.has.contents x.has.can store x.asks.got k;
+          common = common_kept o fit x.asks.common x.asks.reuses x.asks.contents x.has.files x.has.contents x.has.can store x.asks.got k;
+          text_is = is ∙ ap write_text s.name_is;
+        }))
+    by (inr (inr (inr (inr (inr c))))) = absurd (none_fails s.before s.failed s.after (sym c.puts_are ∙ s.puts_are))
 
   pub all_stopped : RunEnds words old new shown shown_new WriteFault
-      → (text : List ℕ) × (StoppedAt words store old new text ⊎ StoppedOne words store old new text) × Says shown shown_new WriteFault text
+      → (text : List ℕ) × IsStopped text × Says shown shown_new WriteFault text
   all_stopped e = (e.text, stopped_at e.files.0 e.files.1 e.files.2 e.text e.files.3 e.files.4, e.console)

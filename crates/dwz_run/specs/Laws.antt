@@ -34,16 +34,18 @@ use Rattle.dwz_gen.specs.Demo.{demo_files}
 use Rattle.dwz_def_output.specs.FilesAfter.{bytes_after, common_bytes, file_after, has_common}
 use Rattle.dwz_def_output.specs.Laws.{AreTied}
 use Rattle.dwz_def_output.specs.Written.{stored_of}
-use Rattle.dwz_def_run.specs.Out.{IsRefused, IsWritten, Out, all_puts, common_of, rule_of, run_for, summary_of, sup_name, top_scope_of}
+use Rattle.dwz_def_run.specs.Out.{IsRefused, IsWritten, all_puts, common_of, rule_of, run_for, summary_of, sup_name, top_scope_of}
 use Rattle.dwz_def_run.specs.Compares.{common_in, tells_apart, two_in}
 use Rattle.dwz_def_run.specs.Expands.{IsOneRead, one_in}
 use Rattle.dwz_def_run.specs.Stops.{IsMade}
 use Rattle.dwz_def_run.specs.Tells.{IsTold, IsUntold}
+use Rattle.dwz_def_run_over.specs.Comes.{Comes}
 use Rattle.dwz_run.specs.Expanding.{AsksToExpand, DidExpand, StoppedOne}
+use Rattle.dwz_run.specs.Reusing.{AsksToReuse, DidReuse, IsFirstOver, StoppedOver}
 
 -- how a run ends, by its words, by what is told of the files and of the console before and after, and by its status
 abbrev pub RunEnds : List (List ℕ) → FilesSeen → FilesSeen → ConsoleSeen → ConsoleSeen → Status → Type 0
-RunEnds words old new shown shown_new status = Ends demo_files Out words old new shown shown_new status
+RunEnds words old new shown shown_new status = Ends demo_files Comes words old new shown shown_new status
 
 -- ---- what is asked for
 
@@ -55,6 +57,7 @@ pub record AsksForFiles (words : List (List ℕ)) (store : Store) : Type 0 where
   pub slims : options.explain ≡ false
   pub no_check : options.check ≡ false
   pub no_expand : options.expand ≡ false
+  pub no_reuse : options.reuse ≡ None
   pub contents : List (List ℕ)
   pub got : gets store 0 options.files ≡ Some contents
 
@@ -88,6 +91,7 @@ pub data Asks (words : List (List ℕ)) (store : Store) : Type 0 where
   for_answer : AsksForAnswer words store → Asks words store
   to_compare : AsksToCompare words store → Asks words store
   to_expand : AsksToExpand words store → Asks words store
+  to_reuse : AsksToReuse words store → Asks words store
 
 -- the options of the work: for a demonstration, those by which its two files are given a common one
 abbrev pub work_options : {words : List (List ℕ)} {store : Store} → Asks words store → Options
@@ -96,6 +100,7 @@ work_options (for_demo a) = demo_options a.options
 work_options (for_answer a) = a.options
 work_options (to_compare a) = a.options
 work_options (to_expand a) = a.options
+work_options (to_reuse a) = a.options
 
 -- the contents of the files that are worked on
 abbrev pub work_contents : {words : List (List ℕ)} {store : Store} → Asks words store → List (List ℕ)
@@ -104,6 +109,7 @@ work_contents (for_demo a) = demo_files a.units
 work_contents (for_answer a) = a.contents
 work_contents (to_compare a) = a.contents
 work_contents (to_expand a) = a.contents
+work_contents (to_reuse a) = a.contents
 
 -- ---- what comes of it
 
@@ -194,15 +200,15 @@ pub record DidCompare (words : List (List ℕ)) (store : Store) (old new : Files
 abbrev pub Did : List (List ℕ) → Store → FilesSeen → FilesSeen → List ℕ → Type 0
 Did words store old new text =
     DidAll words store old new text
-    ⊎ (DidDemo words store old new text
-    ⊎ (DidTell words store old new text ⊎ (DidExpand words store old new text ⊎ DidCompare words store old new text Yes)))
+    ⊎ (DidDemo words store old new text ⊎ (DidTell words store old new text
+    ⊎ (DidExpand words store old new text ⊎ (DidReuse words store old new text ⊎ DidCompare words store old new text Yes))))
 
 -- two files were compared, and what is said of them is by what they differ
 abbrev pub FoundApart : List (List ℕ) → Store → FilesSeen → FilesSeen → List ℕ → Type 0
 FoundApart words store old new text = (same : Same) × (tells_apart same ≡ true) × DidCompare words store old new text same
 
--- Where a run answers Done its FILEs were held and read; all is put, and reads back; and its text is written, once. Or it is a
--- demonstration, or it says why two entries aren't shared, or one FILE is put without its partial units, or it says that two files mean the same.
+-- Where a run answers Done its FILEs were held and read; all is put, and reads back; and its text is written, once. Or it is a demonstration, or it
+-- says why two entries aren't shared, or one FILE is put without its partial units, or FILEs over a finished common one, or two files mean the same.
 abbrev pub DoneLaw : Type 0
 DoneLaw =
     (words : List (List ℕ)) (old new : FilesSeen) (shown shown_new : ConsoleSeen) → RunEnds words old new shown shown_new Done
@@ -226,8 +232,8 @@ SilentLaw =
 -- what comes of options and contents is the same for every number of workers
 abbrev pub WorkersLaw : Type 0
 WorkersLaw =
-    (o : Options) (n : ℕ) (contents : List (List ℕ)) (outcome : Outcome) → Out o contents outcome
-    → Out (record o { workers = n }) contents outcome
+    (o : Options) (n : ℕ) (contents : List (List ℕ)) (outcome : Outcome) → Comes o contents outcome
+    → Comes (record o { workers = n }) contents outcome
 
 -- ---- why something else is answered
 
@@ -245,8 +251,7 @@ NothingLaw =
     → RunEnds words old new shown shown_new status
     → PutsNothing status → LeavesPuts old new
 
--- the contents read as documents, and that is the first fault of what comes of them; or the first of the two places at which no top begins
--- that may move
+-- the contents read as documents, and that is the first fault of what comes of them; or the first of two places at which no top begins that may move
 abbrev pub IsRefusedBy : Bool → Options → List (List ℕ) → Refusal → Type 0
 IsRefusedBy false o contents r = (docs : List (Doc ℕ)) × (prunes : List Bool) × IsRefused o contents docs prunes r
 IsRefusedBy true o contents r = (docs : List (Doc ℕ)) × ReadAll no_files_before contents docs × IsUntold o docs r
@@ -261,8 +266,13 @@ IsFirstOf false false true o contents r =
     ⊎ ((f : OneFile) × IsOneRead (common_in o.sup contents) (one_in o.sup contents) f × NewRefusal f r)
 IsFirstOf false false false o contents r = First no_files_before 0 contents r ⊎ IsRefusedBy false o contents r
 
+-- or of files over a finished common file the first of reading them behind that, or of what is written
+abbrev pub IsFirstIn : Option (List ℕ) → Options → List (List ℕ) → Refusal → Type 0
+IsFirstIn None o = IsFirstOf o.explain o.check o.expand o
+IsFirstIn (Some common) o = IsFirstOver o
+
 abbrev pub IsFirstRefusal : Options → List (List ℕ) → Refusal → Type 0
-IsFirstRefusal o = IsFirstOf o.explain o.check o.expand o
+IsFirstRefusal o = IsFirstIn o.reuse o
 
 -- what is asked for is refused with its first fault, which is named, with its file
 pub record WasRefused (words : List (List ℕ)) (store : Store) (text : List ℕ) : Type 0 where
@@ -305,7 +315,7 @@ AnswerLaw =
 abbrev pub CompleteLaw : Type 0
 CompleteLaw =
     (words : List (List ℕ)) (old new : FilesSeen) (shown shown_new : ConsoleSeen) (status : Status)
-    → Complete demo_files Out words old new shown shown_new status → NoneFailed old new shown shown_new
+    → Complete demo_files Comes words old new shown shown_new status → NoneFailed old new shown shown_new
     → (store : Store) → old.held ≡ Some store → (a : Asks words store)
     → ((r : Refusal) → ¬ IsFirstRefusal (work_options a) (work_contents a) r)
     → (status ≡ Done) ⊎ (status ≡ NoMemory) ⊎ ((status ≡ Differs) × ((work_options a).check ≡ true))
@@ -314,7 +324,7 @@ CompleteLaw =
 abbrev pub CompareLaw : Type 0
 CompareLaw =
     (words : List (List ℕ)) (old new : FilesSeen) (shown shown_new : ConsoleSeen) (status : Status)
-    → Complete demo_files Out words old new shown shown_new status → NoneFailed old new shown shown_new
+    → Complete demo_files Comes words old new shown shown_new status → NoneFailed old new shown shown_new
     → (store : Store) → old.held ≡ Some store → (a : AsksToCompare words store) (said : FinishedDocs) (first second : Doc Place)
     → ReadFinished (common_in a.options.sup a.contents) (two_in a.options.sup a.contents) said → said.docs ≡ first ∷ second ∷ []
     → (CrossSame (beside_common said first) (beside_common said second) → (status ≡ Done) ⊎ (status ≡ NoMemory))
@@ -323,7 +333,7 @@ CompareLaw =
 -- Refused, where there is a first refusal
 abbrev pub RefusesLaw : Type 0
 RefusesLaw =
-    (words : List (List ℕ)) (old new : FilesSeen) (status : Status) → Refuses demo_files Out words old new status
+    (words : List (List ℕ)) (old new : FilesSeen) (status : Status) → Refuses demo_files Comes words old new status
     → ¬ (Rose old.read_faults new.read_faults)
     → (store : Store) → old.held ≡ Some store → (a : Asks words store) (r : Refusal) → IsFirstRefusal (work_options a) (work_contents a) r
     → (status ≡ Refused) ⊎ (status ≡ NoMemory)
@@ -361,7 +371,7 @@ abbrev pub StoppedLaw : Type 0
 StoppedLaw =
     (words : List (List ℕ)) (old new : FilesSeen) (shown shown_new : ConsoleSeen) → RunEnds words old new shown shown_new WriteFault
     → (store : Store) → old.held ≡ Some store
-    → (text : List ℕ) × (StoppedAt words store old new text ⊎ StoppedOne words store old new text) × Says shown shown_new WriteFault text
+    → (text : List ℕ) × (StoppedAt words store old new text ⊎ (StoppedOne words store old new text ⊎ StoppedOver words store old new text)) × Says shown shown_new WriteFault text
 
 -- however many puts are done
 abbrev pub PrefixesLaw : Type 0
@@ -385,6 +395,5 @@ DemoEnds a shown shown_new _ = ⊥
 abbrev pub DemoLaw : Type 0
 DemoLaw =
     (words : List (List ℕ)) (old new : FilesSeen) (shown shown_new : ConsoleSeen) (status : Status)
-    → RunEnds words old new shown shown_new status
-    → (a : AsksForDemo words)
+    → RunEnds words old new shown shown_new status → (a : AsksForDemo words)
     → DemoEnds a shown shown_new status × ((store : Store) → old.held ≡ Some store → new.held ≡ Some store)

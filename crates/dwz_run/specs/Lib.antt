@@ -1,4 +1,5 @@
 pub mod NewBytes
 pub mod Expanding
+pub mod Reusing
 pub mod Laws
 pub mod SecondCall

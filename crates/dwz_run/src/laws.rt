@@ -16,7 +16,9 @@ ghost use Rattle.dwz_run.specs.SecondCall.{AgainLaw};
 /// as files that may have been written, they do, and nothing is held otherwise than before. Or they ask with `--expand` for one file
 /// without its partial units: this was held and read, with its common file where that is given; what is put to OUT has copies of what
 /// units imported, reads as a file by itself, but for limits, and means the same, where spaces of partial units fit those of units; and
-/// nothing else is put. Where it answers Differs two files that are compared don't mean the same, and the text says where they part.
+/// nothing else is put. Or they ask with `--reuse` for FILEs over a finished common file: this was held and read, and the FILEs beside it; what
+/// is put of these is put, in order, and nothing else, the common file keeps its bytes, and with it what is written says the same as what was
+/// read, along images, where entries that it has more than once count as one. Where it answers Differs two files that are compared don't mean the same, and the text says where they part.
 /// Where it answers ConsoleFault one of all these is so too, but for the text, which isn't written. What is put and said is the same for
 /// every number of workers.
 pub fn done_laws()
@@ -54,7 +56,7 @@ pub fn second_call_laws()
 
 /// Where a run answers WriteFault, the first puts are done, and the next one failed, whose name is told. Each FILE is as it was, or as it
 /// is made, and then the common file stands; it reads as before. So it is after the first puts, however many. With `--expand` there is one
-/// put: where it failed, nothing is held otherwise than before.
+/// put: where it failed, nothing is held otherwise than before. With `--reuse` the common file keeps its bytes.
 pub fn stop_laws()
     ensures stopped { StoppedLaw }
     ensures prefixes { PrefixesLaw }

@@ -2,7 +2,7 @@
 
 ghost use Rattle.dwz_run_course.specs.Ends.{Complete, Ends, KeepsLastRead, LeavesFiles, Refuses};
 ghost use Rattle.dwz_gen.specs.Demo.{demo_files};
-ghost use Rattle.dwz_def_run.specs.Out.{Out};
+ghost use Rattle.dwz_def_run_over.specs.Comes.{Comes};
 ghost use Rattle.dwz_words.specs.Lawful.{word_bytes};
 
 use crate::work::FileWork;
@@ -30,6 +30,9 @@ use std::thread::Threads;
 /// With `--expand` it gets one file, with `--sup` its common file before it, and puts it to OUT without its partial units, each unit with
 /// copies of what it imports, and without `.debug_sup` (DWARF 5, 3.2.5 and 7.3.6); and says how long it was and is.
 ///
+/// With `--reuse` it gets a finished common file and then FILEs, and puts these over it: what it has is imported from it (DWARF 5, 7.3.6), and
+/// what else a FILE repeats stands once in that. The common file is never put.
+///
 /// What follows of how a run ends is said by laws: where all is done, the FILEs that are put read back as what was read (`done_laws`);
 /// why each other status is answered, and what it leaves (`cause_laws`); which status comes where nothing outside fails
 /// (`answer_laws`); what is held where the puts stop (`stop_laws`); and what a demonstration says (`demo_laws`).
@@ -41,11 +44,11 @@ pub fn run<Rt: Threads + Sync, F: Files, C: Console, G: Gate>(
     console: &mut C,
     gate: &G,
 ) -> Status
-    ensures ends { Ends demo_files Out (word_bytes words.now) (F.told files.old) (F.told files.new) (C.shown console.old)
+    ensures ends { Ends demo_files Comes (word_bytes words.now) (F.told files.old) (F.told files.new) (C.shown console.old)
         (C.shown console.new) result }
-    ensures complete { Complete demo_files Out (word_bytes words.now) (F.told files.old) (F.told files.new) (C.shown console.old)
+    ensures complete { Complete demo_files Comes (word_bytes words.now) (F.told files.old) (F.told files.new) (C.shown console.old)
         (C.shown console.new) result }
-    ensures refuses { Refuses demo_files Out (word_bytes words.now) (F.told files.old) (F.told files.new) result }
+    ensures refuses { Refuses demo_files Comes (word_bytes words.now) (F.told files.old) (F.told files.new) result }
     ensures demo { LeavesFiles (word_bytes words.now) (F.told files.old) (F.told files.new) }
     ensures reads { KeepsLastRead result (F.told files.old) (F.told files.new) }
 {

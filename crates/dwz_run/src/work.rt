@@ -4,8 +4,8 @@
 //! That at most one thing comes is a law of the trait, from which completeness follows.
 
 ghost use Rattle.dwz_gen.specs.Demo.{demo_files};
-ghost use Rattle.dwz_def_run.specs.Out.{Out};
-ghost use Rattle.dwz_def_run.proofs.OneOutcome.{one_outcome};
+ghost use Rattle.dwz_def_run_over.specs.Comes.{Comes};
+ghost use Rattle.dwz_def_run_over.proofs.OneComes.{one_comes};
 
 use dwz_gen::{Two, make};
 use dwz_model::NoMemory;
@@ -19,7 +19,7 @@ pub(crate) struct FileWork;
 impl Work for FileWork {
     ghost makes = { demo_files };
 
-    ghost gives = { Out };
+    ghost gives = { Comes };
 
     fn make(&self, alloc: Global, n: u32) -> Result<Vec<Vec<u8>>, NoMemory> {
         let Two { one, two } = make(alloc, n)?;
@@ -29,5 +29,5 @@ impl Work for FileWork {
         Ok(files)
     }
 
-    ghost one = { one_outcome };
+    ghost one = { one_comes };
 }

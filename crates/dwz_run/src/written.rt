@@ -4,15 +4,18 @@
 //! files or more count as memory that there isn't: so the contract of the work speaks of all options.
 
 ghost use Rattle.std.specs.Prelude.{◌≡◌, ◌<◌, ◌≤◌, ◌^◌, ◌&&◌, not, length, map};
+ghost use Rattle.std.specs.Option.{is_some};
 ghost use Rattle.dwz_run_course.specs.Answers.{IsAnswer};
 ghost use Rattle.dwz_def_reading.specs.Files.{ReadAll, no_files_before};
-ghost use Rattle.dwz_def_run.specs.Out.{Out, Slims, top_scope_of};
+ghost use Rattle.dwz_def_run.specs.Out.{Slims, top_scope_of};
+ghost use Rattle.dwz_def_run_over.specs.Comes.{Comes};
 ghost use Rattle.dwz_def_run.specs.Tells.{TellsWhy};
 ghost use Rattle.dwz_graph.specs.Files.{docs_of};
 ghost use Rattle.dwz_run_files.specs.Rules.{alike_scope};
 
 use crate::compared::compared_files;
 use crate::expanded::expanded_files;
+use crate::reused::reused_files;
 use dwz_explain::explain_places;
 use dwz_gate::Gate;
 use dwz_graph::Graph;
@@ -26,8 +29,8 @@ use dwz_words::{Options, places_asked};
 use std::alloc::Global;
 use std::thread::Threads;
 
-// No run has so many files. A file is numbered by 32 bits.
-const MANY_FILES: usize = 1 << 32;
+/// No run has so many files. A file is numbered by 32 bits.
+pub(crate) const MANY_FILES: usize = 1 << 32;
 
 const MOST_WORKERS: u32 = 64;
 
@@ -50,6 +53,13 @@ fn expands(options: &Options) -> bool
     ensures { result ≡ (options.now.expand && not options.now.explain && not options.now.check) }
 {
     options.expand && !options.explain && !options.check
+}
+
+// Whether files are written over a finished common file.
+fn reuses(options: &Options) -> bool
+    ensures { result ≡ is_some options.now.reuse }
+{
+    options.reuse.is_some()
 }
 
 // Which files share: all of them where a common file is asked for, and else each by itself.
@@ -127,12 +137,15 @@ pub(crate) fn written_files<R: Threads + Sync, G: Gate>(
     contents: &[Vec<u8>],
     gate: &G,
 ) -> Result<Output, GraphErr>
-    ensures { IsAnswer (Out options.now (map (λ c. c.items) contents.now)) result }
+    ensures { IsAnswer (Comes options.now (map (λ c. c.items) contents.now)) result }
 {
     if contents.len() >= MANY_FILES {
         return Err(GraphErr::NoMemory);
     }
     let workers = workers_of(options);
+    if reuses(options) {
+        return reused_files(rt, alloc, options, contents, workers, gate);
+    }
     if compares(options) {
         return compared_files(rt, alloc, options, contents, workers, gate);
     }

@@ -18,6 +18,7 @@ demo_options o = record {
   explain = false;
   check = false;
   expand = false;
+  reuse = None;
   sup = None;
 }
 

@@ -34,6 +34,7 @@ pub(crate) fn demo_options(alloc: Global, options: &Options) -> Result<Options, 
         explain: false,
         check: false,
         expand: false,
+        reuse: None,
         sup: None,
     })
 }

@@ -24,7 +24,7 @@ use crate::telling::done_text;
 use dwz_model::{Blob, GraphErr, Refusal};
 use dwz_outside::{Console, Files};
 use dwz_report::{read_text, refusal_text};
-use dwz_words::{Options, WordsErr, names_got, names_numbered, parse};
+use dwz_words::{Options, WordsErr, common_read, names_got, names_numbered, parse};
 use std::alloc::Global;
 
 /// Does what the words ask for: gets the files that they name (`names_got`), in order, up to the first that fails or is too long; works on
@@ -209,7 +209,7 @@ fn common_name(options: &Options) -> &[u8]
 {
     match &options.common {
         Some(name) => name.as_slice(),
-        None => match &options.sup {
+        None => match common_read(options) {
             Some(name) => name.as_slice(),
             None => b"",
         },

@@ -11,7 +11,7 @@ use Rattle.dwz_encode.specs.Laws.{FileIs}
 use Rattle.dwz_encode.specs.Shown.{unit_count}
 use Rattle.dwz_law_layout.specs.Beside.{Alone}
 use Rattle.dwz_law_layout.specs.Facts.{RunFacts, run}
-use Rattle.dwz_law_layout.specs.Laid.{written_out}
+use Rattle.dwz_law_over.specs.Either.{put_by}
 use Rattle.dwz_run_files.specs.declared.common.CommonTexts.{CommonTexts}
 use Rattle.dwz_run_files.specs.declared.work.LaidRun.{LaidRun}
 use Rattle.dwz_run_files.specs.Common.{HasTexts, bytes_if_some}
@@ -38,7 +38,7 @@ module _ (f : RunFacts Alone) (w : LaidRun) (is : IsWork f w) where
   common_is order m units made =
       let a = all f w is in
       let there : slice_get a.files 0 ≡ Some m = ap (λ (x : AllMade). slice_get x.files 0) (sym is.layout_is) ∙ made in
-      let here = file_here (places (run f)) w.prepared.now.known a.places a.roots 0 (orders_in f w is) a.files (written_out f) (laid f w is)
+      let here = file_here (places (run f)) w.prepared.now.known a.places a.roots 0 (orders_in f w is) a.files (put_by f) (laid f w is)
       0 order m (common_out (run f)) units there refl in
       let count = none_before (orders_in f w is) in
       let first : 0 + unit_count (take 0 (orders_in f w is)) ≡ 0 = omega (arith, count) in

@@ -16,13 +16,13 @@ use Rattle.dwz_layout.specs.declared.known.EntryTable.{EntryTable}
 use Rattle.dwz_layout.specs.declared.known.Row.{Row}
 use Rattle.dwz_layout.specs.declared.known.TextAt.{TextAt}
 use Rattle.dwz_layout.specs.Known.{number_of, row_at}
-use Rattle.dwz_law_layout.specs.Beside.{Alone}
+use Rattle.dwz_law_layout.specs.Beside.{Beside}
 use Rattle.dwz_law_layout.specs.Facts.{AreFacts, RunFacts}
 use Rattle.dwz_law_layout.specs.Listed.{AreListed, AreRows, IsListed, TextsAt}
 
 -- ---- the file that a list of rows is of
 
-record FileAt (f : RunFacts Alone) (files : List File) (indexes : List Index) (starts : List ℕ) (rows : FileRows) (n : ℕ) : Type 0 where
+record FileAt {beside : Beside} (f : RunFacts beside) (files : List File) (indexes : List Index) (starts : List ℕ) (rows : FileRows) (n : ℕ) : Type 0 where
   x : File
   index : Index
   start : ℕ
@@ -32,7 +32,7 @@ record FileAt (f : RunFacts Alone) (files : List File) (indexes : List Index) (s
   start_is : slice_get starts n ≡ Some start
   listed : IsListed f x index start texts rows
 
-file_at : (f : RunFacts Alone) (files : List File) (indexes : List Index) (starts : List ℕ) (texts : List (List TextAt)) (rows : List FileRows)
+file_at : {beside : Beside} (f : RunFacts beside) (files : List File) (indexes : List Index) (starts : List ℕ) (texts : List (List TextAt)) (rows : List FileRows)
     → AreRows f files indexes starts texts rows
     → (n : ℕ) (r : FileRows) → slice_get rows n ≡ Some r → FileAt f files indexes starts r n
 file_at f files indexes starts texts [] h n r e = absurd cc
@@ -71,7 +71,7 @@ file_at f (x ∷ files) (y ∷ indexes) (c ∷ starts) (t ∷ texts) (s ∷ rows
 -- ---- entries
 
 -- the entry is one of a file with this index, whose first entry has that number
-pub record IsEntry (f : RunFacts Alone) (k : EntryTable) (r : Row) : Type 0 where
+pub record IsEntry {beside : Beside} (f : RunFacts beside) (k : EntryTable) (r : Row) : Type 0 where
   pub index : Index
   pub start : ℕ
   pub index_is : slice_get f.indexes r.file ≡ Some index
@@ -80,7 +80,7 @@ pub record IsEntry (f : RunFacts Alone) (k : EntryTable) (r : Row) : Type 0 wher
   pub number : number_of k r ≡ start + r.entry
 
 -- what stands in the lists is such an entry
-pub entry_there : (f : RunFacts Alone) (t : TextsAt) (k : EntryTable) → AreFacts f → AreListed f t k → (r : Row) (x : EntryRow) → row_at k r ≡ Some x
+pub entry_there : {beside : Beside} (f : RunFacts beside) (t : TextsAt) (k : EntryTable) → AreFacts f → AreListed f t k → (r : Row) (x : EntryRow) → row_at k r ≡ Some x
     → IsEntry f k r
 entry_there f t k facts listed r x e = by (slice_get k.files.items r.file) refl e where
   by : (o : Option FileRows) → slice_get k.files.items r.file ≡ o
@@ -103,7 +103,7 @@ entry_there f t k facts listed r x e = by (slice_get k.files.items r.file) refl 
             ∙ ap (λ (w : ℕ). w + r.entry) o.listed.start_is;
       }
 
-pub one_entry : (f : RunFacts Alone) (k : EntryTable) (a b : Row) → IsEntry f k a → IsEntry f k b → number_of k a ≡ number_of k b → a ≡ b
+pub one_entry : {beside : Beside} (f : RunFacts beside) (k : EntryTable) (a b : Row) → IsEntry f k a → IsEntry f k b → number_of k a ≡ number_of k b → a ≡ b
 one_entry f k a b p q same =
     let sums : p.start + a.entry ≡ q.start + b.entry = sym p.number ∙ same ∙ q.number in
     let o = files_apart 0 f.indexes a.file b.file p.index q.index p.start q.start a.entry b.entry p.index_is q.index_is p.start_is

@@ -1,5 +1,5 @@
 -- The flags of what is settled are those of the facts, and so are the numbers of units that are given by them.
-use Rattle.std.proofs.Common.{◌≡◌, ℕ, Bool, false, List, [], length, refl, sym, ap, subst, ◌∙◌}
+use Rattle.std.proofs.Common.{◌≡◌, ℕ, Bool, false, List, [], length, map, refl, sym, ap, subst, ◌∙◌}
 use Rattle.dwz_def_reading.specs.Files.{no_files_before}
 use Rattle.dwz_def_readback.specs.Files.{Stored}
 use Rattle.dwz_graph.specs.declared.file.File.{File}
@@ -8,7 +8,13 @@ use Rattle.dwz_graph.proofs.GraphLemmas.{as_many}
 use Rattle.dwz_layout_order.proofs.FileCounts.{files_many}
 use Rattle.dwz_graph.specs.Index.{Index}
 use Rattle.dwz_layout_numbers.specs.declared.numbers.UnitNumbers.{UnitNumbers}
-use Rattle.dwz_layout_numbers.specs.Owners.{AreUnitNumbers}
+use Rattle.dwz_layout_numbers.specs.Owners.{AreUnitNumbers, move_of}
+use Rattle.dwz_layout_numbers.proofs.PlanMoves.{plan_order, plan_still}
+use Rattle.dwz_def_tops.specs.Spots.{units_of}
+use Rattle.dwz_def_plan.specs.Plan.{partials}
+use Rattle.dwz_def_plan.proofs.StandLemmas.{fair}
+use Rattle.dwz_plan.specs.Shows.{shown_part}
+use Rattle.dwz_plan.proofs.BridgeLemmas.{file_numbers_are}
 use Rattle.dwz_def_images.specs.Units.{changes}
 use Rattle.dwz_layout_order.specs.declared.orders.Settled.{Settled as Lent}
 use Rattle.dwz_law_layout.specs.Settled.{IsSettled}
@@ -27,7 +33,7 @@ use Rattle.dwz_run_files.proofs.WrittenFiles.{flags_many}
 
 -- ---- flags
 
-nothing_stored : Stored
+pub nothing_stored : Stored
 nothing_stored = record { bytes = λ n. []; raw = λ n. []; prunes = λ n. false }
 
 -- some facts of these files
@@ -77,7 +83,13 @@ module _ (contents : List (List ℕ)) (indexes : List Index) (sharing : Scope) (
       let docs = docs_of contents in
       let by : flags ≡ written g = flagged ∙ ap written (sym (facts_same contents indexes sharing p f of)) in
       subst (λ (w : List Bool). AreUnitNumbers (move g) (units g) w n.commons n.parts.items n.olds.items) by
-      (are (rule_by sharing docs) (alike_scope sharing) (alike_is sharing docs) (choice_is sharing docs) planned.plan by)
+      (are (move_of (rule_by sharing docs) docs)
+      (ap (λ (ns : List ℕ). map (shown_part (length docs)) (partials (rule_by sharing docs) (units_of docs) ns)) (file_numbers_are 0 docs)
+      ∙ planned.plan.partials)
+      (plan_order docs (rule_by sharing docs))
+      (plan_still docs (rule_by sharing docs)
+      (fair (alike_scope sharing) (units_of docs) (rule_by sharing docs) (alike_is sharing docs) (choice_is sharing docs)))
+      by)
 
   facts_numbered : (flags : List Bool) (n : UnitNumbers) → flags ≡ written f → AreNumbersOf (docs_of contents) p.plan flags n
       → HasNumbers f n → NumbersOf f

@@ -15,11 +15,11 @@ use Rattle.dwz_graph.specs.Index.{Index}
 use Rattle.dwz_layout_order.specs.Across.{file_units, name_at}
 use Rattle.dwz_layout_order.proofs.FileEntries.{unit_of}
 use Rattle.dwz_layout_order.proofs.ListGets.{part_get}
-use Rattle.dwz_law_layout.specs.Beside.{Alone}
+use Rattle.dwz_law_layout.specs.Beside.{Beside}
 use Rattle.dwz_law_layout.specs.Facts.{AreFacts, HasFile, RunFacts, units}
 use Rattle.dwz_law_layout.proofs.FilesFound.{among_of, nth_at}
 
-pub unit_bases : (f : RunFacts Alone) → AreFacts f → (n : ℕ) (bytes : List ℕ) (x : File) (index : Index) → HasFile f n bytes x index
+pub unit_bases : {beside : Beside} (f : RunFacts beside) → AreFacts f → (n : ℕ) (bytes : List ℕ) (x : File) (index : Index) → HasFile f n bytes x index
     → (j : ℕ) (u : RawUnit) → slice_get (raw_units x.units) j ≡ Some u
     → bases_at (units f) (index.starts.unit + j) ≡ bases_of (scope_of (around_of bytes (raw_units x.units)) u)
 unit_bases f facts n bytes x index h j u is =

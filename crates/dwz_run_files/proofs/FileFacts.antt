@@ -14,7 +14,7 @@ use Rattle.dwz_def_reading.proofs.FileLemmas.{file_agrees}
 use Rattle.dwz_aranges.specs.Views.{any_unit}
 use Rattle.dwz_def_tops.specs.Spots.{EntryName}
 use Rattle.dwz_def_readback.specs.Files.{sources}
-use Rattle.dwz_def_output.specs.Contents.{lists_after, ranges_after}
+use Rattle.dwz_def_output.specs.Contents.{lists_after_by, ranges_after_by}
 use Rattle.dwz_encode_sections.specs.Numbers.{EndIn}
 use Rattle.dwz_encode_sections.specs.Ranges.{AreMoved}
 use Rattle.dwz_encode_sections.proofs.ListLemmas.{all_end}
@@ -24,16 +24,14 @@ use Rattle.dwz_graph.specs.Resolved.{sources_view}
 use Rattle.dwz_graph.specs.declared.file.File.{File}
 use Rattle.dwz_graph.specs.Index.{Index}
 use Rattle.dwz_layout_order.proofs.FilesFew.{all_small}
-use Rattle.dwz_layout_numbers.specs.Images.{IsFile, IsPlanned, entry_count, starts_from, tops_from}
-use Rattle.dwz_layout_numbers.specs.Names.{AreTopEntries}
-use Rattle.dwz_layout_numbers.proofs.WholeLemmas.{top_entries}
-use Rattle.dwz_layout_input.proofs.Fits.{whole}
+use Rattle.dwz_layout_numbers.specs.Images.{IsFile, IsPlanned, entry_count, starts_from}
 use Rattle.dwz_plan.specs.Planned.{Planned}
 use Rattle.dwz_layout.specs.declared.known.EntryTable.{EntryTable}
 use Rattle.dwz_layout.specs.declared.order.UnitItems.{UnitItems}
-use Rattle.dwz_layout.specs.Laid.{AllMade, made_of}
-use Rattle.dwz_law_layout.specs.Beside.{Alone}
-use Rattle.dwz_law_layout.specs.Facts.{AreFacts, RunFacts, docs, every, move, run}
+use Rattle.dwz_layout.specs.Laid.{AllMade}
+use Rattle.dwz_law_layout.specs.Beside.{Beside}
+use Rattle.dwz_law_layout.specs.Facts.{AreFacts, RunFacts, common, every, move, run}
+use Rattle.dwz_law_over.specs.Either.{laid_by}
 use Rattle.dwz_law_layout.proofs.FileEntries.{IsHere, here}
 use Rattle.dwz_run_files.specs.Prepared.{CanLay}
 use Rattle.dwz_encode_operands.specs.NumberLaws.{ArePlaces}
@@ -60,7 +58,7 @@ start_within start (y ∷ indexes) zero x first e g =
 start_within start (y ∷ indexes) (suc n) x first e g =
     let rest = start_within (start + length y.steps) indexes n x first e g in omega (arith, rest)
 
-module _ (f : RunFacts Alone) (w : LaidRun) (m : FileAfter) (is : IsMoved f w m) where
+module _ {beside : Beside} (f : RunFacts beside) (w : LaidRun) (m : FileAfter) (is : IsMoved f w m) where
   abbrev n : ℕ
   n = m.number
 
@@ -121,33 +119,28 @@ module _ (f : RunFacts Alone) (w : LaidRun) (m : FileAfter) (is : IsMoved f w m)
       let within = start_within 0 f.indexes n index m.start is.has.index_is is.start_is in
       let entries = small.entries in omega (arith, within, entries)
 
-  tops : AreTopEntries (docs f) (tops_from 0 f.indexes)
-  tops = top_entries (docs f) f.indexes facts.indexed (whole f.contents f.files facts.kept)
-
   pub stand_ins_many : length plan.stand_ins ≡ length w.tops.now
-  stand_ins_many =
-      is.works.works.ready.fits.stand_ins ∙ sym tops.many ∙ ap (λ (xs : List ℕ). length xs) (sym is.works.tops_are)
+  stand_ins_many = is.works.works.ready.stand_ins ∙ sym is.works.tops_are.many
 
   pub is_planned : IsPlanned (every f) (move f) plan w.tops.now
   is_planned =
-      let theirs : IsPlanned (every f) (move f) f.planned (tops_from 0 f.indexes) = facts.images (tops_from 0 f.indexes) tops in
       subst (λ (p : Planned). IsPlanned (every f) (move f) p w.tops.now) is.works.works.plan_is
-      (subst (λ (ts : List ℕ). IsPlanned (every f) (move f) f.planned ts) (sym is.works.tops_are) theirs)
+      (facts.images w.tops.now is.works.tops_are)
 
   -- ---- places
 
-  pub at_is : w.layout.now.places ≡ (made_of known orders).places
+  pub at_is : w.layout.now.places ≡ (laid_by beside known orders).places
   at_is = ap (λ (a : AllMade). a.places) is.works.layout_is
 
   pub entries_at : ArePlaces f n raw w.layout.now.places
   entries_at =
       subst (ArePlaces f n raw) (sym at_is)
-      (λ e i lt there. entry_places f is.works.works.ready.texts known orders can n is.bytes x index is.has is.moves e i lt there)
+      (λ e i lt there. entry_places beside f is.works.works.ready.texts known orders can n is.bytes x index is.has is.moves e i lt there)
 
   pub units_begin : HaveUnitPlaces f m (unit_places_from m.start w.layout.now.places raw)
   units_begin =
       subst (λ (at : List ℕ). HaveUnitPlaces f m (unit_places_from m.start at raw)) (sym at_is)
-      (λ j lt. unit_begins f is.works.works.ready.texts known orders can n is.bytes x index is.has is.moves m.start is.start_is j lt)
+      (λ j lt. unit_begins beside f is.works.works.ready.texts known orders can n is.bytes x index is.has is.moves m.start is.start_is j lt)
 
   pub file_here : IsHere f known n x index
   file_here = here f is.works.works.ready.texts known facts can.listed n x index is.has.file is.has.index_is
@@ -167,17 +160,17 @@ module _ (f : RunFacts Alone) (w : LaidRun) (m : FileAfter) (is : IsMoved f w m)
 
   module _ (units_at : List ℕ) (begin : HaveUnitPlaces f m units_at) where
     pub lists_are : (out : List ℕ)
-        → ((names : List EntryName) → IsFile (docs f) names index m.start
-        → HasNewNumbers (docs f) (move f) names w.layout.now.places units_at operands x.sections.lists.now out)
-        → out ≡ lists_after (run f) n
+        → ((names : List EntryName) → IsFile (every f) names index m.start
+        → HasNewNumbers (every f) (move f) names w.layout.now.places units_at operands x.sections.lists.now out)
+        → out ≡ lists_after_by (common f) (run f) n
     lists_are out have =
         section_made f facts n is.bytes x index is.has m.start is.start_is w.layout.now.places entries_at units_at begin out
-        (λ names of. subst (λ (s : Sources). HasNewNumbers (docs f)
+        (λ names of. subst (λ (s : Sources). HasNewNumbers (every f)
         (move f) names w.layout.now.places units_at operands s.lists out) same_sources
         (have names of))
 
     pub ranges_are : (new : List ℕ) → length units_at ≡ length raw
-        → AreMoved (map (λ (u : RawUnit). u.at) raw) (map low units_at) x.sections.aranges.now new → new ≡ ranges_after (run f) n
+        → AreMoved (map (λ (u : RawUnit). u.at) raw) (map low units_at) x.sections.aranges.now new → new ≡ ranges_after_by (common f) (run f) n
     ranges_are new many moved =
         let starts = map (λ (u : RawUnit). u.at) raw in
         ranges_moved f facts n is.bytes x index is.has units_at new many begin

@@ -3,14 +3,14 @@ use Rattle.std.proofs.Common.{◌≡◌, ◌+◌, ◌<◌, ℕ, Bool, false, Lis
 use Rattle.dwz_def_reading.proofs.ListFacts.{got_below}
 use Rattle.dwz_layout_order.proofs.FileCounts.{are_many}
 use Rattle.dwz_def_readback.specs.Files.{imports_common}
-use Rattle.dwz_law_layout.specs.Beside.{Alone}
+use Rattle.dwz_law_layout.specs.Beside.{Beside}
 use Rattle.dwz_law_layout.specs.Facts.{RunFacts, docs, move, units}
 use Rattle.dwz_law_layout.proofs.FilesKnown.{flag_is}
 use Rattle.dwz_run_files.specs.declared.work.LaidRun.{LaidRun}
 use Rattle.dwz_run_files.specs.Works.{HasRank, IsWork}
 use Rattle.dwz_run_files.proofs.FileMoved.{facts, read}
 
-pub imports_are : (f : RunFacts Alone) (w : LaidRun) (is : IsWork f w) (n rank : ℕ) → HasRank f n rank
+pub imports_are : {beside : Beside} (f : RunFacts beside) (w : LaidRun) (is : IsWork f w) (n rank : ℕ) → HasRank f n rank
     → get_or w.prepared.now.run.settled.importing.items n false ≡ imports_common (move f) (units f) n
 imports_are f w is n rank has =
     let there = read f w is n rank has in

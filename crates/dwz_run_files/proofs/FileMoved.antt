@@ -6,25 +6,25 @@ use Rattle.dwz_def_reading.proofs.ListFacts.{got_below, got_map, same_got}
 use Rattle.dwz_def_tops.specs.Spots.{EntryName}
 use Rattle.dwz_def_encoding.specs.Placing.{FileOut}
 use Rattle.dwz_def_encoding.specs.Writing.{Numbering}
-use Rattle.dwz_def_readback.specs.Files.{file_out, places}
+use Rattle.dwz_def_readback.specs.Files.{file_out_by}
 use Rattle.dwz_graph.specs.declared.file.File.{File}
 use Rattle.dwz_graph.specs.Files.{HasRead}
 use Rattle.dwz_graph.specs.Index.{Index}
 use Rattle.dwz_layout.specs.declared.known.EntryTable.{EntryTable}
 use Rattle.dwz_layout.specs.declared.order.UnitItems.{UnitItems}
-use Rattle.dwz_layout.specs.Laid.{AllMade, FileMade, file_view, made_of}
+use Rattle.dwz_layout.specs.Laid.{AllMade, FileMade, file_view}
 use Rattle.dwz_encode.specs.Laws.{FileIs, FilesAre}
 use Rattle.dwz_encode.specs.Shown.{unit_count}
-use Rattle.dwz_law_layout.specs.Beside.{Alone}
-use Rattle.dwz_law_layout.specs.Facts.{AreFacts, RunFacts, files_written, run}
-use Rattle.dwz_law_layout.specs.Named.{keys}
+use Rattle.dwz_law_layout.specs.Beside.{Beside}
+use Rattle.dwz_law_layout.specs.Facts.{AreFacts, RunFacts, common, files_written, run}
 use Rattle.dwz_law_layout.specs.Trees.{IsReadFile}
 use Rattle.dwz_law_layout.proofs.PartHomes.{file_read_there}
-use Rattle.dwz_law_layout.specs.Laid.{written_out}
-use Rattle.dwz_law_layout.proofs.SectionsLaid.{run_laid}
+use Rattle.dwz_law_layout.specs.Laid.{places_of}
+use Rattle.dwz_law_over.specs.Either.{first_unit_by, laid_by, put_by}
+use Rattle.dwz_law_over.proofs.Either.{laid_of, many_by}
 use Rattle.dwz_layout_input.proofs.RowSteps.{starts_many}
 use Rattle.dwz_run_files.specs.declared.prepared.PreparedFiles.{PreparedFiles}
-use Rattle.dwz_run_files.proofs.RanksRead.{first_behind, firsts_many, shown_many}
+use Rattle.dwz_run_files.proofs.RanksRead.{first_counted, firsts_many}
 use Rattle.dwz_run_files.specs.declared.moved.FileAfter.{FileAfter}
 use Rattle.dwz_run_files.specs.declared.work.LaidRun.{LaidRun}
 use Rattle.dwz_run_files.specs.Works.{HasRank, IsMoved, IsWork}
@@ -68,7 +68,7 @@ file_here n k at roots first (o ∷ orders) (l ∷ made) (y ∷ files) are (suc 
 
 -- ---- all files
 
-module _ (f : RunFacts Alone) (w : LaidRun) (is : IsWork f w) where
+module _ {beside : Beside} (f : RunFacts beside) (w : LaidRun) (is : IsWork f w) where
   abbrev pub prepared : PreparedFiles
   prepared = w.prepared.now
 
@@ -76,25 +76,25 @@ module _ (f : RunFacts Alone) (w : LaidRun) (is : IsWork f w) where
   orders_in = w.prepared.now.ordered.orders.items
 
   abbrev pub all : AllMade
-  all = made_of w.prepared.now.known w.prepared.now.ordered.orders.items
+  all = laid_by beside w.prepared.now.known w.prepared.now.ordered.orders.items
 
   pub facts : AreFacts f
   facts = is.works.ready.can.facts
 
-  pub many : length orders_in ≡ length (written_out f)
-  many = shown_many (keys f) prepared.known 0 orders_in (written_out f) is.works.ready.can.order.shows
+  pub many : length orders_in ≡ length (put_by f)
+  many = many_by _ f prepared.known orders_in is.works.ready.can.order
 
-  pub laid : FilesAre (places (run f)) prepared.known all.places all.roots 0 orders_in all.files (written_out f)
-  laid = run_laid f prepared.known orders_in facts is.works.ready.can.order
+  pub laid : FilesAre (places_of f) prepared.known all.places all.roots (first_unit_by beside) orders_in all.files (put_by f)
+  laid = laid_of _ f prepared.known orders_in facts is.works.ready.can.order
 
   pub layout_many : length w.layout.now.files ≡ length orders_in
   layout_many =
       ap (λ (a : AllMade). length a.files) is.layout_is
-      ∙ are_long (places (run f)) prepared.known all.places all.roots 0 orders_in all.files (written_out f) laid
+      ∙ are_long (places_of f) prepared.known all.places all.roots (first_unit_by beside) orders_in all.files (put_by f) laid
 
 -- ---- the file at hand
 
-module _ (f : RunFacts Alone) (w : LaidRun) (is : IsWork f w) (n rank : ℕ) (has : HasRank f n rank) where
+module _ {beside : Beside} (f : RunFacts beside) (w : LaidRun) (is : IsWork f w) (n rank : ℕ) (has : HasRank f n rank) where
   abbrev p : PreparedFiles
   p = w.prepared.now
 
@@ -120,19 +120,19 @@ module _ (f : RunFacts Alone) (w : LaidRun) (is : IsWork f w) (n rank : ℕ) (ha
   pub in_orders : suc rank < length orders
   in_orders =
       let below = got_below (files_written f) rank n has.1 in
-      let long = length-map (files_written f) (file_out (run f)) in
+      let long = length-map (files_written f) (file_out_by (common f) (run f)) in
       let all_many = many f w is in omega (arith, below, long, all_many)
 
   pub in_firsts : suc rank < length p.ordered.firsts.items
   in_firsts =
-      let long = firsts_many 0 orders in
+      let long = firsts_many (first_unit_by beside) orders in
       let firsts = ap (λ (xs : List ℕ). length xs) is.works.ready.firsts in omega (arith, long, firsts, in_orders)
 
   pub in_layout : suc rank < length w.layout.now.files
   in_layout = (let long = layout_many f w is in omega (arith, long, in_orders))
 
 -- what was found of it by these numbers is the file of which something moves
-module _ (f : RunFacts Alone) (w : LaidRun) (is : IsWork f w) (rank place : ℕ) (m : FileAfter) (has : HasRank f m.number rank)
+module _ {beside : Beside} (f : RunFacts beside) (w : LaidRun) (is : IsWork f w) (rank place : ℕ) (m : FileAfter) (has : HasRank f m.number rank)
     (behind : place ≡ suc rank) where
   abbrev n : ℕ
   n = m.number
@@ -144,7 +144,7 @@ module _ (f : RunFacts Alone) (w : LaidRun) (is : IsWork f w) (rank place : ℕ)
   files_in = w.prepared.now.ordered.orders.items
 
   abbrev Here : AllMade → ℕ → Type 0
-  Here a first = FileIs (places (run f)) k a.places a.roots first m.units.now (file_view m.laid.now) (file_out (run f) n)
+  Here a first = FileIs (places_of f) k a.places a.roots first m.units.now (file_view m.laid.now) (file_out_by (common f) (run f) n)
 
   pub is_moved : slice_get w.prepared.now.files.now n ≡ Some m.file.now → slice_get w.prepared.now.run.indexes.now n ≡ Some m.index.now
       → slice_get w.starts.now n ≡ Some m.start → slice_get w.prepared.now.ordered.firsts.items place ≡ Some m.first
@@ -158,17 +158,17 @@ module _ (f : RunFacts Alone) (w : LaidRun) (is : IsWork f w) (rank place : ℕ)
       let there : slice_get f.files n ≡ Some m.file.now = ap (λ (xs : List File). slice_get xs n) is.works.files_are ∙ file in
       let index_there : slice_get f.indexes n ≡ Some m.index.now = ap (λ (xs : List Index). slice_get xs n) is.works.indexes_are ∙ index in
       let x_same : r.x ≡ m.file.now = same_got f.files n r.x m.file.now r.has.file there in
-      let a = made_of k files_in in
+      let a = laid_by beside k files_in in
       let made_there : slice_get a.files (suc rank) ≡ Some (file_view m.laid.now) =
       ap (λ (x : AllMade). slice_get x.files (suc rank)) (sym is.layout_is) ∙ laid_at in
-      let out_there : slice_get (written_out f) (suc rank) ≡ Some (file_out (run f) n) =
-      got_map (file_out (run f)) (files_written f) rank n has.1 in
-      let here = file_here (places (run f)) k a.places a.roots 0 files_in a.files (written_out f) (laid f w is)
+      let out_there : slice_get (put_by f) (suc rank) ≡ Some (file_out_by (common f) (run f) n) =
+      got_map (file_out_by (common f) (run f)) (files_written f) rank n has.1 in
+      let here = file_here (places_of f) k a.places a.roots (first_unit_by beside) files_in a.files (put_by f) (laid f w is)
       (suc rank) m.units.now
-      (file_view m.laid.now) (file_out (run f) n) units made_there out_there in
-      let counted = first_behind files_in (suc rank) m.first (ap (λ (xs : List ℕ). slice_get xs (suc rank)) (sym is.works.ready.firsts)
-      ∙ first) in
-      let first_is : 0 + unit_count (take (suc rank) files_in) ≡ m.first = omega (arith, counted) in
+      (file_view m.laid.now) (file_out_by (common f) (run f) n) units made_there out_there in
+      let first_is : first_unit_by beside + unit_count (take (suc rank) files_in) ≡ m.first =
+      sym (first_counted (first_unit_by beside) files_in (suc rank) m.first (ap (λ (xs : List ℕ). slice_get xs (suc rank)) (sym is.works.ready.firsts)
+      ∙ first)) in
       let is_here : Here w.layout.now m.first = subst (λ (x : AllMade). Here x m.first) (sym is.layout_is) (subst (λ
       (i : ℕ). Here a i) first_is here) in
       record {

@@ -13,8 +13,7 @@ use Rattle.dwz_def_images.specs.Units.{out_units}
 use Rattle.dwz_unit.specs.Rows.{EntryRow}
 use Rattle.dwz_def_encoding.specs.Pruned.{known_slots}
 use Rattle.dwz_def_encoding.specs.Pruned as pruning
-use Rattle.dwz_def_readback.specs.Files.{uses_by}
-use Rattle.dwz_def_readback.specs.Files.{sources, uses}
+use Rattle.dwz_def_readback.specs.Files.{sources, uses_by}
 use Rattle.dwz_graph.specs.declared.file.File.{File}
 use Rattle.dwz_graph.specs.Index.{Index}
 use Rattle.dwz_layout.specs.declared.known.ValueCounts.{ValueCounts}
@@ -30,7 +29,7 @@ use Rattle.dwz_law_layout.specs.Fitted.{KnowUnits, KnowsShown}
 use Rattle.dwz_law_layout.specs.Knows.{EachFrom, IsRead, IsText, NewNumbers, Writes, firsts_at, name_attr, texts_in}
 use Rattle.dwz_law_layout.proofs.UnitFits.{same_holder}
 use Rattle.dwz_layout_order.specs.declared.orders.Settled.{Settled}
-use Rattle.dwz_law_layout.specs.Beside.{Alone}
+use Rattle.dwz_law_layout.specs.Beside.{Beside}
 use Rattle.dwz_law_layout.specs.Facts.{HasFile, RunFacts, common, file_read, move, run, units}
 use Rattle.dwz_law_layout.specs.Listed.{TextsAt, entry_row, space_entries}
 use Rattle.dwz_law_layout.specs.Named.{keys}
@@ -58,7 +57,7 @@ each_at P [] i x all e = absurd cc
 each_at P (y ∷ xs) zero x all e = (let same : y ≡ x = cc in subst P same all.0)
 each_at P (y ∷ xs) (suc i) x all e = each_at P xs i x all.1 e
 
-module _ (f : RunFacts Alone) (s : Settled) (t : TextsAt) (k : EntryTable) (orders : List (List UnitItems)) (p : ArePrepared f s t k orders)
+module _ {beside : Beside} (f : RunFacts beside) (s : Settled) (t : TextsAt) (k : EntryTable) (orders : List (List UnitItems)) (p : ArePrepared f s t k orders)
     (stand : StandWhole f k orders)
     (pruned : List (Option PrunedFile)) (m : EntryTable) (h : AreMoved pruned k m) where
   -- ---- the names of spaces
@@ -219,7 +218,7 @@ module _ (f : RunFacts Alone) (s : Settled) (t : TextsAt) (k : EntryTable) (orde
 
   module _ (n rank first : ℕ) (order : List UnitItems) (is : IsOrdered f orders n rank first order) where
     -- all uses are those of the file after
-    uses_same : file_uses (sources (run f) n).strs (sources (run f) n).offsets (order_uses k first order) ≡ uses (run f) n
+    uses_same : file_uses (sources (run f) n).strs (sources (run f) n).offsets (order_uses k first order) ≡ uses_by (common f) (run f) n
     unfolding uses_by
     uses_same =
         let strs = (sources (run f) n).strs in
@@ -232,7 +231,7 @@ module _ (f : RunFacts Alone) (s : Settled) (t : TextsAt) (k : EntryTable) (orde
         → KnowTexts f m (run_numbers f n) n order (out_units (move f) (units f) n)
     file_moves stays old = by (pruned_at pruned n) refl stays where
       known : KnowUnits (keys f) k (file_keyed_forms f n) None first order (out_units (move f) (units f) n)
-      known = units_known f s t k orders p stand n rank first order is
+      known = units_known _ f s t k orders p stand n rank first order is
 
       by : (q : Option PrunedFile) → pruned_at pruned n ≡ q → IsPrunedIf f n (order_uses k first order) q
           → KnowTexts f m (run_numbers f n) n order (out_units (move f) (units f) n)
@@ -243,10 +242,10 @@ module _ (f : RunFacts Alone) (s : Settled) (t : TextsAt) (k : EntryTable) (orde
           let strs = (sources (run f) n).strs in
           let offsets = (sources (run f) n).offsets in
           let all = subst (λ (w : List ℕ). IsPruned strs w pf.strs) uses_same some_stay.1.texts in
-          let among : (x : ℕ) → In x (order_uses k first order) → Contains (uses (run f) n) x =
-          λ x there. in_contains (uses (run f) n) x
+          let among : (x : ℕ) → In x (order_uses k first order) → Contains (uses_by (common f) (run f) n) x =
+          λ x there. in_contains (uses_by (common f) (run f) n) x
           (subst (In x) uses_same (in_left x (order_uses k first order) (pruning.slot_uses strs offsets (known_slots offsets)) there)) in
           subst (λ (b : Bool). KnowTexts f m (numbers_if b (common f) (run f) n) n order (out_units (move f) (units f) n)) (sym some_stay.0)
-          (all_move n first order (Some (new_number strs (uses (run f) n)))
-          (λ j o u found shown texts. unit_moves n first order pf at strs (uses (run f) n) all among j o u found
+          (all_move n first order (Some (new_number strs (uses_by (common f) (run f) n)))
+          (λ j o u found shown texts. unit_moves n first order pf at strs (uses_by (common f) (run f) n) all among j o u found
           (each_at (λ (w : UnitItems). EachText IsNotPooled f k w n) order j o (stand.owned n rank first order is) found) shown texts) known old)

@@ -1,5 +1,5 @@
 -- What is written of a file are entries of its own: of its partial units, and of its old ones.
-use Rattle.std.proofs.Common.{◌≡◌, ℕ, ◌<◌, true, false, List, [], ◌∷◌, length, Some, slice_get, sym, subst}
+use Rattle.std.proofs.Common.{◌≡◌, ℕ, ◌<◌, true, false, List, [], ◌∷◌, length, Some, slice_get, refl, sym, subst}
 use Rattle.dwz_def_reading.proofs.ListFacts.{same_got}
 use Rattle.dwz_def_reading.specs.Documents.{Node}
 use Rattle.dwz_def_reading.specs.Lists.{Each}
@@ -15,7 +15,7 @@ use Rattle.dwz_layout.specs.declared.known.EntryTable.{EntryTable}
 use Rattle.dwz_layout.specs.declared.order.UnitItems.{UnitItems}
 use Rattle.dwz_law_layout.specs.Knows.{IsRead, Writes}
 use Rattle.dwz_encode_common.specs.Placed.{in_common_file}
-use Rattle.dwz_law_layout.specs.Beside.{Alone}
+use Rattle.dwz_law_layout.specs.Beside.{Alone, Beside, Over, Standing}
 use Rattle.dwz_law_layout.specs.Facts.{AreFacts, HasFile, RunFacts, docs, file_read, move, units}
 use Rattle.dwz_law_layout.specs.Listed.{AreListed, TextsAt}
 use Rattle.dwz_law_layout.specs.Settled.{IsSettled}
@@ -59,6 +59,19 @@ module _ (f : RunFacts Alone) (t : TextsAt) (k : EntryTable) (facts : AreFacts f
       (stand_for f facts n bytes y other h t k s listed settled start mine.olds mine.olds_kept)
       (are_shown f facts n bytes y other h t k s listed settled start mine.olds mine.olds_kept at)))
 
-  pub file_own : (order : List UnitItems) → FilePut s (raw_units x.units) (from_index n start index) (next_index index) order
+  pub made_own : (order : List UnitItems) → FilePut s (raw_units x.units) (from_index n start index) (next_index index) order
       → Each (WritesOwn f k n) order
-  file_own order put = each_all f n (λ bytes y other u. ReadOwn f k n bytes y u) order (of_read order put)
+  made_own order put = each_all f n (λ bytes y other u. ReadOwn f k n bytes y u) order (of_read order put)
+
+-- over a common file that stands none of its entries is written
+none_own : (c : Standing) (f : RunFacts (Over c)) (k : EntryTable) (n : ℕ) (order : List UnitItems) → Each (WritesOwn f k n) order
+none_own c f k n [] = tt
+none_own c f k n (o ∷ order) = (λ bytes x index h i r d read writes. refl, none_own c f k n order)
+
+pub file_own : (beside : Beside) (f : RunFacts beside) (t : TextsAt) (k : EntryTable) → AreFacts f → AreListed f t k → (s : Settled) → IsSettled f s
+    → (n : ℕ) (x : File) (index : Index) → slice_get f.files n ≡ Some x → slice_get f.indexes n ≡ Some index → n < length (docs f)
+    → changes (move f) (units f) n ≡ true → (start : ℕ) → slice_get (starts_from 0 f.indexes) n ≡ Some start → (order : List UnitItems)
+    → FilePut s (raw_units x.units) (from_index n start index) (next_index index) order → Each (WritesOwn f k n) order
+file_own Alone f t k facts listed s settled n x index x_is index_is low changed start at order put =
+    made_own f t k facts listed s settled n x index x_is index_is low changed start at order put
+file_own (Over c) f t k facts listed s settled n x index x_is index_is low changed start at order put = none_own c f k n order

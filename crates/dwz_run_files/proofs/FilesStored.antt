@@ -33,7 +33,7 @@ read_so contents files flags are kept prunable =
 -- ---- what is stored of a file
 
 -- the units of the first file, and then those of the others
-raws_step : (l : Limits) (bytes : List ℕ) (contents : List (List ℕ)) (units : List RawUnit) (doc : Doc ℕ)
+pub raws_step : (l : Limits) (bytes : List ℕ) (contents : List (List ℕ)) (units : List RawUnit) (doc : Doc ℕ)
     → file_meaning l bytes ≡ Ok (units, doc) → raws l (bytes ∷ contents) ≡ units ∷ raws (limits_after l bytes units) contents
 unfolding raws
 raws_step l bytes contents units doc e =
@@ -53,7 +53,7 @@ stored_at l (bytes ∷ contents) (suc i) m b raw doc h =
     (r.0, ap (λ (w : List (List RawUnit)). get_or w (suc i) []) (raws_step l bytes contents h.0 h.1 h.2) ∙ r.1)
 
 pub are_stored : StoredLaw
-are_stored f flags kept input number bytes x index h =
+are_stored beside f flags kept input number bytes x index h =
     let r = stored_at no_files_before f.contents number h.read.limits bytes (raw_units x.units) h.read.read.doc h.read.there in
     (ap (λ (s : Stored). s.bytes number) input ∙ r.0, ap (λ (s : Stored). s.raw number) input ∙ r.1)
 
@@ -67,7 +67,7 @@ as_many contents files kept =
 -- ---- a file by its number
 
 pub file_at : FileLaw
-file_at f kept indexed n less =
+file_at beside f kept indexed n less =
     let m = are_many f.contents f.files f.indexes kept indexed in
     let files = m.0 in
     let indexes = m.1 in

@@ -20,7 +20,7 @@ use Rattle.dwz_layout_order.specs.declared.orders.Settled.{Settled}
 use Rattle.dwz_layout_order.specs.Ordered.{FilePut, FilesPut, FirstFile, from_index, next_index}
 use Rattle.dwz_layout.specs.declared.known.EntryTable.{EntryTable}
 use Rattle.dwz_layout.specs.declared.order.UnitItems.{UnitItems}
-use Rattle.dwz_law_layout.specs.Beside.{Alone}
+use Rattle.dwz_law_layout.specs.Beside.{Alone, Beside, Over}
 use Rattle.dwz_law_layout.specs.Facts.{AreFacts, HasFile, RunFacts, docs, files_written, move, units, written}
 use Rattle.dwz_law_layout.specs.Listed.{AreListed, TextsAt}
 use Rattle.dwz_law_layout.specs.Settled.{IsSettled}
@@ -29,6 +29,8 @@ use Rattle.dwz_law_layout.proofs.OldUnits.{units_shown}
 use Rattle.dwz_law_layout.specs.ShownKept.{olds_after}
 use Rattle.dwz_law_layout.specs.ShownParts.{parts_after}
 use Rattle.dwz_law_layout.proofs.FilesKnown.{files_put, flag_is, indexed_long}
+use Rattle.dwz_graph.specs.Files.{AreKept}
+use Rattle.dwz_run_files.specs.Prepared.{AreOrdersBy}
 use Rattle.dwz_run_files.specs.Stood.{FilesUnshared, KnowUnshared, StoodLaw}
 use Rattle.dwz_run_files.proofs.FileOwn.{file_own}
 use Rattle.dwz_run_files.proofs.OldTexts.{olds_texts}
@@ -45,7 +47,7 @@ Others s n start xs is index orders = FilesPut s (suc n) (start + length index.s
 
 -- ---- numbers of files
 
-module _ (f : RunFacts Alone) (t : TextsAt) (k : EntryTable) (facts : AreFacts f) (listed : AreListed f t k) (stand : StandAsRead f t)
+module _ {beside : Beside} (f : RunFacts beside) (t : TextsAt) (k : EntryTable) (facts : AreFacts f) (listed : AreListed f t k) (stand : StandAsRead f t)
     (s : Settled) (settled : IsSettled f s) where
   -- ---- a file
 
@@ -132,15 +134,43 @@ module _ (f : RunFacts Alone) (t : TextsAt) (k : EntryTable) (facts : AreFacts f
           let at = ap (slice_get (starts_from 0 f.indexes)) (sym zero_more) ∙ starts 0 start refl in
           let below : n < length (docs f) = omega (arith, many) in (
             file_texts n o.0 x index h below start at order put.0,
-            file_own f t k facts listed s settled n x index h.file h.index_is below moves start at order put.0,
+            file_own _ f t k facts listed s settled n x index h.file h.index_is below moves start at order put.0,
             rest orders put.1,
           )
       by false moves orders put rest = rest orders put
 
+-- whatever stands beside them, the orders of files come behind a first one
+pub record ArePut (contents : List (List ℕ)) (indexes : List Index) (s : Settled) (orders : List (List UnitItems)) : Type 0 where
+  pub files : List File
+  pub kept : AreKept contents files
+  pub common : List UnitItems
+  pub others : List (List UnitItems)
+  pub orders_are : orders ≡ common ∷ others
+  pub files_put : FilesPut s 0 0 files indexes others
+
+pub orders_put : (beside : Beside) (contents : List (List ℕ)) (indexes : List Index) (s : Settled) (orders : List (List UnitItems))
+    → AreOrdersBy beside contents indexes s orders → ArePut contents indexes s orders
+orders_put Alone contents indexes s orders are = record {
+  files = are.files;
+  kept = are.kept;
+  common = are.common;
+  others = are.others;
+  orders_are = are.orders_are;
+  files_put = are.files_put;
+}
+orders_put (Over c) contents indexes s orders are = record {
+  files = are.files;
+  kept = are.kept;
+  common = [];
+  others = are.others;
+  orders_are = are.orders_are;
+  files_put = are.files_put;
+}
+
 pub stood : StoodLaw
-stood f s t k orders are stand common others same =
+stood beside f s t k orders are stand common others same =
     let facts = are.facts in
-    let put = are.ordered in
+    let put = orders_put beside f.contents f.indexes s orders are.ordered in
     let first : (n : ℕ) → 0 + n ≡ n = λ n. omega arith in
     let long = indexed_long first_starts (docs f) f.indexes facts.indexed.end facts.indexed.are in
     let kept = files_put s no_files_before 0 0 f.contents f.files put.files facts.kept.end put.kept.end facts.kept.are put.kept.are

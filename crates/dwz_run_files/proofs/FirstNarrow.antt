@@ -8,18 +8,18 @@ use Rattle.dwz_def_reading.specs.Meant.{units_meaning}
 use Rattle.dwz_def_reading.specs.NamedLists.{lists_of_units}
 use Rattle.dwz_def_reading.specs.Shared.{ListOperand, operands_in_lists}
 use Rattle.dwz_graph.proofs.TopNameLemmas.{means_units}
-use Rattle.dwz_encode_operands.specs.Narrow.{FirstPlace, after_in, number_by}
+use Rattle.dwz_encode_operands.specs.Narrow.{FirstPlace, after_in_by, number_by}
 use Rattle.dwz_encode_operands.proofs.ListedLemmas.{listed as listed_all}
-use Rattle.dwz_def_readback.specs.Files.{Run}
+use Rattle.dwz_def_readback.specs.Files.{CommonFile, Run}
 use Rattle.dwz_def_output.specs.Contents.{listed}
-use Rattle.dwz_def_output.specs.Refusals.{FirstNarrow, narrow_at, operands_of_units, spoken}
+use Rattle.dwz_def_output.specs.Refusals.{FirstNarrowBy, narrow_at, operands_of_units, spoken}
 use Rattle.dwz_graph.specs.ListRows.{operand_view}
 use Rattle.dwz_graph.specs.Named.{units_refs}
-use Rattle.dwz_law_layout.specs.Beside.{Alone}
-use Rattle.dwz_law_layout.specs.Facts.{RunFacts, run}
+use Rattle.dwz_law_layout.specs.Beside.{Beside}
+use Rattle.dwz_law_layout.specs.Facts.{RunFacts, common, run}
 use Rattle.dwz_encode_operands.specs.NumberLaws.{HaveNewNumbers}
 use Rattle.dwz_encode_operands.proofs.FilePlaces.{numbers_are, starts_after, targets}
-use Rattle.dwz_def_output.specs.NewFiles.{IsFound, NarrowFault}
+use Rattle.dwz_def_output.specs.NewFiles.{IsFound, NarrowFaultBy}
 use Rattle.dwz_run_files.specs.declared.moved.FileAfter.{FileAfter}
 use Rattle.dwz_run_files.specs.declared.work.LaidRun.{LaidRun}
 use Rattle.dwz_run_files.specs.Works.{HaveUnitPlaces, IsMoved}
@@ -29,12 +29,12 @@ map_twice : {X Y Z : Type 0} (g : Y → Z) (h : X → Y) (xs : List X) → map g
 map_twice g h [] = refl
 map_twice g h (v ∷ xs) = ap (λ (zs : List _). g (h v) ∷ zs) (map_twice g h xs)
 
-module _ (f : RunFacts Alone) (w : LaidRun) (m : FileAfter) (is : IsMoved f w m) (units_at : List ℕ) (begin : HaveUnitPlaces f m units_at) where
+module _ {beside : Beside} (f : RunFacts beside) (w : LaidRun) (m : FileAfter) (is : IsMoved f w m) (units_at : List ℕ) (begin : HaveUnitPlaces f m units_at) where
   abbrev n : ℕ
   n = m.number
 
   abbrev after : ℕ → ℕ
-  after = after_in (run f) n
+  after = after_in_by (common f) (run f) n
 
   abbrev us : List RawUnit
   us = raw f w m is
@@ -89,12 +89,12 @@ module _ (f : RunFacts Alone) (w : LaidRun) (m : FileAfter) (is : IsMoved f w m)
 
 -- ---- the fault
 
-module _ (r : Run) (file : ℕ) where
+module _ (k : CommonFile) (r : Run) (file : ℕ) where
   abbrev after_here : ℕ → ℕ
-  after_here = after_in r file
+  after_here = after_in_by k r file
 
   place_found : (section : ℕ) (os : List ListOperand) (at : ℕ) → FirstPlace (number_by after_here) os (Some at)
-      → FirstNarrow r file section os (narrow_at section at)
+      → FirstNarrowBy k r file section os (narrow_at section at)
   place_found section os at h = record {
     operand = h.operand;
     there = h.there;
@@ -104,18 +104,18 @@ module _ (r : Run) (file : ℕ) where
   }
 
   no_place : (section : ℕ) (os : List ListOperand) → FirstPlace (number_by after_here) os None
-      → (f : Fault) → ¬ FirstNarrow r file section os f
+      → (f : Fault) → ¬ FirstNarrowBy k r file section os f
   no_place section os none f h = none h.operand h.there h.narrow
 
   pub found_spoken : (at : ℕ) → FirstPlace (number_by after_here) (spoken r file) (Some at)
-      → IsFound (NarrowFault r file) (Some (narrow_at 1 at))
+      → IsFound (NarrowFaultBy k r file) (Some (narrow_at 1 at))
   found_spoken at h = inl (place_found 1 (spoken r file) at h)
 
   pub found_listed : (at : ℕ) → FirstPlace (number_by after_here) (spoken r file) None
-      → FirstPlace (number_by after_here) (listed r file) (Some at) → IsFound (NarrowFault r file) (Some (narrow_at 7 at))
+      → FirstPlace (number_by after_here) (listed r file) (Some at) → IsFound (NarrowFaultBy k r file) (Some (narrow_at 7 at))
   found_listed at none h = inr (no_place 1 (spoken r file) none, place_found 7 (listed r file) at h)
 
   pub found_none : FirstPlace (number_by after_here) (spoken r file) None → FirstPlace (number_by after_here) (listed r file) None
-      → IsFound (NarrowFault r file) None
+      → IsFound (NarrowFaultBy k r file) None
   found_none none other f (inl has) = no_place 1 (spoken r file) none f has
   found_none none other f (inr has) = no_place 7 (listed r file) other f has.1

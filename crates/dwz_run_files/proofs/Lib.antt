@@ -45,8 +45,15 @@ pub mod EntryPlaces
 pub mod UnitPlaces
 pub mod RunSettled
 pub mod RanksRead
+pub mod FilesTold
 pub mod FactsJoined
 pub mod FilesReady
+pub mod ReadBehind
+pub mod StandingThere
+pub mod StandOver
+pub mod OverSettled
+pub mod OverJoined
+pub mod OverReady
 pub mod SameBytes
 pub mod LowBytes
 pub mod FileMoved
@@ -58,4 +65,5 @@ pub mod SectionsMade
 pub mod FilesMade
 pub mod StepsFound
 pub mod WorksMade
+pub mod WorksOver
 pub mod LanesDealt

@@ -10,8 +10,8 @@ use Rattle.dwz_layout.specs.declared.known.EntryTable.{EntryTable}
 use Rattle.dwz_layout.specs.declared.known.Row.{Row}
 use Rattle.dwz_layout.specs.declared.known.SpaceRow.{SpaceRow}
 use Rattle.dwz_layout.specs.declared.known.TextAt.{TextAt}
-use Rattle.dwz_law_layout.specs.Beside.{Alone}
-use Rattle.dwz_law_layout.specs.Facts.{RunFacts, docs, move}
+use Rattle.dwz_law_layout.specs.Beside.{Beside}
+use Rattle.dwz_law_layout.specs.Facts.{RunFacts, every, move}
 use Rattle.dwz_law_layout.specs.Listed.{AreAllOwners, AreListed, AreRows, IsListed, TextsAt, space_entries, space_rows}
 use Rattle.dwz_layout_input.proofs.TextSteps.{names_many}
 use Rattle.dwz_encode_texts.specs.declared.pruning.PrunedFile.{PrunedFile}
@@ -31,19 +31,19 @@ texts_in k = record {
 
 -- ---- files
 
-row_listed : (f : RunFacts Alone) (x : File) (index : Index) (start : ℕ) (texts : List TextAt) (p : Option PrunedFile) (old new : FileRows)
+row_listed : {beside : Beside} (f : RunFacts beside) (x : File) (index : Index) (start : ℕ) (texts : List TextAt) (p : Option PrunedFile) (old new : FileRows)
     → IsListed f x index start texts old → RowMoved p old new
     → IsListed f x index start (row_texts new) new
 row_listed f x index start texts p old new h moved = record {
   units = (λ i. (moved.units i).now) ∙ h.units;
   start_is = moved.start ∙ h.start_is;
   firsts = λ i b e. ap (λ (w : List ValueCounts). slice_get w i) (λ j. (moved.firsts j).items) ∙ h.firsts i b e;
-  references = λ names is. subst (λ (w : List ℕ). AreImages (docs f) (move f) names x.resolved.refs.items w)
+  references = λ names is. subst (λ (w : List ℕ). AreImages (every f) (move f) names x.resolved.refs.items w)
       (λ j. (sym moved.references j).items) (h.references names is);
   texts_are = refl;
 }
 
-rows_listed : (f : RunFacts Alone) (pruned : List (Option PrunedFile)) (c : ℕ) (files : List File) (indexes : List Index) (starts : List ℕ)
+rows_listed : {beside : Beside} (f : RunFacts beside) (pruned : List (Option PrunedFile)) (c : ℕ) (files : List File) (indexes : List Index) (starts : List ℕ)
     (texts : List (List TextAt)) (rows moved : List FileRows)
     → AreRows f files indexes starts texts rows → RowsMoved pruned c rows moved → AreRows f files indexes starts (map row_texts moved) moved
 rows_listed f pruned c [] [] [] [] [] [] h are = tt
@@ -74,7 +74,7 @@ spaces_listed pruned (r ∷ rows) (t ∷ texts) (c ∷ commons) =
 
 -- ---- all
 
-pub lists_moved : (f : RunFacts Alone) (t : TextsAt) (k : EntryTable) → AreListed f t k → (pruned : List (Option PrunedFile)) (m : EntryTable)
+pub lists_moved : {beside : Beside} (f : RunFacts beside) (t : TextsAt) (k : EntryTable) → AreListed f t k → (pruned : List (Option PrunedFile)) (m : EntryTable)
     → AreMoved pruned k m → AreListed f (texts_in m) m
 lists_moved f t k listed pruned m h =
     let entries = space_entries 0 f.indexes in

@@ -30,7 +30,7 @@ use Rattle.dwz_layout.specs.declared.known.TextAt.{TextAt}
 use Rattle.dwz_layout.specs.declared.order.UnitItems.{UnitItems}
 use Rattle.dwz_layout.specs.Known.{no_space, no_text, space_at, text_at}
 use Rattle.dwz_law_layout.specs.Knows.{EachFrom, IsRead, firsts_at, texts_in}
-use Rattle.dwz_law_layout.specs.Beside.{Alone}
+use Rattle.dwz_law_layout.specs.Beside.{Alone, Beside}
 use Rattle.dwz_law_layout.specs.Facts.{HasFile, RunFacts, file_read, files_written, move, run, units}
 use Rattle.dwz_law_layout.specs.Laid.{FilesTexts, TextsKnown}
 use Rattle.dwz_law_layout.specs.Listed.{AreListed, TextsAt, entry_row, space_entries}
@@ -42,7 +42,7 @@ use Rattle.dwz_encode_texts.specs.Texts.{file_texts, own_text, row_texts, slots_
 use Rattle.dwz_encode_texts.specs.TextLaws.{StandAsRead, unshared}
 use Rattle.dwz_encode_texts.proofs.FileTexts.{has_rows, space_row}
 use Rattle.dwz_run_files.specs.declared.common.WholeLists.{WholeLists}
-use Rattle.dwz_run_files.specs.Common.{HasTexts, AreWhole}
+use Rattle.dwz_run_files.specs.Common.{AreKnown, HasTexts, AreWhole}
 use Rattle.dwz_run_files.specs.Prepared.{ArePrepared}
 use Rattle.dwz_run_files.specs.Stood.{FilesUnshared, KnowUnshared}
 use Rattle.dwz_run_files.specs.Whole.{EachText, IsNotPooled, OwnsNames, PoolsUnit, StandWhole}
@@ -112,7 +112,7 @@ name_own : (offsets : List ℕ) (base : Option ℕ) (o : Option RawAttr) → IsN
 name_own offsets base None is = is
 name_own offsets base (Some a) is = is
 
-module _ (f : RunFacts Alone) (t : TextsAt) (k : EntryTable) (listed : AreListed f t k) (stand : StandAsRead f t) (n : ℕ) where
+module _ {beside : Beside} (f : RunFacts beside) (t : TextsAt) (k : EntryTable) (listed : AreListed f t k) (stand : StandAsRead f t) (n : ℕ) where
   module _ (bytes : List ℕ) (x : File) (index : Index) (has : HasFile f n bytes x index) where
     abbrev raw : List RawUnit
     raw = raw_units x.units
@@ -176,7 +176,7 @@ module _ (f : RunFacts Alone) (s : Settled) (t : TextsAt) (k : EntryTable) (orde
       record {
         known = subst (TextsKnown f k (λ n. None)) (sym are) (
           common_known common others are,
-          files_told f none k (files_written f) others (stood f s t k orders p as_read common others are),
+          files_told f none k (files_written f) others (stood Alone f s t k orders p as_read common others are),
         );
         pooled = λ common others are.
             no_pool f k common (subst (λ (us : List (DwUnit EntryName)). KnowCommon f k common us) none (common_known common others are));
@@ -188,9 +188,6 @@ module _ (f : RunFacts Alone) (s : Settled) (t : TextsAt) (k : EntryTable) (orde
   -- so the lists are those with the texts of the common file, which has none
   pub nothing_shared : (w : WholeLists) → w.known ≡ k → w.common ≡ None → AreWhole f s orders w
   nothing_shared w known common = record {
-    texts = t;
-    prepared = subst (λ (x : EntryTable). ArePrepared f s t x orders) (sym known) p;
-    stand = subst (λ (x : EntryTable). StandWhole f x orders) (sym known) whole;
-    few = run_few _ f none;
+    known = subst (AreKnown f s orders) (sym known) (record { texts = t; prepared = p; stand = whole; few = run_few _ f none });
     common = subst (HasTexts (run f)) (sym common) (none_there f none);
   }

@@ -1,27 +1,23 @@
 -- The counts of units, the plan and the flags are what numbers are made of.
-use Rattle.std.proofs.Common.{◌≡◌, ℕ, ◌+◌, ◌<◌, ◌^◌, Bool, List, length, map, Result, Ok, Err, sym, ap, subst, ◌∙◌, arith}
+use Rattle.std.proofs.Common.{◌≡◌, ℕ, ◌+◌, ◌<◌, ◌^◌, Bool, false, List, [], length, map, Result, Ok, Err, sym, ap, subst, ◌∙◌, arith}
 use Rattle.std.specs.Prelude.{IfOk, sum}
 use Rattle.std.proofs.lemmas.List.{length-map}
 use Rattle.dwz_def_reading.specs.Documents.{Doc}
 use Rattle.dwz_def_reading.specs.Files.{no_files_before}
-use Rattle.dwz_def_tops.specs.Alike.{IsAlike, TopScope}
 use Rattle.dwz_def_tops.specs.Spots.{units_of}
-use Rattle.dwz_def_plan.specs.Homes.{IsChoice, Rule}
+use Rattle.dwz_def_plan.specs.Homes.{Local}
 use Rattle.dwz_def_plan.specs.Moves.{Move}
-use Rattle.dwz_def_plan.specs.Plan.{partials}
-use Rattle.dwz_def_plan.proofs.StandLemmas.{fair}
+use Rattle.dwz_def_images.specs.Units.{changes}
 use Rattle.dwz_graph.specs.declared.file.File.{File}
 use Rattle.dwz_graph.specs.Files.{AreKept, docs_of}
 use Rattle.dwz_graph.proofs.GraphLemmas.{as_many}
 use Rattle.dwz_layout_numbers.specs.declared.numbers.UnitNumbers.{UnitNumbers}
-use Rattle.dwz_layout_numbers.specs.Numbering.{HaveUnits}
-use Rattle.dwz_layout_numbers.specs.Owners.{AreUnitNumbers, move_of}
-use Rattle.dwz_layout_numbers.proofs.PlanMoves.{plan_order, plan_still}
+use Rattle.dwz_layout_numbers.specs.Numbering.{AreInOrder, HaveUnits, parts_at}
+use Rattle.dwz_layout_numbers.specs.Owners.{AreUnitNumbers}
 use Rattle.dwz_plan.specs.declared.plan.Partial.{Partial}
 use Rattle.dwz_plan.specs.Planned.{Planned}
-use Rattle.dwz_plan.specs.Shows.{ShowsPlan, shown_part}
-use Rattle.dwz_plan.proofs.BridgeLemmas.{file_numbers_are}
-use Rattle.dwz_run_files.specs.Numbered.{AreFlagsBy, AreNumbersOf}
+use Rattle.dwz_plan.specs.Shows.{shown_part}
+use Rattle.dwz_run_files.specs.Numbered.{AreFlags, AreNumbersOf}
 use Rattle.dwz_run_files.proofs.UnitCounts.{counts_are, counts_sum, file_count}
 use Rattle.dwz_run_files.proofs.WrittenFiles.{changed_written}
 
@@ -37,15 +33,16 @@ module _ (contents : List (List ℕ)) (files : List File) (kept : AreKept conten
   counts_many =
       ap (λ (w : List ℕ). length w) are ∙ length-map files file_count ∙ as_many no_files_before 0 contents files kept.end kept.are
 
-  have_units : (plan : Planned) (written : List Bool) (rule : Rule) (scope : TopScope) → IsAlike scope (units_of (docs_of contents)) rule.alike
-      → IsChoice (units_of (docs_of contents)) rule → ShowsPlan rule (units_of (docs_of contents)) (length (docs_of contents)) plan
-      → AreFlagsBy rule (docs_of contents) written → HaveUnits (docs_of contents) (move_of rule (docs_of contents)) plan.partials counts written
-  have_units plan written rule scope alike choice shows flags = record {
-    parts_are = ap (λ (files : List ℕ). map (shown_part (length (docs_of contents))) (partials rule (units_of (docs_of contents)) files)) (file_numbers_are 0 (docs_of contents)) ∙ shows.partials;
-    order = plan_order (docs_of contents) rule;
-    still = plan_still (docs_of contents) rule (fair scope (units_of (docs_of contents)) rule alike choice);
+  have_units : (plan : Planned) (written : List Bool) (m : Move) → map (shown_part (length (docs_of contents))) m.parts ≡ plan.partials
+      → AreInOrder m (length (docs_of contents))
+      → ((file : ℕ) → changes m (units_of (docs_of contents)) file ≡ false → parts_at m (Local file) ≡ [])
+      → AreFlags m (docs_of contents) written → HaveUnits (docs_of contents) m plan.partials counts written
+  have_units plan written m parts order still flags = record {
+    parts_are = parts;
+    order = order;
+    still = still;
     counts_are = are ∙ counts_are contents files kept;
-    changed = changed_written rule (docs_of contents) written flags;
+    changed = changed_written m (docs_of contents) written flags;
   }
 
   pub numbers_made : {E : Type 0} (r : Result UnitNumbers E) (plan : Planned) (parts : List Partial) (written : List Bool)
@@ -53,7 +50,7 @@ module _ (contents : List (List ℕ)) (files : List File) (kept : AreKept conten
       → ((docs : List (Doc ℕ)) (m : Move) → HaveUnits docs m parts counts written
       → IfOk r (λ n. AreUnitNumbers m (units_of docs) written n.commons n.parts.items n.olds.items))
       → IfOk r (λ n. AreNumbersOf (docs_of contents) plan written n)
-  numbers_made (Ok n) plan parts written same made = λ rule scope alike choice shows flags. made (docs_of contents) (move_of rule (docs_of contents))
-      (subst (λ (w : List Partial). HaveUnits (docs_of contents) (move_of rule (docs_of contents)) w counts written) (sym same)
-      (have_units plan written rule scope alike choice shows flags))
+  numbers_made (Ok n) plan parts written same made = λ m shown order still flags. made (docs_of contents) m
+      (subst (λ (w : List Partial). HaveUnits (docs_of contents) m w counts written) (sym same)
+      (have_units plan written m shown order still flags))
   numbers_made (Err e) plan parts written same made = tt

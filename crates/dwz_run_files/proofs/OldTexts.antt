@@ -15,7 +15,7 @@ use Rattle.dwz_layout.specs.declared.order.Sort.TheVariants.{Compile as CompileS
 use Rattle.dwz_layout.specs.declared.order.UnitItems.{UnitItems}
 use Rattle.dwz_encode.specs.Shown.{SortShows}
 use Rattle.dwz_law_layout.specs.Knows.{FileRead, ShowsWhole}
-use Rattle.dwz_law_layout.specs.Beside.{Alone}
+use Rattle.dwz_law_layout.specs.Beside.{Beside}
 use Rattle.dwz_law_layout.specs.Facts.{AreFacts, RunFacts, file_read, move, units}
 use Rattle.dwz_law_layout.specs.Listed.{AreListed, TextsAt}
 use Rattle.dwz_law_layout.specs.Named.{keys}
@@ -25,7 +25,7 @@ use Rattle.dwz_run_files.specs.Stood.{KnowUnshared}
 use Rattle.dwz_run_files.proofs.UnitTexts.{Stand, whole_texts}
 
 -- a unit of which all is shown by what was read is not partial
-not_partial : (f : RunFacts Alone) (files : List FileRead) (kind : Kind EntryName) (sort : Sort) (node : Node EntryName) (below : Entries EntryName)
+not_partial : {beside : Beside} (f : RunFacts beside) (files : List FileRead) (kind : Kind EntryName) (sort : Sort) (node : Node EntryName) (below : Entries EntryName)
     → SortShows (keys f) sort kind → ShowsWhole files sort node below → IsPartial kind → ⊥
 not_partial f files Compile sort node below shows whole is = is
 not_partial f files (OfType signature main) sort node below shows whole is = is
@@ -33,7 +33,7 @@ not_partial f files Partial (CompileSort root) node below shows whole is = shows
 not_partial f files Partial (TypeSort root signature main) node below shows whole is = shows
 not_partial f files Partial (PartialSort line) node below shows whole is = whole
 
-module _ (f : RunFacts Alone) (t : TextsAt) (k : EntryTable) (facts : AreFacts f) (listed : AreListed f t k) (stand : StandAsRead f t)
+module _ {beside : Beside} (f : RunFacts beside) (t : TextsAt) (k : EntryTable) (facts : AreFacts f) (listed : AreListed f t k) (stand : StandAsRead f t)
     (n : ℕ) (bytes : List ℕ) (x : File) where
   old_texts : (i : ℕ) (u : FileUnit EntryName) (o : UnitItems) → UnitShown f n bytes x u.unit o.sort
       → Stand f t k facts listed stand n o (kept_unit (move f) (units f) i u)

@@ -21,14 +21,14 @@ use Rattle.dwz_layout_order.specs.declared.orders.Settled.{Settled}
 use Rattle.dwz_layout_order.specs.Ordered.{PartPut, PartsPut, line_given}
 use Rattle.dwz_layout.specs.declared.known.EntryTable.{EntryTable}
 use Rattle.dwz_layout.specs.declared.order.UnitItems.{UnitItems}
-use Rattle.dwz_law_layout.specs.Beside.{Alone}
+use Rattle.dwz_law_layout.specs.Beside.{Beside}
 use Rattle.dwz_law_layout.specs.Facts.{AreFacts, RunFacts, docs, move, units}
 use Rattle.dwz_law_layout.specs.Listed.{AreListed, TextsAt}
 use Rattle.dwz_law_layout.specs.Settled.{IsSettled}
 use Rattle.dwz_law_layout.specs.New.{NewNames}
 use Rattle.dwz_law_layout.proofs.FileSpaces.{new_items}
 use Rattle.dwz_law_layout.specs.ShownParts.{parts_after}
-use Rattle.dwz_law_layout.proofs.PartHomes.{home_moves, home_number}
+use Rattle.dwz_law_layout.proofs.PartHomes.{home_moves, home_number, local_made}
 use Rattle.dwz_encode_texts.specs.TextLaws.{StandAsRead}
 use Rattle.dwz_law_layout.proofs.PartsKnown.{parts_are}
 use Rattle.dwz_run_files.proofs.PartUnits.{entry_bases, space_here, written_here}
@@ -36,7 +36,7 @@ use Rattle.dwz_run_files.proofs.SpaceUnits.{space_of_unit}
 use Rattle.dwz_run_files.specs.Stood.{KnowUnshared}
 use Rattle.dwz_run_files.proofs.UnitTexts.{Stand, unit_texts}
 
-module _ (f : RunFacts Alone) (t : TextsAt) (k : EntryTable) (facts : AreFacts f) (listed : AreListed f t k) (stand : StandAsRead f t)
+module _ {beside : Beside} (f : RunFacts beside) (t : TextsAt) (k : EntryTable) (facts : AreFacts f) (listed : AreListed f t k) (stand : StandAsRead f t)
     (s : Settled) (settled : IsSettled f s) (n : ℕ) where
   abbrev numbers_of : PartialUnit → List ℕ
   numbers_of part = map (λ (y : Top). y.number) part.tops
@@ -56,18 +56,19 @@ module _ (f : RunFacts Alone) (t : TextsAt) (k : EntryTable) (facts : AreFacts f
         settled.rows_are
         (subst (λ (w : List TopSpaces). IsPart s.rows.now w (numbers_of part) o.items) settled.of_tops put.items)
 
-    new : NewNames (units f) part o.items
-    new =
-        new_items (docs f) f.indexes (move f) settled.texts settled.lists facts.indexed spaces p part o.items (facts.goes.made p part nth tt) put_so
+    new : part.home ≡ Local n → NewNames (units f) part o.items
+    new home =
+        new_items (docs f) f.indexes (move f) settled.texts settled.lists facts.indexed spaces p part o.items
+        (facts.goes.made p part nth (local_made f facts n p part nth home)) put_so
 
     part_texts : part.home ≡ Local n → Stand f t k facts listed stand n o (partial_unit (move f) p)
     part_texts home =
         unit_texts f t k facts listed stand n o (partial_unit (move f) p)
         (λ bytes x index h i r d read writes is. entry_bases f t k facts listed n p part nth bytes x index h i r d read
-        (written_here f t k facts listed n p part nth home bytes x index h o (line_given s p) put.sort new i writes))
+        (written_here f t k facts listed n p part nth home bytes x index h o (line_given s p) put.sort (new home) i writes))
         (λ bytes x index h space i r d read has at is. entry_bases f t k facts listed n p part nth bytes x index h i r d read
         (space_of_unit f facts n bytes x index h (first_unit part.tops) space i at
-        (space_here f t k facts listed n p part nth o.items new space has)))
+        (space_here f t k facts listed n p part nth o.items (new home) space has)))
 
   -- ---- all of them
 

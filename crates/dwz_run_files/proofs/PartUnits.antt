@@ -31,14 +31,14 @@ use Rattle.dwz_layout.specs.Entries.{items_slots, row, what_slots}
 use Rattle.dwz_layout.specs.Known.{number_of}
 use Rattle.dwz_encode.specs.Shown.{HasRow, IsRow}
 use Rattle.dwz_law_layout.specs.Knows.{IsRead, Writes}
-use Rattle.dwz_law_layout.specs.Beside.{Alone}
+use Rattle.dwz_law_layout.specs.Beside.{Beside}
 use Rattle.dwz_law_layout.specs.Facts.{AreFacts, HasFile, RunFacts, file_read, move, units}
 use Rattle.dwz_law_layout.specs.Listed.{AreListed, TextsAt}
 use Rattle.dwz_law_layout.specs.Unfitted.{HasChained, NamesChained}
 use Rattle.dwz_law_layout.proofs.LayoutLemmas.{knows_file}
 use Rattle.dwz_law_layout.specs.New.{IsOfNew, NewNames}
 use Rattle.dwz_law_layout.specs.Old.{IsSpaceIn}
-use Rattle.dwz_law_layout.proofs.PartHomes.{top_file}
+use Rattle.dwz_law_layout.proofs.PartHomes.{local_made, top_file}
 use Rattle.dwz_run_files.proofs.FileBases.{unit_bases}
 use Rattle.dwz_run_files.proofs.TopUnits.{top_stands}
 use Rattle.dwz_run_files.proofs.TreeUnits.{AllOfUnit, OfUnit, UnitOrigin, tree_of_unit}
@@ -58,7 +58,7 @@ found_of_unit k n raw first unit i (s ∷ slots) all (inl is) = by s.origin all.
   by (Chained chain space) own is = absurd is
   by (Imported part) own is = absurd is
 
-module _ (f : RunFacts Alone) (t : TextsAt) (k : EntryTable) (facts : AreFacts f) (listed : AreListed f t k) (n p : ℕ) (part : PartialUnit)
+module _ {beside : Beside} (f : RunFacts beside) (t : TextsAt) (k : EntryTable) (facts : AreFacts f) (listed : AreListed f t k) (n p : ℕ) (part : PartialUnit)
     (nth : Nth 0 (move f).parts p part) where
   -- ---- its bases
 
@@ -89,7 +89,7 @@ module _ (f : RunFacts Alone) (t : TextsAt) (k : EntryTable) (facts : AreFacts f
     what_here place depth Root is = absurd is
     what_here place depth Whole is = absurd is
     what_here place depth (ATopOf top) is =
-        let own = (facts.goes.made p part nth tt).tops is.0 is.1 in
+        let own = (facts.goes.made p part nth (local_made f facts n p part nth home)).tops is.0 is.1 in
         let of_file = top_file f facts n p part nth home is.0 is.1 in
         let stands = top_stands f facts t k listed n bytes x index h is.0 own.there of_file in
         let rows = (knows_file f t k facts listed n bytes x index h).rows in

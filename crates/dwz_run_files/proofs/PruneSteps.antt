@@ -19,12 +19,13 @@ use Rattle.dwz_layout_order.proofs.FileCounts.{are_many}
 use Rattle.dwz_layout.specs.declared.known.EntryTable.{EntryTable}
 use Rattle.dwz_layout.specs.declared.order.UnitItems.{UnitItems}
 use Rattle.dwz_encode.specs.Shown.{unit_count}
-use Rattle.dwz_law_layout.specs.Beside.{Alone}
+use Rattle.dwz_law_layout.specs.Beside.{Beside}
 use Rattle.dwz_law_layout.specs.Facts.{RunFacts}
 use Rattle.dwz_law_layout.proofs.FilesFound.{bytes_there, file_there}
 use Rattle.dwz_encode_texts.specs.declared.pruning.PrunedFile.{PrunedFile}
 use Rattle.dwz_encode_texts.specs.PrunedFiles.{IsPrunedFile}
 use Rattle.dwz_encode_texts.specs.Used.{order_uses}
+use Rattle.dwz_law_over.specs.Either.{first_unit_by}
 use Rattle.dwz_run_files.specs.Moved.{ArePruned, IsPrunedIf}
 use Rattle.dwz_run_files.specs.declared.pruned.Written.{Written}
 use Rattle.dwz_run_files.specs.Pruned.{AreFilesWritten, FileKeeps, IsFileOf, KeepsUsed}
@@ -142,13 +143,13 @@ module _ (contents : List (List ℕ)) (k : EntryTable) (w : Written) (prunes : L
 
   -- ---- all files
 
-  pruned_if : (f : RunFacts Alone) (n : ℕ) (bytes uses : List ℕ) (flag : Bool) (o : Option PrunedFile) → f.input.prunes n ≡ flag
+  pruned_if : {beside : Beside} (f : RunFacts beside) (n : ℕ) (bytes uses : List ℕ) (flag : Bool) (o : Option PrunedFile) → f.input.prunes n ≡ flag
       → f.input.bytes n ≡ bytes → KeepsUsed flag bytes uses o → IsPrunedIf f n uses o
   pruned_if f n bytes uses flag None same are h = same ∙ h
   pruned_if f n bytes uses flag (Some p) same are h =
       (same ∙ h.0, subst (λ (b : List ℕ). IsPrunedFile (sources_of b).strs (sources_of b).offsets uses p) (sym are) h.1)
 
-  module _ (f : RunFacts Alone) (a : AreFilesWritten f contents w prunes) (long : length w.ranks.now ≡ length contents) where
+  module _ {beside : Beside} (f : RunFacts beside) (a : AreFilesWritten f contents w prunes) (long : length w.ranks.now ≡ length contents) where
     stored_bytes : (n : ℕ) (bytes : List ℕ) → slice_get contents n ≡ Some bytes → f.input.bytes n ≡ bytes
     stored_bytes n bytes e =
         let many = are_many f.contents f.files f.indexes a.facts.kept a.facts.indexed in
@@ -170,9 +171,9 @@ module _ (contents : List (List ℕ)) (k : EntryTable) (w : Written) (prunes : L
         let many = h.many in
         let bytes = get_there contents n (omega arith) in
         let o = get_there pruned n (omega arith) in
-        let counted = first_got w.orders.now (suc rank) 0 (got_below w.orders.now (suc rank) order is.order_is) in
+        let counted = first_got w.orders.now (suc rank) (first_unit_by beside) (got_below w.orders.now (suc rank) order is.order_is) in
         let from = is.first_is in
-        let count : 0 + unit_count (take (suc rank) w.orders.now) ≡ first = omega arith in
+        let count : first_unit_by beside + unit_count (take (suc rank) w.orders.now) ≡ first = sym from in
         let of_file : IsFileOf contents w n bytes.0 first order = record {
           rank = rank;
           bytes_are = bytes.1;

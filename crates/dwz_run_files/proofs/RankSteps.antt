@@ -9,7 +9,7 @@ use Rattle.dwz_def_reading.specs.Documents.{Doc}
 use Rattle.dwz_def_tops.specs.Spots.{file_numbers}
 use Rattle.dwz_def_tops.proofs.FileNumbers.{numbers_long}
 use Rattle.dwz_def_images.specs.Units.{changes}
-use Rattle.dwz_law_layout.specs.Beside.{Alone}
+use Rattle.dwz_law_layout.specs.Beside.{Beside}
 use Rattle.dwz_law_layout.specs.Facts.{RunFacts, docs, files_written, move, units, written}
 use Rattle.dwz_run_files.specs.Prepared.{AreRanks, IsRank}
 
@@ -178,7 +178,7 @@ number_is s (d ∷ docs) (suc i) n e =
 
 -- ---- the files of a run
 
-module _ (f : RunFacts Alone) where
+module _ {beside : Beside} (f : RunFacts beside) where
   is_rank : (n : ℕ) (o : Option ℕ) → IsRankIn (changes (move f) (units f)) (files_written f) 0 n o → IsRank f n o
   is_rank n None h = h
   is_rank n (Some rank) h =

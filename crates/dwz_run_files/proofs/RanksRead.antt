@@ -5,28 +5,24 @@ use Rattle.std.proofs.lemmas.List.{length-map}
 use Rattle.dwz_def_reading.proofs.ListFacts.{got_below, got_there}
 use Rattle.dwz_def_images.specs.Units.{changes}
 use Rattle.dwz_def_encoding.specs.Placing.{FileOut}
-use Rattle.dwz_def_readback.specs.Files.{file_out}
+use Rattle.dwz_def_readback.specs.Files.{file_out_by}
 use Rattle.dwz_layout_order.proofs.FileCounts.{are_many}
 use Rattle.dwz_layout.specs.declared.known.EntryTable.{EntryTable}
 use Rattle.dwz_layout.specs.declared.order.UnitItems.{UnitItems}
 use Rattle.dwz_encode.specs.Shown.{Keys, ShowFiles, unit_count}
-use Rattle.dwz_law_layout.specs.Beside.{Alone}
-use Rattle.dwz_law_layout.specs.Facts.{AreFacts, RunFacts, files_written, move, run, units}
-use Rattle.dwz_law_layout.specs.Laid.{written_out}
+use Rattle.dwz_law_layout.specs.Beside.{Beside}
+use Rattle.dwz_law_layout.specs.Facts.{AreFacts, RunFacts, common, files_written, move, run, units}
+use Rattle.dwz_law_over.specs.Either.{first_unit_by, put_by}
 use Rattle.dwz_run_files.specs.Prepared.{AreRanks, IsOrdered, IsRank, firsts_from}
 use Rattle.dwz_law_layout.proofs.PartHomes.{file_read_there}
 
 -- the first unit of an order comes behind those of the orders before it
-first_counted : (start : ℕ) (orders : List (List UnitItems)) (i first : ℕ) → slice_get (firsts_from start orders) i ≡ Some first
+pub first_counted : (start : ℕ) (orders : List (List UnitItems)) (i first : ℕ) → slice_get (firsts_from start orders) i ≡ Some first
     → first ≡ start + unit_count (take i orders)
 unfolding firsts_from unit_count
 first_counted start [] i first e = absurd cc
 first_counted start (o ∷ orders) zero first e = (let same : start ≡ first = cc in omega arith)
 first_counted start (o ∷ orders) (suc i) first e = (let rest = first_counted (start + length o) orders i first e in omega arith)
-
-pub first_behind : (orders : List (List UnitItems)) (i first : ℕ) → slice_get (firsts_from 0 orders) i ≡ Some first
-    → first ≡ unit_count (take i orders)
-first_behind orders i first e = let counted = first_counted 0 orders i first e in omega (arith, counted)
 
 -- there are as many of them as orders
 pub firsts_many : (start : ℕ) (orders : List (List UnitItems)) → length (firsts_from start orders) ≡ length orders
@@ -43,12 +39,12 @@ shown_many keys k unit (o ∷ orders) [] h = absurd h
 shown_many keys k unit (o ∷ orders) (x ∷ outs) h = ap suc (shown_many keys k (unit + length o) orders outs h.1)
 
 -- a file that is written has a rank
-pub record HasRank (f : RunFacts Alone) (ranks : List (Option ℕ)) (n : ℕ) : Type 0 where
+pub record HasRank {beside : Beside} (f : RunFacts beside) (ranks : List (Option ℕ)) (n : ℕ) : Type 0 where
   pub rank : ℕ
   pub listed : slice_get ranks n ≡ Some (Some rank)
   pub is : slice_get (files_written f) rank ≡ Some n
 
-pub rank_there : (f : RunFacts Alone) (ranks : List (Option ℕ)) → AreFacts f → AreRanks f ranks → (n : ℕ) → changes (move f) (units f) n ≡ true
+pub rank_there : {beside : Beside} (f : RunFacts beside) (ranks : List (Option ℕ)) → AreFacts f → AreRanks f ranks → (n : ℕ) → changes (move f) (units f) n ≡ true
     → HasRank f ranks n
 rank_there f ranks facts are n moves = by got.0 got.1 (are.each n got.0 got.1) where
   got : (r : Option ℕ) × (slice_get ranks n ≡ Some r)
@@ -65,11 +61,11 @@ rank_there f ranks facts are n moves = by got.0 got.1 (are.each n got.0 got.1) w
   by (Some rank) e is = record { rank = rank; listed = e; is = is.1 }
 
 -- where as many orders are shown as files are written, with the common one, the order of that rank is there
-pub order_there : (f : RunFacts Alone) (orders : List (List UnitItems)) (rank n : ℕ) → length orders ≡ length (written_out f)
-    → slice_get (files_written f) rank ≡ Some n → (order : List UnitItems) × IsOrdered f orders n rank (unit_count (take
-    (suc rank) orders)) order
+pub order_there : {beside : Beside} (f : RunFacts beside) (orders : List (List UnitItems)) (rank n : ℕ) → length orders ≡ length (put_by f)
+    → slice_get (files_written f) rank ≡ Some n
+    → (order : List UnitItems) × IsOrdered f orders n rank (first_unit_by beside + unit_count (take (suc rank) orders)) order
 order_there f orders rank n many is =
     let below = got_below (files_written f) rank n is in
-    let long = length-map (files_written f) (file_out (run f)) in
+    let long = length-map (files_written f) (file_out_by (common f) (run f)) in
     let got = got_there orders (suc rank) (omega (arith, below, long, many)) in
     (got.0, record { file = is; order_is = got.1; first_is = refl })

@@ -1,5 +1,5 @@
 -- Files that were planned and settled, by what was said of each step.
-use Rattle.std.proofs.Common.{[], ◌∙◌, ◌≡◌, ◌≤◌, Bool, Err, IfOk, List, Ok, Result, ℕ, ap, length, map, refl, subst, sym}
+use Rattle.std.proofs.Common.{[], ◌∙◌, ◌≡◌, ◌+◌, ◌≤◌, Bool, Err, IfOk, List, Ok, Result, ℕ, ap, length, map, refl, subst, sym}
 use Rattle.std.specs.Prelude.{All}
 use Rattle.std.proofs.lemmas.List.{length-map}
 use Rattle.dwz_def_tops.specs.Spots.{file_numbers}
@@ -56,7 +56,7 @@ pub run_settled : (contents : List (List ℕ)) (files : List File) (a : SettledR
     → AreKept contents files
     → xs ≡ a.indexes.now → a.settled.scope ≡ sharing → a.settled.planned ≡ p → AreIndexes (docs_of contents) a.indexes.now
     → ArePlanned sharing (docs_of contents) p → Settles contents a xs sharing p → Imports contents a xs sharing p
-    → ((s : Settled) → Lends a.settled s → AreSettled s) → (s : Settled) → Lends a.settled s → IsSettledRun contents a
+    → ((s : Settled) → Lends a.settled s → AreSettled (length contents + 1) s) → (s : Settled) → Lends a.settled s → IsSettledRun contents a
 run_settled contents files a xs sharing p kept indexes scope planned indexed are settles imports fits s lends =
     let settled = settled_so (Settles contents a) a xs sharing p indexes scope planned settles in
     record {

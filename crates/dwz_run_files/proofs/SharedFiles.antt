@@ -10,7 +10,7 @@ use Rattle.dwz_def_images.specs.Units.{out_units}
 use Rattle.dwz_graph.specs.declared.file.File.{File}
 use Rattle.dwz_graph.specs.Index.{Index}
 use Rattle.dwz_layout_order.proofs.FileCounts.{are_many}
-use Rattle.dwz_def_readback.specs.Files.{imports_common, paths, shared_if, texts}
+use Rattle.dwz_def_readback.specs.Files.{imports_common, shared_if, texts_by}
 use Rattle.dwz_layout.specs.declared.known.EntryTable.{EntryTable}
 use Rattle.dwz_layout.specs.declared.known.TextAt.{TextAt}
 use Rattle.dwz_layout.specs.declared.order.UnitItems.{UnitItems}
@@ -21,8 +21,8 @@ use Rattle.dwz_layout.specs.Entries.{items_slots, row}
 use Rattle.dwz_layout.specs.Known.{number_of, space_at}
 use Rattle.dwz_encode.specs.Shown.{HasRow, IsRow}
 use Rattle.dwz_law_layout.specs.Knows.{FileRead, IsText, Writes, name_attr}
-use Rattle.dwz_law_layout.specs.Beside.{Alone}
-use Rattle.dwz_law_layout.specs.Facts.{AreFacts, HasFile, RunFacts, docs, file_read, move, run, units}
+use Rattle.dwz_law_layout.specs.Beside.{Beside}
+use Rattle.dwz_law_layout.specs.Facts.{AreFacts, HasFile, RunFacts, common, docs, file_read, move, run, units}
 use Rattle.dwz_law_layout.specs.Laid.{FilesTexts}
 use Rattle.dwz_law_layout.specs.Listed.{AreListed, TextsAt}
 use Rattle.dwz_law_layout.specs.Unfitted.{KnowTexts, KnowsTextsOf, file_unit_forms}
@@ -30,7 +30,7 @@ use Rattle.dwz_law_layout.proofs.FilesKnown.{flag_is}
 use Rattle.dwz_law_layout.proofs.UnitsKnown.{not_common}
 use Rattle.dwz_encode_texts.specs.TextLaws.{unshared}
 use Rattle.dwz_encode_common.specs.Placed.{shares_in}
-use Rattle.dwz_encode_common.specs.SharedLaws.{HasCommon}
+use Rattle.dwz_encode_common.specs.SharedLaws.{HasTexts, makes_common}
 use Rattle.dwz_encode_common.proofs.SharedEntries.{files_many, names_shared, texts_shared}
 use Rattle.dwz_encode_common.proofs.WithLists.{items_kept, number_kept}
 use Rattle.dwz_run_files.specs.Stood.{FilesUnshared, KnowUnshared, WritesOwn}
@@ -48,16 +48,16 @@ had_row before k number same (s ∷ slots) (inl is) = inl (by s.origin is) where
   by (Chained chain space) is = absurd is
   by (Imported part) is = absurd is
 
-module _ (f : RunFacts Alone) (t : TextsAt) (sharing : List Bool) (before k : EntryTable) (facts : AreFacts f) (listed : AreListed f t before)
-    (has : HasCommon f sharing before k) where
+module _ {beside : Beside} (f : RunFacts beside) (t : TextsAt) (sharing : List Bool) (before k : EntryTable) (facts : AreFacts f) (listed : AreListed f t before)
+    (has : HasTexts f sharing before k) where
   -- what a unit writes it wrote before
   pub wrote : (o : UnitItems) (F : FileRead) (i : ℕ) → Writes k o F i → Writes before o F i
   wrote o F i writes =
       let many = files_many f t sharing before k facts listed has in
-      let number = number_kept f.files (texts (run f)) (paths (run f)) sharing before k has many in
+      let number = number_kept (makes_common beside) f.files (texts_by (common f) (run f)) sharing before k has many in
       let r = row F.number i in
       subst (λ (slots : List Slot). HasRow before (number_of before r) slots)
-      (items_kept f.files (texts (run f)) (paths (run f)) sharing before k has many o.sort o.items)
+      (items_kept (makes_common beside) f.files (texts_by (common f) (run f)) sharing before k has many o.sort o.items)
       (subst (λ (m : ℕ). HasRow before m (items_slots k o.sort o.items)) (number r)
       (had_row before k (number_of k r) number (items_slots k o.sort o.items) writes))
 
@@ -71,12 +71,12 @@ module _ (f : RunFacts Alone) (t : TextsAt) (sharing : List Bool) (before k : En
         ∙ ap (imports_common (move f) (units f)) none
 
     shared_is : (n : ℕ) (u : DwUnit EntryName) (bytes : List ℕ) (x : File) (index : Index) → HasFile f n bytes x index
-        → (file_unit_forms f n u).shared ≡ shared_if (shares_in sharing n) (texts (run f))
+        → (file_unit_forms f n u).shared ≡ shared_if (shares_in sharing n) (texts_by (common f) (run f))
     shared_is n u bytes x index h =
         let many = are_many f.contents f.files f.indexes facts.kept facts.indexed in
         let files = many.0 in
         let below = got_below f.files n x h.file in
-        ap (λ (b : Bool). shared_if b (texts (run f))) (sym (flag n (omega (arith, files, below))))
+        ap (λ (b : Bool). shared_if b (texts_by (common f) (run f))) (sym (flag n (omega (arith, files, below))))
 
     -- ---- a unit
 
@@ -86,12 +86,12 @@ module _ (f : RunFacts Alone) (t : TextsAt) (sharing : List Bool) (before k : En
       entries = λ bytes x index h. record {
         are = λ i r d read writes. (
             let wrote_it = wrote o (file_read f n bytes x) i writes in
-            texts_shared f t sharing before k facts listed has n bytes x index h (file_unit_forms f n u) (not_common u.kind)
+            texts_shared beside f t sharing before k facts listed has n bytes x index h (file_unit_forms f n u) (not_common u.kind)
             (shared_is n u bytes x index h) i r d read (own bytes x index h i r d read wrote_it)
             ((old.entries bytes x index h).are i r d read wrote_it));
       };
       spaces = λ bytes x index h s i r d text chained at read is.
-          names_shared f t sharing before k facts listed has n bytes x index h (file_unit_forms f n u) (not_common u.kind)
+          names_shared beside f t sharing before k facts listed has n bytes x index h (file_unit_forms f n u) (not_common u.kind)
           (shared_is n u bytes x index h) s i r d text at read is
           (subst (λ (w : TextAt). IsText (unshared (file_unit_forms f n u)) None (name_attr (name_of text d)) w)
           (held_in_file u.kind (space_at before s)) (old.spaces bytes x index h s i r d text chained at read is));

@@ -32,7 +32,7 @@ use Rattle.dwz_layout_order.specs.Spaces.{spaces_below, spaces_of, spaces_under}
 use Rattle.dwz_layout_order.proofs.ChainShown.{pairs_append, pairs_at}
 use Rattle.dwz_law_layout.specs.Old.{IsSpaceIn}
 use Rattle.dwz_layout.specs.declared.known.Row.{Row}
-use Rattle.dwz_law_layout.specs.Beside.{Alone}
+use Rattle.dwz_law_layout.specs.Beside.{Beside}
 use Rattle.dwz_law_layout.specs.Facts.{AreFacts, HasFile, RunFacts, docs, units}
 use Rattle.dwz_law_layout.specs.Listed.{entry_row, space_entries}
 use Rattle.dwz_law_layout.proofs.FilesFound.{among_of, file_there, one_file}
@@ -169,11 +169,11 @@ module _ (around : Around ℕ) (name : ℕ → EntryName) (raw : List RawUnit) (
 -- ---- file by file
 
 -- the row is that of an entry of the unit with that number
-abbrev RowInUnit : RunFacts Alone → Row → ℕ → Type 0
+abbrev RowInUnit : {beside : Beside} → RunFacts beside → Row → ℕ → Type 0
 RowInUnit f r unit =
     (bytes : List ℕ) (x : File) (index : Index) → HasFile f r.file bytes x index → OfUnit (raw_units x.units) index.starts.unit unit r.entry
 
-module _ (f : RunFacts Alone) (facts : AreFacts f) where
+module _ {beside : Beside} (f : RunFacts beside) (facts : AreFacts f) where
   -- the spaces of a file, and of files, the first of which has that number
   abbrev Spaces : ℕ → Index → Doc ℕ → Type 0
   Spaces n index doc =

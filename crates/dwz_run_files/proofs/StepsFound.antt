@@ -14,15 +14,15 @@ use Rattle.dwz_def_tops.specs.Spots.{EntryName}
 use Rattle.dwz_def_plan.specs.Moves.{Move}
 use Rattle.dwz_layout_numbers.specs.Images.{IsFile, IsPlanned}
 use Rattle.dwz_layout.specs.declared.known.FileRows.{FileRows}
-use Rattle.dwz_encode_operands.specs.Narrow.{FirstPlace, after_in, number_by}
-use Rattle.dwz_def_output.specs.Contents.{listed, lists_after, ranges_after}
+use Rattle.dwz_encode_operands.specs.Narrow.{FirstPlace, after_in_by, number_by}
+use Rattle.dwz_def_output.specs.Contents.{listed, lists_after_by, ranges_after_by}
 use Rattle.dwz_def_output.specs.Refusals.{operands_of_units, spoken}
 use Rattle.dwz_graph.specs.ListOperand.{ListOperand as OperandOfCode}
 use Rattle.dwz_graph.specs.ListRows.{operand_view}
 use Rattle.dwz_graph.specs.Named.{units_refs}
 use Rattle.dwz_encode_sections.specs.Ranges.{AreMoved}
-use Rattle.dwz_law_layout.specs.Beside.{Alone}
-use Rattle.dwz_law_layout.specs.Facts.{RunFacts, docs, move, run}
+use Rattle.dwz_law_layout.specs.Beside.{Beside}
+use Rattle.dwz_law_layout.specs.Facts.{RunFacts, common, every, move, run}
 use Rattle.dwz_encode_operands.specs.Operands.{AreNewNumbers, HasNewNumbers}
 use Rattle.dwz_run_files.specs.Spots.{unit_places_from}
 use Rattle.dwz_run_files.specs.declared.moved.FileAfter.{FileAfter}
@@ -32,12 +32,12 @@ use Rattle.dwz_run_files.proofs.FileFacts.{file_here, is_planned, lists_are, ope
 use Rattle.dwz_run_files.proofs.FirstNarrow.{begin_after, listed_first, numbers_new, spoken_first, targets_are, units_mean}
 use Rattle.dwz_run_files.proofs.LowBytes.{low}
 
-module _ (f : RunFacts Alone) (w : LaidRun) (m : FileAfter) (is : IsMoved f w m) where
+module _ {beside : Beside} (f : RunFacts beside) (w : LaidRun) (m : FileAfter) (is : IsMoved f w m) where
   abbrev us : List RawUnit
   us = raw f w m is
 
   abbrev after : ℕ → ℕ
-  after = after_in (run f) m.number
+  after = after_in_by (common f) (run f) m.number
 
   -- where units begin
   pub places_found : {E : Type 0} (r : Result (Vec ℕ Global) E) (at : List ℕ) → at ≡ w.layout.now.places
@@ -82,10 +82,10 @@ module _ (f : RunFacts Alone) (w : LaidRun) (m : FileAfter) (is : IsMoved f w m)
         → FirstPlace number (map (operand_view us) ops) first)
         → FirstPlace (number_by after) (listed (run f) m.number) first
     listed_found ops at numbers ns first same places are news finds =
-        let have : (names : List EntryName) → IsFile (docs f) names m.index.now m.start
-        → AreNewNumbers (docs f) (move f) names w.layout.now.places units_at (operands f w m is) numbers =
-        λ names of. subst (λ (ps : List ℕ). AreNewNumbers (docs f) (move f) names ps units_at (operands f w m is) numbers) places
-        (subst (λ (os : List OperandOfCode). AreNewNumbers (docs f) (move f) names at units_at os numbers) same (news (docs f)
+        let have : (names : List EntryName) → IsFile (every f) names m.index.now m.start
+        → AreNewNumbers (every f) (move f) names w.layout.now.places units_at (operands f w m is) numbers =
+        λ names of. subst (λ (ps : List ℕ). AreNewNumbers (every f) (move f) names ps units_at (operands f w m is) numbers) places
+        (subst (λ (os : List OperandOfCode). AreNewNumbers (every f) (move f) names at units_at os numbers) same (news (every f)
         (move f) names (is_planned f w m is) of)) in
         let new = numbers_new f w m is units_at begin numbers have in
         let found = finds us (number_by after) (are ∙ new ∙ ap (λ (os : List OperandOfCode). map (λ o. number_by after
@@ -98,20 +98,20 @@ module _ (f : RunFacts Alone) (w : LaidRun) (m : FileAfter) (is : IsMoved f w m)
         → ((ds : List (Doc ℕ)) (by : Move) (names : List EntryName) → IsPlanned ds by (plan f w m is) w.tops.now
         → IsFile ds names m.index.now m.start
         → IfOk r (λ out. HasNewNumbers ds by names at units_at ops (x f w m is).sections.lists.now out.items))
-        → IfOk r (λ out. out.items ≡ lists_after (run f) m.number)
+        → IfOk r (λ out. out.items ≡ lists_after_by (common f) (run f) m.number)
     lists_found ops at (Ok out) same places news =
         lists_are f w m is units_at begin out.items (λ names of.
-        subst (λ (ps : List ℕ). HasNewNumbers (docs f) (move f) names ps units_at (operands f w m is)
+        subst (λ (ps : List ℕ). HasNewNumbers (every f) (move f) names ps units_at (operands f w m is)
         (x f w m is).sections.lists.now out.items) places
-        (subst (λ (os : List OperandOfCode). HasNewNumbers (docs f) (move f) names at units_at os
+        (subst (λ (os : List OperandOfCode). HasNewNumbers (every f) (move f) names at units_at os
         (x f w m is).sections.lists.now out.items) same
-        (news (docs f) (move f) names (is_planned f w m is) of)))
+        (news (every f) (move f) names (is_planned f w m is) of)))
     lists_found ops at (Err e) same places news = tt
 
     pub ranges_found : {E : Type 0} (starts lows : List ℕ) (r : Result (Vec ℕ Global) E) → length units_at ≡ length us
         → starts ≡ map (λ (u : RawUnit). u.at) us → lows ≡ map low units_at
         → IfOk r (λ out. AreMoved starts lows (x f w m is).sections.aranges.now out.items)
-        → IfOk r (λ out. out.items ≡ ranges_after (run f) m.number)
+        → IfOk r (λ out. out.items ≡ ranges_after_by (common f) (run f) m.number)
     ranges_found starts lows (Ok out) many begins low_is moved =
         ranges_are f w m is units_at begin out.items many
         (subst (λ (ls : List ℕ). AreMoved (map (λ (u : RawUnit). u.at) us) ls (x f w m is).sections.aranges.now out.items) low_is

@@ -22,7 +22,7 @@ use Rattle.dwz_encode_common.proofs.CommonUnits.{know_common}
 use Rattle.dwz_encode_common.proofs.PooledTexts.{pooled_law}
 use Rattle.dwz_run_files.specs.declared.common.CommonTexts.{CommonTexts}
 use Rattle.dwz_run_files.specs.declared.common.WholeLists.{WholeLists}
-use Rattle.dwz_run_files.specs.Common.{AreWhole, HasTexts}
+use Rattle.dwz_run_files.specs.Common.{AreKnown, AreWhole, HasTexts}
 use Rattle.dwz_run_files.specs.Prepared.{ArePrepared}
 use Rattle.dwz_run_files.specs.Stood.{FilesUnshared}
 use Rattle.dwz_run_files.specs.Whole.{PoolsUnit, StandWhole}
@@ -61,7 +61,7 @@ module _ (f : RunFacts Alone) (s : Settled) (t : TextsAt) (before : EntryTable) 
       (has : HasCommon f sharing before k) where
     old : (common : List UnitItems) (others : List (List UnitItems)) → orders ≡ common ∷ others
         → FilesUnshared f before (files_written f) others
-    old common others are = stood f s t before orders p as_read common others are
+    old common others are = stood Alone f s t before orders p as_read common others are
 
     given : StandWhole f k orders
     given =
@@ -71,13 +71,13 @@ module _ (f : RunFacts Alone) (s : Settled) (t : TextsAt) (before : EntryTable) 
         record {
           known = subst (TextsKnown f k (λ n. None)) (sym are) (
             know_common f sharing before k common (common_order common others are) has,
-            files_shared f t sharing before k p.facts p.listed has flags (files_written f) others (old common others are),
+            files_shared f t sharing before k p.facts p.listed has.with_texts flags (files_written f) others (old common others are),
           );
           pooled = λ common others are. entries_pooled f k common (pooled_law f sharing before k common (common_order common others are) has);
           owned = λ n rank first order is.
-              order_owned f t sharing before k p.facts p.listed as_read has (files_written f) others (old common others are) rank n order
+              order_owned f t sharing before k p.facts p.listed as_read has.with_texts (files_written f) others (old common others are) rank n order
               is.file (ap (λ (w : List (List UnitItems)). slice_get w (suc rank)) (sym are) ∙ is.order_is);
-          names = λ n. names_owned f t sharing before k p.facts p.listed as_read has n;
+          names = λ n. names_owned f t sharing before k p.facts p.listed as_read has.with_texts n;
         }
 
     -- so the lists are those with the texts of the common file, where these are its sections, and not too long
@@ -85,10 +85,18 @@ module _ (f : RunFacts Alone) (s : Settled) (t : TextsAt) (before : EntryTable) 
         → c.lines.items ≡ lines_bytes (paths (run f)) → FewTexts (run f) → (w : WholeLists) → w.known ≡ k → w.common ≡ Some c
         → AreWhole f s orders w
     texts_given listed some c strs lines few w known common = record {
-      texts = texts_held k;
-      prepared = subst (λ (x : EntryTable). ArePrepared f s (texts_held k) x orders) (sym known)
-          (record { facts = p.facts; read = p.read; settled = p.settled; ordered = p.ordered; listed = listed });
-      stand = subst (λ (x : EntryTable). StandWhole f x orders) (sym known) given;
-      few = few;
+      known = subst (AreKnown f s orders) (sym known) (record {
+        texts = texts_held k;
+        prepared = record {
+          facts = p.facts;
+          beside_are = tt;
+          read = p.read;
+          settled = p.settled;
+          ordered = p.ordered;
+          listed = listed;
+        };
+        stand = given;
+        few = few;
+      });
       common = subst (HasTexts (run f)) (sym common) (some_there f p.facts some, strs, lines);
     }

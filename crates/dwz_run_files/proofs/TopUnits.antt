@@ -23,7 +23,7 @@ use Rattle.dwz_layout_order.proofs.FileWalk.{is_among}
 use Rattle.dwz_layout.specs.declared.known.EntryTable.{EntryTable}
 use Rattle.dwz_layout.specs.Entries.{row}
 use Rattle.dwz_layout.specs.Known.{no_row, top_row}
-use Rattle.dwz_law_layout.specs.Beside.{Alone}
+use Rattle.dwz_law_layout.specs.Beside.{Beside}
 use Rattle.dwz_law_layout.specs.Facts.{AreFacts, HasFile, RunFacts, docs, units}
 use Rattle.dwz_law_layout.specs.Listed.{AreListed, TextsAt, entry_row, top_rows}
 use Rattle.dwz_law_layout.proofs.FilesFound.{among_of}
@@ -43,7 +43,7 @@ pub record TopStands (k : EntryTable) (n : ℕ) (raw : List RawUnit) (first : �
   pub unit_is : top.unit ≡ first + number
 
 -- the file that a top is of, and where its index has the top
-record TopPlace (f : RunFacts Alone) (top : Top) : Type 0 where
+record TopPlace {beside : Beside} (f : RunFacts beside) (top : Top) : Type 0 where
   pub file : ℕ
   pub index : Index
   pub k : ℕ
@@ -53,7 +53,7 @@ record TopPlace (f : RunFacts Alone) (top : Top) : Type 0 where
   pub number : top.number ≡ index.starts.top + k
   pub of_file : top.file ≡ file
 
-module _ (f : RunFacts Alone) (facts : AreFacts f) where
+module _ {beside : Beside} (f : RunFacts beside) (facts : AreFacts f) where
   -- a number has one top
   one : (a b : Top) (m : ℕ) → In a (tops_of (units f)) → In b (tops_of (units f)) → a.number ≡ m → b.number ≡ m → a ≡ b
   one a b m i j p q = one_top 0 (tops_of (units f)) a b (tops_numbers (units f)) i j (p ∙ sym q)

@@ -13,7 +13,7 @@ use Rattle.dwz_def_tops.specs.Spots.{EntryName, FileUnit, RootOf, UnitOf, in_fil
 use Rattle.dwz_def_tops.specs.Lists.{Nth}
 use Rattle.dwz_def_plan.specs.Moves.{image_in}
 use Rattle.dwz_def_encoding.specs.Writing.{written_header_size}
-use Rattle.dwz_def_readback.specs.Files.{name_after, places}
+use Rattle.dwz_def_readback.specs.Files.{name_after}
 use Rattle.dwz_unit.specs.Rows.{EntryRow, rows_of, units_of as raw_units}
 use Rattle.dwz_graph.specs.Resolved.{place_at}
 use Rattle.dwz_graph.specs.Resolved.{places as entry_places_of}
@@ -26,12 +26,13 @@ use Rattle.dwz_layout_order.proofs.FileEntries.{unit_of}
 use Rattle.dwz_layout_numbers.specs.Images.{starts_from}
 use Rattle.dwz_layout_numbers.specs.Names.{all_names}
 use Rattle.dwz_layout.specs.declared.known.EntryTable.{EntryTable}
-use Rattle.dwz_layout.specs.Laid.{made_of}
-use Rattle.dwz_law_layout.specs.Beside.{Alone}
-use Rattle.dwz_law_layout.specs.Facts.{AreFacts, RunFacts, docs, move, run, units}
-use Rattle.dwz_law_layout.proofs.FileEntries.{IsHere, here, named, named_all}
+use Rattle.dwz_law_layout.specs.Beside.{Beside}
+use Rattle.dwz_law_layout.specs.Facts.{AreFacts, RunFacts, every, move, run, units}
+use Rattle.dwz_law_layout.specs.Laid.{places_of}
+use Rattle.dwz_law_layout.proofs.FileEntries.{IsHere, here, named, named_every}
 use Rattle.dwz_law_layout.proofs.ImagesStand.{old}
-use Rattle.dwz_law_layout.proofs.EntriesPlaced.{run_roots}
+use Rattle.dwz_law_over.specs.Either.{laid_by}
+use Rattle.dwz_law_over.proofs.Either.{roots_by}
 use Rattle.dwz_run_files.specs.Spots.{UnitPlacesLaw}
 use Rattle.dwz_run_files.proofs.EntryPlaces.{entry_places}
 use Rattle.dwz_run_files.proofs.RootRows.{HasRoot, has_root}
@@ -50,7 +51,7 @@ mapped_size g Partial = refl
 
 -- ---- roots
 
-module _ (f : RunFacts Alone) (k : EntryTable) (facts : AreFacts f) (n : ℕ) (x : File) (index : Index) (o : IsHere f k n x index) where
+module _ {beside : Beside} (f : RunFacts beside) (k : EntryTable) (facts : AreFacts f) (n : ℕ) (x : File) (index : Index) (o : IsHere f k n x index) where
   abbrev raw : List RawUnit
   raw = raw_units x.units
 
@@ -91,9 +92,9 @@ module _ (f : RunFacts Alone) (k : EntryTable) (facts : AreFacts f) (n : ℕ) (x
       }
 
 pub unit_begins : UnitPlacesLaw
-unit_begins f t k orders lay n bytes x index h changed start start_is j lt =
+unit_begins beside f t k orders lay n bytes x index h changed start start_is j lt =
     let raw = raw_units x.units in
-    let at = (made_of k orders).places in
+    let at = (laid_by beside k orders).places in
     let o = here f t k lay.facts lay.listed n x index h.file h.index_is in
     let got = got_there raw j lt in
     let u = got.0 in
@@ -103,14 +104,14 @@ unit_begins f t k orders lay n bytes x index h changed start start_is j lt =
     let begins : o.start ≡ start = same_got (starts_from 0 f.indexes) n o.start start o.start_is start_is in
     let name : name_after (run f) n (place_at raw e) ≡ RootOf number =
     ap (image_in (move f)) (o.among.names (place_at raw e) ∙ w.name) in
-    let there : slice_get (all_names (docs f)) (start + e) ≡ Some (name_after (run f) n (place_at raw e)) =
-    ap (λ (m : ℕ). slice_get (all_names (docs f)) (m + e)) (sym begins)
-    ∙ named_all f k n x index o e w.low
+    let there : slice_get (all_names (every f)) (start + e) ≡ Some (name_after (run f) n (place_at raw e)) =
+    ap (λ (m : ℕ). slice_get (all_names (every f)) (m + e)) (sym begins)
+    ∙ named_every f k n x index o e w.low
     ∙ ap (λ (s : EntryName). Some s) (w.name ∙ sym name) in
-    let place : slice_index at (start + e) ≡ (places (run f)).place (RootOf number) =
-    entry_places f t k orders lay n bytes x index h changed e (start + e) w.low there ∙ ap (places (run f)).place name in
-    let behind = run_roots f lay.facts number w.unit w.nth in
+    let place : slice_index at (start + e) ≡ (places_of f).place (RootOf number) =
+    entry_places beside f t k orders lay n bytes x index h changed e (start + e) w.low there ∙ ap (places_of f).place name in
+    let behind = roots_by beside f lay.facts lay.beside_are number w.unit w.nth in
     let size = w.size in
-    let counted : slice_index at (start + e) - raw_header_size u.kind ≡ (places (run f)).place (UnitOf number) =
+    let counted : slice_index at (start + e) - raw_header_size u.kind ≡ (places_of f).place (UnitOf number) =
     omega (arith, place, behind, size) in
     w.root.place start at ∙ counted

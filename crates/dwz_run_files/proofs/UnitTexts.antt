@@ -15,7 +15,7 @@ use Rattle.dwz_layout.specs.declared.order.UnitItems.{UnitItems}
 use Rattle.dwz_layout.specs.declared.known.TextAt.{TextAt}
 use Rattle.dwz_layout.specs.Known.{space_at}
 use Rattle.dwz_law_layout.specs.Knows.{IsRead, IsText, Writes, name_attr}
-use Rattle.dwz_law_layout.specs.Beside.{Alone}
+use Rattle.dwz_law_layout.specs.Beside.{Beside}
 use Rattle.dwz_law_layout.specs.Facts.{AreFacts, HasFile, RunFacts, file_read, move, units}
 use Rattle.dwz_law_layout.specs.Listed.{AreListed, TextsAt, entry_row, space_entries}
 use Rattle.dwz_law_layout.specs.Unfitted.{HasChained, KnowsTextsOf, file_unit_forms}
@@ -23,7 +23,7 @@ use Rattle.dwz_encode_texts.specs.TextLaws.{ComesFromScope, StandAsRead, unshare
 use Rattle.dwz_encode_texts.proofs.LawLemmas.{names_law, texts_law}
 use Rattle.dwz_run_files.proofs.HeldTexts.{held_in_file}
 
-module _ (f : RunFacts Alone) (k : EntryTable) (n : ℕ) (o : UnitItems) (u : DwUnit EntryName) where
+module _ {beside : Beside} (f : RunFacts beside) (k : EntryTable) (n : ℕ) (o : UnitItems) (u : DwUnit EntryName) where
   -- the values of the unit come from those units
   abbrev pub EntriesCome : Type 0
   EntriesCome =
@@ -38,7 +38,7 @@ module _ (f : RunFacts Alone) (k : EntryTable) (n : ℕ) (o : UnitItems) (u : Dw
       → slice_get (space_entries 0 f.indexes) s ≡ Some (entry_row n i)
       → ComesFromScope f u (scope_of (around_of bytes (raw_units x.units)) read.unit)
 
-module _ (f : RunFacts Alone) (t : TextsAt) (k : EntryTable) (facts : AreFacts f) (listed : AreListed f t k) (stand : StandAsRead f t)
+module _ {beside : Beside} (f : RunFacts beside) (t : TextsAt) (k : EntryTable) (facts : AreFacts f) (listed : AreListed f t k) (stand : StandAsRead f t)
     (n : ℕ) (o : UnitItems) (u : DwUnit EntryName) where
   abbrev keys : List EntryName
   keys = units_keys (out_units (move f) (units f) n)

@@ -25,7 +25,7 @@ use Rattle.dwz_layout.specs.Attributes.{WritingContext, here_of, holder_by, is_c
 use Rattle.dwz_layout.specs.Entries.{items_slots, slot, what_slots}
 use Rattle.dwz_layout.specs.Known.{number_of, row_at, space_at}
 use Rattle.dwz_encode.specs.Shown.{HasRow, IsRow}
-use Rattle.dwz_law_layout.specs.Beside.{Alone}
+use Rattle.dwz_law_layout.specs.Beside.{Beside}
 use Rattle.dwz_law_layout.specs.Facts.{AreFacts, RunFacts}
 use Rattle.dwz_law_layout.specs.Listed.{AreListed, TextsAt}
 use Rattle.dwz_law_layout.specs.Unfitted.{HasChained, NamesChained}
@@ -48,7 +48,7 @@ pub record SlotOf (origin : Origin) (slots : List Slot) : Type 0 where
   pub there : In own slots
   pub is : own.origin ≡ origin
 
-module _ (f : RunFacts Alone) (t : TextsAt) (k : EntryTable) (facts : AreFacts f) (listed : AreListed f t k) (r : Row) (entry : IsEntry f k r) where
+module _ {beside : Beside} (f : RunFacts beside) (t : TextsAt) (k : EntryTable) (facts : AreFacts f) (listed : AreListed f t k) (r : Row) (entry : IsEntry f k r) where
   origin_is : (o : Origin) → IsThere k o → IsRow k (number_of k r) o → o ≡ OfRow r
   origin_is (OfRow q) there same =
       ap (λ (w : Row). OfRow w) (one_entry f k q r (entry_there f t k facts listed q there.0 there.1) entry same)
@@ -108,7 +108,7 @@ module _ (k : EntryTable) (uses : List ℕ) (first j : ℕ) (order : List UnitIt
       among n (slot_uses k first j order o s.own found s.there n (subst (λ (w : Origin). In n (origin_uses k here w)) (sym s.is) there))
 
   -- so is what it writes of an entry
-  pub entry_among : (f : RunFacts Alone) (t : TextsAt) → AreFacts f → AreListed f t k → AreThere k (items_slots k o.sort o.items)
+  pub entry_among : {beside : Beside} (f : RunFacts beside) (t : TextsAt) → AreFacts f → AreListed f t k → AreThere k (items_slots k o.sort o.items)
       → (r : Row) (x : EntryRow) → row_at k r ≡ Some x
       → HasRow k (number_of k r) (items_slots k o.sort o.items) → (n : ℕ) → In n (origin_uses k here (OfRow r)) → Contains uses n
   entry_among f t facts listed all r x at has n there =

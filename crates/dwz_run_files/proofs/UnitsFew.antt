@@ -6,7 +6,9 @@ use Rattle.dwz_def_reading.specs.Files.{Limits, around_of, files_meaning, limits
 use Rattle.dwz_def_reading.proofs.FileLemmas.{file_agrees}
 use Rattle.dwz_def_tops.specs.Spots.{EntryName, FileUnit, Top, named_files, tops_among, tops_from, tops_of, units_of}
 use Rattle.dwz_graph.specs.declared.file.File.{File}
-use Rattle.dwz_graph.specs.Files.{AreRead, docs_of}
+use Rattle.dwz_graph.specs.Files.{AreKept, AreRead, docs_of}
+use Rattle.dwz_graph.specs.Index.{Index}
+use Rattle.dwz_graph.specs.Indexed.{AreIndexes}
 use Rattle.dwz_graph.proofs.GraphLemmas.{files_read}
 use Rattle.dwz_graph.specs.declared.index.Starts.{Starts}
 use Rattle.dwz_graph.proofs.IndexRoom.{many_units}
@@ -18,6 +20,9 @@ use Rattle.dwz_layout_order.proofs.FileWalk.{first_doc}
 use Rattle.dwz_layout_order.proofs.TopRows.{file_many, tops_behind, units_long}
 use Rattle.dwz_layout_order.specs.Few.{entries_in_files}
 use Rattle.dwz_layout_order.proofs.FilesFew.{all_few, all_small}
+use Rattle.dwz_layout_numbers.specs.Images.{tops_from as top_numbers}
+use Rattle.dwz_layout_numbers.proofs.WholeLemmas.{top_entries}
+use Rattle.dwz_layout_input.proofs.Fits.{whole}
 use Rattle.dwz_run_files.specs.NumberLaws.{EntriesLaw, RoomLaw}
 
 -- these units and their tops, the first of which have these numbers, are so few
@@ -67,6 +72,33 @@ room contents files sharing tops plan kept fits =
     let entries : entries_in_files files ≤ 2 ^ 24 = all_few contents files kept in
     let rows = fits.rows in
     let parts = fits.few_parts in
+    omega arith
+
+-- they have few tops
+pub tops_room : (contents : List (List ℕ)) (files : List File) → AreKept contents files → length (tops_of (units_of (docs_of contents))) ≤ 2 ^ 24
+tops_room contents files kept =
+    let docs = docs_of contents in
+    let r = few no_files_before 0 0 0 contents files kept.end docs kept.are (files_read contents files kept.end kept.are) in
+    let all : length (tops_of (units_of docs)) ≤ entries_in_files files = r.tops in
+    let entries : entries_in_files files ≤ 2 ^ 24 = all_few contents files kept in
+    omega arith
+
+-- those that are counted in their indexes are all
+pub tops_counted : (contents : List (List ℕ)) (files : List File) (indexes : List Index) → AreKept contents files → AreIndexes (docs_of contents) indexes
+    → (tops : List ℕ) → tops ≡ top_numbers 0 indexes
+    → (length tops ≡ length (tops_of (units_of (docs_of contents)))) × (length tops ≤ 2 ^ 24)
+tops_counted contents files indexes kept indexed tops is =
+    let long = ap (λ (w : List ℕ). length w) is ∙ (top_entries (docs_of contents) indexes indexed (whole contents files kept)).many in
+    let few_tops = tops_room contents files kept in
+    (long, omega (arith, long, few_tops))
+
+-- and few units
+pub units_room : (contents : List (List ℕ)) (files : List File) → AreKept contents files → length (units_of (docs_of contents)) ≤ 2 ^ 24
+units_room contents files kept =
+    let docs = docs_of contents in
+    let r = few no_files_before 0 0 0 contents files kept.end docs kept.are (files_read contents files kept.end kept.are) in
+    let units : length (units_of docs) ≤ entries_in_files files = r.are in
+    let entries : entries_in_files files ≤ 2 ^ 24 = all_few contents files kept in
     omega arith
 
 pub entries_room : EntriesLaw

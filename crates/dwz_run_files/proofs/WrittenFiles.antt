@@ -9,12 +9,11 @@ use Rattle.dwz_def_tops.proofs.Members.{any_from}
 use Rattle.dwz_def_tops.specs.Spots.{file_numbers, tops_of, units_of}
 use Rattle.dwz_def_tops.proofs.RowLemmas.{top_of}
 use Rattle.dwz_def_tops.proofs.FileNumbers.{numbers_long}
-use Rattle.dwz_def_plan.specs.Homes.{Rule}
 use Rattle.dwz_def_plan.specs.Moves.{Move}
 use Rattle.dwz_def_images.specs.Units.{changes}
 use Rattle.dwz_def_images.proofs.FileLemmas.{files_are}
-use Rattle.dwz_layout_numbers.specs.Owners.{IsFileWritten, move_of}
-use Rattle.dwz_run_files.specs.Numbered.{AreFlagsBy}
+use Rattle.dwz_layout_numbers.specs.Owners.{IsFileWritten}
+use Rattle.dwz_run_files.specs.Numbered.{AreFlags}
 
 -- the flag of a file is the test of its number
 flag_at : (test : ℕ → Bool) (start : ℕ) (docs : List (Doc ℕ)) (k n : ℕ) → start + k ≡ n → In n (file_numbers start docs)
@@ -37,11 +36,11 @@ changed_there m docs file e =
     subst (λ (n : ℕ). In n (file_numbers 0 docs)) same (files_are docs p.one.unit o.unit o.nth)
 
 -- so it is written where the flags say so
-pub changed_written : (rule : Rule) (docs : List (Doc ℕ)) (flags : List Bool) → AreFlagsBy rule docs flags
-    → (file : ℕ) → changes (move_of rule docs) (units_of docs) file ≡ true → IsFileWritten flags file
-changed_written rule docs flags are file e =
-    let test : ℕ → Bool = changes (move_of rule docs) (units_of docs) in
-    let there = changed_there (move_of rule docs) docs file e in
+pub changed_written : (m : Move) (docs : List (Doc ℕ)) (flags : List Bool) → AreFlags m docs flags
+    → (file : ℕ) → changes m (units_of docs) file ≡ true → IsFileWritten flags file
+changed_written m docs flags are file e =
+    let test : ℕ → Bool = changes m (units_of docs) in
+    let there = changed_there m docs file e in
     ap (λ (w : List Bool). slice_index_or w file false) are ∙ flag_at test 0 docs file file (omega arith) there ∙ e
 
 pub flags_many : (test : ℕ → Bool) (docs : List (Doc ℕ)) → length (map test (file_numbers 0 docs)) ≡ length docs

@@ -3,14 +3,14 @@ use Rattle.std.specs.Prelude.{◌≡◌, ℕ, Bool, true, false, List, [], ◌�
 use Rattle.dwz_def_tops.specs.Spots.{file_numbers}
 use Rattle.dwz_def_encoding.specs.Placing.{lines_bytes, texts_bytes}
 use Rattle.dwz_def_readback.specs.Files.{Run, imports_common, paths, texts as texts_of_run}
-use Rattle.dwz_def_readback.specs.Sound.{FewTexts}
 use Rattle.dwz_def_output.specs.FilesAfter.{has_common}
 use Rattle.dwz_graph.specs.declared.file.File.{File}
 use Rattle.dwz_layout_order.specs.declared.orders.Settled.{Settled}
 use Rattle.dwz_layout.specs.declared.known.EntryTable.{EntryTable}
 use Rattle.dwz_layout.specs.declared.order.UnitItems.{UnitItems}
-use Rattle.dwz_law_layout.specs.Beside.{Alone}
+use Rattle.dwz_law_layout.specs.Beside.{Alone, Beside}
 use Rattle.dwz_law_layout.specs.Facts.{RunFacts, docs, move, run, units}
+use Rattle.dwz_law_layout.specs.Laid.{AreFew}
 use Rattle.dwz_law_layout.specs.Listed.{TextsAt}
 use Rattle.dwz_encode_texts.specs.TextLaws.{StandAsRead}
 use Rattle.dwz_run_files.specs.declared.common.CommonTexts.{CommonTexts}
@@ -39,11 +39,15 @@ abbrev pub bytes_if_some : List ℕ → Option (List ℕ)
 bytes_if_some [] = None
 bytes_if_some (b ∷ bytes) = Some (b ∷ bytes)
 
--- The lists are still those of the files; all texts stand where the definitions say while none is taken out, and those of the common file
--- are few.
-pub record AreWhole (f : RunFacts Alone) (s : Settled) (orders : List (List UnitItems)) (w : WholeLists) : Type 0 where
+-- The lists are of files that are prepared; all texts stand where the definitions say while none is taken out, and those of the common file
+-- aren't too long.
+pub record AreKnown {beside : Beside} (f : RunFacts beside) (s : Settled) (orders : List (List UnitItems)) (k : EntryTable) : Type 0 where
   pub texts : TextsAt
-  pub prepared : ArePrepared f s texts w.known orders
-  pub stand : StandWhole f w.known orders
-  pub few : FewTexts (run f)
+  pub prepared : ArePrepared f s texts k orders
+  pub stand : StandWhole f k orders
+  pub few : AreFew f
+
+-- so they are, and a common file that is made has these texts
+pub record AreWhole (f : RunFacts Alone) (s : Settled) (orders : List (List UnitItems)) (w : WholeLists) : Type 0 where
+  pub known : AreKnown f s orders w.known
   pub common : HasTexts (run f) w.common

@@ -14,4 +14,7 @@ pub mod SettledRun
 pub mod Common
 pub mod Ready
 pub mod Works
+pub mod Over
+pub mod OverRun
+pub mod ReadyOver
 pub mod Lanes

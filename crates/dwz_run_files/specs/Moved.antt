@@ -6,7 +6,7 @@ use Rattle.dwz_layout.specs.declared.known.EntryTable.{EntryTable}
 use Rattle.dwz_layout.specs.declared.known.SpaceRow.{SpaceRow}
 use Rattle.dwz_layout.specs.declared.known.TextAt.{TextAt}
 use Rattle.dwz_layout.specs.declared.order.UnitItems.{UnitItems}
-use Rattle.dwz_law_layout.specs.Beside.{Alone}
+use Rattle.dwz_law_layout.specs.Beside.{Beside}
 use Rattle.dwz_law_layout.specs.Facts.{RunFacts, run}
 use Rattle.dwz_encode_texts.specs.declared.pruning.PrunedFile.{PrunedFile}
 use Rattle.dwz_encode_texts.specs.MovedTexts.{moved_text}
@@ -17,7 +17,7 @@ use Rattle.dwz_run_files.specs.Prepared.{IsOrdered}
 -- ---- what is taken out
 
 -- a file that is prunable keeps just the texts that these uses and its slots name, and any other all
-abbrev pub IsPrunedIf : RunFacts Alone → ℕ → (uses : List ℕ) → Option PrunedFile → Type 0
+abbrev pub IsPrunedIf : {beside : Beside} → RunFacts beside → ℕ → (uses : List ℕ) → Option PrunedFile → Type 0
 IsPrunedIf f n uses None = f.input.prunes n ≡ false
 IsPrunedIf f n uses (Some p) = (f.input.prunes n ≡ true) × IsPrunedFile (sources (run f) n).strs (sources (run f) n).offsets uses p
 
@@ -26,7 +26,7 @@ abbrev pub pruned_at : List (Option PrunedFile) → ℕ → Option PrunedFile
 pruned_at pruned n = get_or pruned n None
 
 -- so it is of each file that is written, by the uses of what is written of it
-abbrev pub ArePruned : RunFacts Alone → EntryTable → List (List UnitItems) → List (Option PrunedFile) → Type 0
+abbrev pub ArePruned : {beside : Beside} → RunFacts beside → EntryTable → List (List UnitItems) → List (Option PrunedFile) → Type 0
 ArePruned f k orders pruned =
     (n rank first : ℕ) (order : List UnitItems) → IsOrdered f orders n rank first order
     → IsPrunedIf f n (order_uses k first order) (pruned_at pruned n)

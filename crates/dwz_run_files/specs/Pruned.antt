@@ -4,8 +4,9 @@ use Rattle.dwz_def_reading.specs.Texts.{text_at}
 use Rattle.dwz_def_reading.specs.Files.{sources_of}
 use Rattle.dwz_layout.specs.declared.known.EntryTable.{EntryTable}
 use Rattle.dwz_layout.specs.declared.order.UnitItems.{UnitItems}
-use Rattle.dwz_law_layout.specs.Beside.{Alone}
+use Rattle.dwz_law_layout.specs.Beside.{Beside}
 use Rattle.dwz_law_layout.specs.Facts.{AreFacts, RunFacts}
+use Rattle.dwz_law_over.specs.Either.{first_unit_by}
 use Rattle.dwz_run_files.specs.Prepared.{AreRanks, firsts_from}
 use Rattle.dwz_encode_texts.specs.declared.pruning.PrunedFile.{PrunedFile}
 use Rattle.dwz_encode_texts.specs.PrunedFiles.{IsPrunedFile}
@@ -28,11 +29,11 @@ UsesNameTexts contents k w =
     → All (λ used. IsSome (text_at (sources_of bytes).strs used)) (order_uses k first order)
 
 -- of these files with these ranks, units and numbers, those are prunable whose flags are set
-pub record AreFilesWritten (f : RunFacts Alone) (contents : List (List ℕ)) (w : Written) (prunes : List Bool) : Type 0 where
+pub record AreFilesWritten {beside : Beside} (f : RunFacts beside) (contents : List (List ℕ)) (w : Written) (prunes : List Bool) : Type 0 where
   pub facts : AreFacts f
   pub contents_are : f.contents ≡ contents
   pub ranks : AreRanks f w.ranks.now
-  pub firsts : w.firsts.now ≡ firsts_from 0 w.orders.now
+  pub firsts : w.firsts.now ≡ firsts_from (first_unit_by beside) w.orders.now
   pub prunes_are : (n : ℕ) → f.input.prunes n ≡ get_or prunes n false
 
 -- ---- step by step: no public clause cites what follows

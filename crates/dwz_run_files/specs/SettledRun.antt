@@ -1,5 +1,5 @@
 -- A run: what is settled of its files, what is written of them, and their lists.
-use Rattle.std.specs.Prelude.{◌≡◌, ℕ, List, map}
+use Rattle.std.specs.Prelude.{◌≡◌, ◌+◌, ℕ, List, length, map}
 use Rattle.dwz_def_tops.specs.Spots.{file_numbers}
 use Rattle.dwz_def_readback.specs.Files.{imports_common}
 use Rattle.dwz_graph.specs.declared.file.File.{File}
@@ -34,7 +34,7 @@ pub record IsSettledRun (contents : List (List ℕ)) (a : SettledRun) : Type 0 w
   pub indexed : AreIndexes (docs_of contents) a.indexes.now
   pub planned : ArePlanned a.settled.scope (docs_of contents) a.settled.planned
   pub settled : (f : RunFacts Alone) (s : Settled) → AreTheirs contents a f → Lends a.settled s → IsSettled f s
-  pub fits : (s : Settled) → Lends a.settled s → AreSettled s
+  pub fits : (s : Settled) → Lends a.settled s → AreSettled (length contents + 1) s
   pub flags : HasFlags contents a.indexes.now a.settled.scope a.settled.planned a.settled
   pub importing : (f : RunFacts Alone) → AreTheirs contents a f
       → a.settled.importing.items ≡ map (imports_common (move f) (units f)) (file_numbers 0 (docs f))

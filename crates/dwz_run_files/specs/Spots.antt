@@ -8,10 +8,10 @@ use Rattle.dwz_graph.specs.Index.{Index}
 use Rattle.dwz_layout_numbers.specs.Images.{starts_from}
 use Rattle.dwz_layout.specs.declared.known.EntryTable.{EntryTable}
 use Rattle.dwz_layout.specs.declared.order.UnitItems.{UnitItems}
-use Rattle.dwz_layout.specs.Laid.{made_of}
-use Rattle.dwz_law_layout.specs.Beside.{Alone}
+use Rattle.dwz_law_layout.specs.Beside.{Beside}
 use Rattle.dwz_law_layout.specs.Facts.{HasFile, RunFacts, move, units}
 use Rattle.dwz_law_layout.specs.Listed.{TextsAt}
+use Rattle.dwz_law_over.specs.Either.{laid_by}
 use Rattle.dwz_run_files.specs.Prepared.{CanLay}
 use Rattle.dwz_encode_operands.specs.NumberLaws.{ArePlaces, AreUnitPlaces}
 
@@ -29,17 +29,17 @@ unit_places_from first places (u ∷ units) =
 -- ---- laws
 
 -- P holds of each file of which something moves, where what is written can be laid
-abbrev pub OfWritten : (RunFacts Alone → EntryTable → List (List UnitItems) → ℕ → File → Index → Type 0) → Type 0
+abbrev pub OfWritten : ((beside : Beside) → RunFacts beside → EntryTable → List (List UnitItems) → ℕ → File → Index → Type 0) → Type 0
 OfWritten P =
-    (f : RunFacts Alone) (t : TextsAt) (k : EntryTable) (orders : List (List UnitItems)) → CanLay f t k orders
+    (beside : Beside) (f : RunFacts beside) (t : TextsAt) (k : EntryTable) (orders : List (List UnitItems)) → CanLay f t k orders
     → (n : ℕ) (bytes : List ℕ) (x : File) (index : Index) → HasFile f n bytes x index → changes (move f) (units f) n ≡ true
-    → P f k orders n x index
+    → P beside f k orders n x index
 
 -- what stands after for an entry of the file stands at its place of the layout
 abbrev pub EntryPlacesLaw : Type 0
-EntryPlacesLaw = OfWritten (λ f k orders n x index. ArePlaces f n (raw_units x.units) (made_of k orders).places)
+EntryPlacesLaw = OfWritten (λ beside f k orders n x index. ArePlaces f n (raw_units x.units) (laid_by beside k orders).places)
 
 -- so each unit of the file begins before its root
 abbrev pub UnitPlacesLaw : Type 0
-UnitPlacesLaw = OfWritten (λ f k orders n x index. (start : ℕ) → slice_get (starts_from 0 f.indexes) n ≡ Some start
-    → AreUnitPlaces f index.starts.unit (raw_units x.units) (unit_places_from start (made_of k orders).places (raw_units x.units)))
+UnitPlacesLaw = OfWritten (λ beside f k orders n x index. (start : ℕ) → slice_get (starts_from 0 f.indexes) n ≡ Some start
+    → AreUnitPlaces f index.starts.unit (raw_units x.units) (unit_places_from start (laid_by beside k orders).places (raw_units x.units)))

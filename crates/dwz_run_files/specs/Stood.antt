@@ -11,8 +11,8 @@ use Rattle.dwz_layout_order.specs.declared.orders.Settled.{Settled}
 use Rattle.dwz_layout.specs.declared.known.EntryTable.{EntryTable}
 use Rattle.dwz_layout.specs.declared.order.UnitItems.{UnitItems}
 use Rattle.dwz_law_layout.specs.Knows.{IsRead, Writes}
-use Rattle.dwz_encode_common.specs.Placed.{in_common_file}
-use Rattle.dwz_law_layout.specs.Beside.{Alone}
+use Rattle.dwz_encode_common.specs.SharedLaws.{is_common_entry}
+use Rattle.dwz_law_layout.specs.Beside.{Beside}
 use Rattle.dwz_law_layout.specs.Facts.{HasFile, RunFacts, file_read, files_written, move, units}
 use Rattle.dwz_law_layout.specs.Listed.{TextsAt}
 use Rattle.dwz_law_layout.specs.Unfitted.{KnowsTextsOf, file_unit_forms}
@@ -20,20 +20,20 @@ use Rattle.dwz_run_files.specs.Prepared.{ArePrepared}
 use Rattle.dwz_encode_texts.specs.TextLaws.{StandAsRead, unshared}
 
 -- the texts of each unit of a file stand where the definitions say of a file that shares none with the common file
-abbrev pub KnowUnshared : RunFacts Alone → EntryTable → ℕ → List UnitItems → List (DwUnit EntryName) → Type 0
+abbrev pub KnowUnshared : {beside : Beside} → RunFacts beside → EntryTable → ℕ → List UnitItems → List (DwUnit EntryName) → Type 0
 KnowUnshared f k n [] [] = Unit {0}
 KnowUnshared f k n (o ∷ order) (u ∷ some) = KnowsTextsOf f k (unshared (file_unit_forms f n u)) None n o × KnowUnshared f k n order some
 KnowUnshared f k n _ _ = ⊥
 
--- no entry of the file with that number that the unit writes is one of the common file
-abbrev pub WritesOwn : RunFacts Alone → EntryTable → ℕ → UnitItems → Type 0
+-- no entry of the file with that number that the unit writes is one of a common file that is made
+abbrev pub WritesOwn : {beside : Beside} → RunFacts beside → EntryTable → ℕ → UnitItems → Type 0
 WritesOwn f k n o =
     (bytes : List ℕ) (x : File) (index : Index) → HasFile f n bytes x index
     → (i : ℕ) (r : EntryRow) (d : Node ℕ) → IsRead (file_read f n bytes x) i r d → Writes k o (file_read f n bytes x) i
-    → in_common_file k n i ≡ false
+    → is_common_entry f k n i ≡ false
 
 -- So are the texts of each of these files; and what it writes are entries of its own.
-abbrev pub FilesUnshared : RunFacts Alone → EntryTable → List ℕ → List (List UnitItems) → Type 0
+abbrev pub FilesUnshared : {beside : Beside} → RunFacts beside → EntryTable → List ℕ → List (List UnitItems) → Type 0
 FilesUnshared f k [] [] = Unit {0}
 FilesUnshared f k (n ∷ files) (order ∷ orders) =
     KnowUnshared f k n order (out_units (move f) (units f) n) × Each (WritesOwn f k n) order × FilesUnshared f k files orders
@@ -43,6 +43,6 @@ FilesUnshared f k _ _ = ⊥
 -- definitions of forms say if none is shared, and none of it is an entry of the common file. The units of the common file come first.
 abbrev pub StoodLaw : Type 0
 StoodLaw =
-    (f : RunFacts Alone) (s : Settled) (t : TextsAt) (k : EntryTable) (orders : List (List UnitItems))
+    (beside : Beside) (f : RunFacts beside) (s : Settled) (t : TextsAt) (k : EntryTable) (orders : List (List UnitItems))
     → ArePrepared f s t k orders → StandAsRead f t → (common : List UnitItems) (others : List (List UnitItems)) → orders ≡ common ∷ others
     → FilesUnshared f k (files_written f) others

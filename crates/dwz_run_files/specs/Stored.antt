@@ -9,7 +9,7 @@ use Rattle.dwz_def_output.specs.Written.{ArePrunable, ReadAs, stored_of}
 use Rattle.dwz_graph.specs.declared.file.File.{File}
 use Rattle.dwz_graph.specs.Files.{AreKept, docs_of}
 use Rattle.dwz_graph.specs.Indexed.{AreIndexes}
-use Rattle.dwz_law_layout.specs.Beside.{Alone}
+use Rattle.dwz_law_layout.specs.Beside.{Beside}
 use Rattle.dwz_law_layout.specs.Facts.{IsStoredSo, RunFacts, docs}
 use Rattle.dwz_law_layout.specs.Trees.{IsReadFile}
 
@@ -23,7 +23,8 @@ ReadLaw =
 
 -- what is stored of each file is what was read of it
 abbrev pub StoredLaw : Type 0
-StoredLaw = (f : RunFacts Alone) (flags : List Bool) → AreKept f.contents f.files → f.input ≡ stored_of f.contents flags → IsStoredSo f
+StoredLaw =
+    (beside : Beside) (f : RunFacts beside) (flags : List Bool) → AreKept f.contents f.files → f.input ≡ stored_of f.contents flags → IsStoredSo f
 
 -- What refuses files is their first fault. It is placed in the file itself, whose code is 0, or in a section, whose code is 9 at most.
 abbrev pub RefusedLaw : Type 0
@@ -40,4 +41,4 @@ ManyLaw =
 -- each number less than how many contents there are is that of a file that was read, with its index
 abbrev pub FileLaw : Type 0
 FileLaw =
-    (f : RunFacts Alone) → AreKept f.contents f.files → AreIndexes (docs f) f.indexes → (n : ℕ) → n < length f.contents → IsReadFile f n
+    (beside : Beside) (f : RunFacts beside) → AreKept f.contents f.files → AreIndexes (docs f) f.indexes → (n : ℕ) → n < length f.contents → IsReadFile f n

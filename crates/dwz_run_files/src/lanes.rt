@@ -4,9 +4,9 @@
 ghost use Rattle.std.specs.Prelude.{◌≡◌, ◌<◌, ◌≤◌, None, length, map, slice_index_or, IfOk};
 ghost use Rattle.std.specs.Thread.{IsSync};
 ghost use Rattle.std.specs.Vec.Iter.{into_iter_items};
-ghost use Rattle.dwz_def_readback.specs.Files.{Run};
-ghost use Rattle.dwz_law_layout.specs.Beside.{Alone};
-ghost use Rattle.dwz_law_layout.specs.Facts.{RunFacts, run};
+ghost use Rattle.dwz_def_readback.specs.Files.{CommonFile, Run};
+ghost use Rattle.dwz_law_layout.specs.Beside.{Beside};
+ghost use Rattle.dwz_law_layout.specs.Facts.{RunFacts, common, run};
 ghost use Rattle.dwz_run_files.specs.Lanes.{AreEvery, AreLanes};
 ghost use Rattle.dwz_run_files.specs.Works.{AreNewFiles, IsWork};
 
@@ -43,9 +43,9 @@ fn every<R: Threads + Sync>(
     step: usize,
     workers: u32,
 ) -> Result<Vec<Option<NewFile>>, NoMemory>
-    requires work { (f : RunFacts Alone) × IsWork f work.now }
+    requires work { (beside : Beside) × (f : RunFacts beside) × IsWork f work.now }
     requires step { (0 < step) × (step ≤ 64) }
-    ensures { (f : RunFacts Alone) → IsWork f work.now → IfOk result (λ made. AreEvery (run f) step first made.items) }
+    ensures { (beside : Beside) (f : RunFacts beside) → IsWork f work.now → IfOk result (λ made. AreEvery (common f) (run f) step first made.items) }
 {
     let ranks = work.prepared.ordered.ranks.as_slice();
     let mut made = Vec::with_capacity(alloc, ranks.len().div_ceil(step))?;
@@ -68,14 +68,14 @@ fn lanes<R: Threads + Sync>(
     step: usize,
     workers: u32,
 ) -> Result<VecDeque<Lane>, NoMemory>
-    requires work { (f : RunFacts Alone) × IsWork f work.now }
+    requires work { (beside : Beside) × (f : RunFacts beside) × IsWork f work.now }
     requires step { (0 < step) × (step ≤ 64) }
     ensures len { IfOk result (λ lanes. length lanes.items ≡ step) }
-    ensures each { (f : RunFacts Alone) → IsWork f work.now → IfOk result (λ lanes. AreLanes (run f) step 0 (map into_iter_items lanes.items)) }
+    ensures each { (beside : Beside) (f : RunFacts beside) → IsWork f work.now → IfOk result (λ lanes. AreLanes (common f) (run f) step 0 (map into_iter_items lanes.items)) }
 {
     let each = |first: usize| -> Result<Vec<Option<NewFile>>, NoMemory>
-        requires { IsSync R.row × ((f : RunFacts Alone) × IsWork f work.now) × ((0 < step) × (step ≤ 64)) }
-        ensures { (f : RunFacts Alone) → IsWork f work.entry.now → IfOk result (λ made. AreEvery (run f) step first made.items) }
+        requires { IsSync R.row × ((beside : Beside) × (f : RunFacts beside) × IsWork f work.now) × ((0 < step) × (step ≤ 64)) }
+        ensures { (beside : Beside) (f : RunFacts beside) → IsWork f work.entry.now → IfOk result (λ made. AreEvery (common f) (run f) step first made.items) }
     { every(rt, alloc, work, first, step, workers) };
     let made = thread::map_indices(rt, alloc, step, &each)?;
     let mut lanes = VecDeque::with_capacity(alloc, step)?;
@@ -91,10 +91,10 @@ fn take_turns(
     mut lanes: VecDeque<Lane>,
     count: usize,
 ) -> Result<Vec<Option<NewFile>>, NoMemory>
-    requires lanes { (r : Run) × AreLanes r (length lanes.items) 0 (map into_iter_items lanes.items) × (count ≡ length r.files) }
+    requires lanes { (k : CommonFile) × (r : Run) × AreLanes k r (length lanes.items) 0 (map into_iter_items lanes.items) × (count ≡ length r.files) }
     requires some { 0 < length lanes.items }
-    ensures { (r : Run) → AreLanes r (length lanes.items) 0 (map into_iter_items lanes.items) → count ≡ length r.files
-        → IfOk result (λ made. AreNewFiles r made.items) }
+    ensures { (k : CommonFile) (r : Run) → AreLanes k r (length lanes.items) 0 (map into_iter_items lanes.items) → count ≡ length r.files
+        → IfOk result (λ made. AreNewFiles k r made.items) }
 {
     let mut made = Vec::with_capacity(alloc, count)?;
     for _number in 0..count {
@@ -117,9 +117,9 @@ pub(crate) fn new_files<R: Threads + Sync>(
     work: &LaidRun,
     workers: u32,
 ) -> Result<Vec<Option<NewFile>>, NoMemory>
-    requires work { (f : RunFacts Alone) × IsWork f work.now }
+    requires work { (beside : Beside) × (f : RunFacts beside) × IsWork f work.now }
     requires workers { (0 < workers) × (workers ≤ 64) }
-    ensures { (f : RunFacts Alone) → IsWork f work.now → IfOk result (λ made. AreNewFiles (run f) made.items) }
+    ensures { (beside : Beside) (f : RunFacts beside) → IsWork f work.now → IfOk result (λ made. AreNewFiles (common f) (run f) made.items) }
 {
     let count = work.prepared.ordered.ranks.len();
     let step = count.min(workers as usize);

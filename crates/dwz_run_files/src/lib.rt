@@ -7,10 +7,13 @@
 //! which something moves gets its sections (`sections`, by several workers: `lanes`), with numbers changed in place (6.1.2, 7.7.3 and
 //! 7.26).
 //!
+//! `make_over` does the same over a finished common file (7.3.6): what is taken from that is said (`Fixed`), nothing of it is written, and of
+//! what is left tops move in each file by itself. Most of what is said of prepared and laid files is said of both (`Beside`).
+//!
 //! Its laws lead from files that were read to what `dwz_law_layout` asks. `number_units`, `ranks_of`, `firsts_of` and `unit_places` are
 //! public for tests.
 //!
-//! Read first: `specs/Ready.antt`, `specs/Prepared.antt`; and `AreNew` (`NewFiles.antt` of `dwz_run_output`).
+//! Read first: `specs/Ready.antt`, `specs/Prepared.antt`, `specs/Over.antt`; and `AreNew` (`NewFiles.antt` of `dwz_run_output`).
 #![tactic(auto)]
 
 mod bytes;
@@ -26,12 +29,14 @@ mod moving;
 mod narrow;
 mod numbers;
 mod ordered;
+mod over;
 mod places;
 mod prepared;
 mod pruned;
 mod ranks;
 mod sections;
 mod settled;
+mod standing;
 mod units;
 mod work;
 
@@ -42,6 +47,7 @@ pub use laws::{
 pub use made::{NewSectionsOfRun, make_files};
 pub(crate) use moving::with_moved_texts;
 pub(crate) use ordered::OrderedFiles;
+pub use over::make_over;
 pub use places::unit_places;
 pub(crate) use prepared::{PreparedFiles, prepare_files};
 pub(crate) use pruned::{Written, prune_files};

@@ -6,14 +6,17 @@ ghost use Rattle.dwz_graph.specs.Index.{Index};
 ghost use Rattle.dwz_graph.specs.Indexed.{AreIndexes};
 ghost use Rattle.dwz_encode_texts.specs.Files.{texts_in_file};
 ghost use Rattle.dwz_encode_texts.specs.Names.{HaveNames};
+ghost use Rattle.dwz_law_layout.specs.Beside.{Standing};
+ghost use Rattle.dwz_run_files.specs.OverRun.{AreListedOver, IsSettledOver, IsStanding};
 ghost use Rattle.dwz_run_files.specs.SettledRun.{AreListedAsRead, IsSettledRun};
 
 use crate::number_units;
 use crate::settled::SettledRun;
+use crate::standing::StandingCommon;
 use dwz_encode_texts::{texts_of_files, texts_of_spaces};
 use dwz_graph::{File, Graph};
 use dwz_layout::EntryTable;
-use dwz_layout_input::{FileTexts, known_of};
+use dwz_layout_input::{FileTexts, known_of, known_over};
 use dwz_model::NoMemory;
 use std::alloc::Global;
 
@@ -67,4 +70,36 @@ pub(crate) fn list_run<'u, 'a>(
     let numbers = number_units(alloc, graph, plan, written)?;
     let texts = texts_of(alloc, graph, files)?;
     known_of(alloc, files, indexes, plan, numbers, texts)
+}
+
+/// The lists of settled files over a common file that stands. `files` are those of the graph.
+pub(crate) fn list_over<'u, 'a>(
+    alloc: Global,
+    graph: &Graph,
+    files: &'u [File<'a>],
+    run: &SettledRun,
+    standing: &StandingCommon,
+) -> Result<EntryTable<'u, 'a>, NoMemory>
+    requires few { length graph.now.given < 2 ^ 32 }
+    requires kept { AreKept graph.now.given files.now }
+    requires run { (s : Standing) × IsSettledOver s graph.now.given run.now × IsStanding s (docs_of graph.now.given) standing.now }
+    ensures { (s : Standing) → IsSettledOver s graph.now.given run.now → IsStanding s (docs_of graph.now.given) standing.now
+        → IfOk result (AreListedOver s graph.now.given files.now run.now) }
+{
+    let indexes = run.indexes;
+    let plan = &run.settled.planned.plan;
+    let written = run.settled.written.as_slice();
+    let numbers = number_units(alloc, graph, plan, written)?;
+    let texts = texts_of(alloc, graph, files)?;
+    let common = standing.common;
+    known_over(
+        alloc,
+        files,
+        indexes,
+        &common.units,
+        &standing.index,
+        plan,
+        numbers,
+        texts,
+    )
 }

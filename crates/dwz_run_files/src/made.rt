@@ -3,23 +3,27 @@
 ghost use Rattle.std.specs.Prelude.{◌≡◌, ◌<◌, ◌≤◌, ◌^◌, length, map, IfOk};
 ghost use Rattle.dwz_def_output.specs.NewFiles.{AreNew, IsNewCommon};
 ghost use Rattle.dwz_def_readback.specs.Back.{run_of};
-ghost use Rattle.dwz_law_layout.specs.Beside.{Alone};
-ghost use Rattle.dwz_law_layout.specs.Facts.{RunFacts, run};
+ghost use Rattle.dwz_def_readback.specs.Files.{Made};
+ghost use Rattle.dwz_law_layout.specs.Beside.{Alone, Over, Standing};
+ghost use Rattle.dwz_law_layout.specs.Facts.{RunFacts, common, docs, run};
 ghost use Rattle.dwz_graph.specs.Files.{docs_of};
 ghost use Rattle.dwz_def_output.specs.Written.{ArePrunable, stored_of};
 ghost use Rattle.dwz_layout_input.specs.Rules.{rule_by};
 ghost use Rattle.dwz_run_files.specs.Common.{HasTexts};
+ghost use Rattle.dwz_run_files.specs.OverRun.{IsStanding};
 ghost use Rattle.dwz_run_files.specs.Works.{AreNewFiles, WorksOf};
 
 use crate::common::CommonTexts;
 use crate::common_sections::new_common;
 use crate::lanes::new_files;
+use crate::standing::StandingCommon;
 use crate::work::LaidRun;
 use crate::{PreparedFiles, prepare_files};
 use dwz_def_output::NewFile;
 use dwz_gate::Gate;
 use dwz_graph::Graph;
 use dwz_layout::Layout;
+use dwz_layout_input::tops_over;
 use dwz_layout_numbers::{starts, tops};
 use dwz_model::{NoMemory, Sections};
 use dwz_plan::Scope;
@@ -56,7 +60,7 @@ fn lay_files<R: Threads + Sync>(
     requires workers { (0 < workers) × (workers ≤ 64) }
     ensures common { (f : RunFacts Alone) → WorksOf f prepared.now → HasTexts (run f) texts
         → IfOk result (λ laid. IsNewCommon (run f) laid.common) }
-    ensures files { (f : RunFacts Alone) → WorksOf f prepared.now → IfOk result (λ laid. AreNewFiles (run f) laid.files.items) }
+    ensures files { (f : RunFacts Alone) → WorksOf f prepared.now → IfOk result (λ laid. AreNewFiles Made (run f) laid.files.items) }
 {
     let indexes = prepared.run.indexes;
     let layout = Layout::make(alloc, &prepared.known, &prepared.ordered.orders)?;
@@ -71,6 +75,34 @@ fn lay_files<R: Threads + Sync>(
     let common = new_common(rt, alloc, &work, texts, workers)?;
     let files = new_files(rt, alloc, &work, workers)?;
     Ok(Laid { common, files })
+}
+
+/// Lays prepared files behind a common file that stands, and makes what is new in them, by at most so many threads.
+pub(crate) fn lay_over<R: Threads + Sync>(
+    rt: &R,
+    alloc: Global,
+    prepared: &PreparedFiles,
+    standing: &StandingCommon,
+    workers: u32,
+) -> Result<Vec<Option<NewFile>>, NoMemory>
+    requires works { (s : Standing) × (f : RunFacts (Over s)) × WorksOf f prepared.now × IsStanding s (docs f) standing.now }
+    requires workers { (0 < workers) × (workers ≤ 64) }
+    ensures { (s : Standing) (f : RunFacts (Over s)) → WorksOf f prepared.now → IsStanding s (docs f) standing.now
+        → IfOk result (λ files. AreNewFiles (common f) (run f) files.items) }
+{
+    let indexes = prepared.run.indexes;
+    let orders = &prepared.ordered.orders;
+    let common = standing.common;
+    let layout = Layout::over(alloc, &prepared.known, &common.units, orders)?;
+    let starts = starts(alloc, indexes)?;
+    let tops = tops_over(alloc, indexes, &standing.index)?;
+    let work = LaidRun {
+        prepared,
+        layout: &layout,
+        starts: starts.as_slice(),
+        tops: tops.as_slice(),
+    };
+    new_files(rt, alloc, &work, workers)
 }
 
 /// What is new in files that share so: tops that stand in several units of a file move into partial units of the file (DWARF 5, 3.1.2

@@ -1,7 +1,7 @@
 //! A file of which something moves.
 
 ghost use Rattle.std.specs.Prelude.{◌≡◌, Some, slice_get, true};
-ghost use Rattle.dwz_law_layout.specs.Beside.{Alone};
+ghost use Rattle.dwz_law_layout.specs.Beside.{Beside};
 ghost use Rattle.dwz_law_layout.specs.Facts.{RunFacts, files_written, move, units};
 ghost use Rattle.dwz_def_images.specs.Units.{changes};
 ghost use Rattle.dwz_run_files.specs.Works.{HasRank, IsMoved, IsWork};
@@ -35,9 +35,9 @@ pub(crate) fn moved_file<'w, 'u, 'a>(
     number: usize,
     rank: u32,
 ) -> FileAfter<'w, 'a>
-    requires { (f : RunFacts Alone) × IsWork f work.now × HasRank f number rank }
+    requires { (beside : Beside) × (f : RunFacts beside) × IsWork f work.now × HasRank f number rank }
     ensures number { result.number ≡ number }
-    ensures moved { (f : RunFacts Alone) → IsWork f work.now → HasRank f number rank → IsMoved f work.now result }
+    ensures moved { (beside : Beside) (f : RunFacts beside) → IsWork f work.now → HasRank f number rank → IsMoved f work.now result }
 {
     let prepared = work.prepared;
     let indexes = prepared.run.indexes;

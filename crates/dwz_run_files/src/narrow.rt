@@ -4,10 +4,10 @@
 //! least place, so nothing is asked of the order in which entries are walked.
 
 ghost use Rattle.std.specs.Prelude.{◌≡◌, ℕ, length, IfOk};
-ghost use Rattle.dwz_def_output.specs.NewFiles.{IsFound, NarrowFault};
-ghost use Rattle.dwz_law_layout.specs.Beside.{Alone};
-ghost use Rattle.dwz_law_layout.specs.Facts.{RunFacts, run};
-ghost use Rattle.dwz_encode_operands.specs.Narrow.{FirstPlace, after_in, number_by};
+ghost use Rattle.dwz_def_output.specs.NewFiles.{IsFound, NarrowFaultBy};
+ghost use Rattle.dwz_law_layout.specs.Beside.{Beside};
+ghost use Rattle.dwz_law_layout.specs.Facts.{RunFacts, common, run};
+ghost use Rattle.dwz_encode_operands.specs.Narrow.{FirstPlace, after_in_by, number_by};
 ghost use Rattle.dwz_def_output.specs.Contents;
 ghost use Rattle.dwz_def_output.specs.Refusals;
 ghost use Rattle.dwz_unit.specs.Rows.{units_of as raw_units};
@@ -27,10 +27,10 @@ fn first_in_info(
     moved: &FileAfter,
     units_at: &[u64],
 ) -> Result<Option<u64>, NoMemory>
-    requires moved { (f : RunFacts Alone) × IsMoved f work.now moved.now }
+    requires moved { (beside : Beside) × (f : RunFacts beside) × IsMoved f work.now moved.now }
     requires many { length units_at.now ≡ length (raw_units moved.now.file.now.units) }
-    ensures { (f : RunFacts Alone) → IsMoved f work.now moved.now → HaveUnitPlaces f moved.now units_at.now
-        → IfOk result (FirstPlace (number_by (after_in (run f) moved.now.number)) (Refusals.spoken (run f) moved.now.number)) }
+    ensures { (beside : Beside) (f : RunFacts beside) → IsMoved f work.now moved.now → HaveUnitPlaces f moved.now units_at.now
+        → IfOk result (FirstPlace (number_by (after_in_by (common f) (run f) moved.now.number)) (Refusals.spoken (run f) moved.now.number)) }
 {
     let places = work.layout.spots().places.as_slice();
     let rows = &work.prepared.known.files[moved.number];
@@ -45,9 +45,9 @@ fn first_in_lists(
     moved: &FileAfter,
     units_at: &[u64],
 ) -> Result<Option<u64>, NoMemory>
-    requires { (f : RunFacts Alone) × IsMoved f work.now moved.now }
-    ensures { (f : RunFacts Alone) → IsMoved f work.now moved.now → HaveUnitPlaces f moved.now units_at.now
-        → IfOk result (FirstPlace (number_by (after_in (run f) moved.now.number)) (Contents.listed (run f) moved.now.number)) }
+    requires { (beside : Beside) × (f : RunFacts beside) × IsMoved f work.now moved.now }
+    ensures { (beside : Beside) (f : RunFacts beside) → IsMoved f work.now moved.now → HaveUnitPlaces f moved.now units_at.now
+        → IfOk result (FirstPlace (number_by (after_in_by (common f) (run f) moved.now.number)) (Contents.listed (run f) moved.now.number)) }
 {
     let operands = moved.file.resolved.operands.as_slice();
     let numbers = operand_numbers(
@@ -81,10 +81,10 @@ pub(crate) fn narrow_fault(
     moved: &FileAfter,
     units_at: &[u64],
 ) -> Result<Option<Fault>, NoMemory>
-    requires moved { (f : RunFacts Alone) × IsMoved f work.now moved.now }
+    requires moved { (beside : Beside) × (f : RunFacts beside) × IsMoved f work.now moved.now }
     requires many { length units_at.now ≡ length (raw_units moved.now.file.now.units) }
-    ensures { (f : RunFacts Alone) → IsMoved f work.now moved.now → HaveUnitPlaces f moved.now units_at.now
-        → IfOk result (IsFound (NarrowFault (run f) moved.now.number)) }
+    ensures { (beside : Beside) (f : RunFacts beside) → IsMoved f work.now moved.now → HaveUnitPlaces f moved.now units_at.now
+        → IfOk result (IsFound (NarrowFaultBy (common f) (run f) moved.now.number)) }
 {
     if let Some(at) = first_in_info(alloc, work, moved, units_at)? {
         return Ok(Some(narrow_at(DEBUG_INFO, at)));

@@ -5,9 +5,9 @@
 
 ghost use Rattle.std.specs.Prelude.{◌≡◌, ◌%◌, ◌^◌, ℕ, length, map, IfOk};
 ghost use Rattle.dwz_def_reading.specs.Units.{RawUnit};
-ghost use Rattle.dwz_law_layout.specs.Beside.{Alone};
-ghost use Rattle.dwz_law_layout.specs.Facts.{RunFacts, run};
-ghost use Rattle.dwz_def_output.specs.Contents.{lists_after, ranges_after};
+ghost use Rattle.dwz_law_layout.specs.Beside.{Beside};
+ghost use Rattle.dwz_law_layout.specs.Facts.{RunFacts, common, run};
+ghost use Rattle.dwz_def_output.specs.Contents.{lists_after_by, ranges_after_by};
 ghost use Rattle.dwz_encode_texts.specs.declared.pruning.PrunedFile.{PrunedFile};
 ghost use Rattle.dwz_run_files.specs.Moved.{pruned_at};
 ghost use Rattle.dwz_unit.specs.Rows.{units_of as raw_units};
@@ -60,9 +60,9 @@ pub(crate) fn lists(
     moved: &FileAfter,
     units_at: &[u64],
 ) -> Result<Vec<u8>, NoMemory>
-    requires { (f : RunFacts Alone) × IsMoved f work.now moved.now }
-    ensures { (f : RunFacts Alone) → IsMoved f work.now moved.now → HaveUnitPlaces f moved.now units_at.now
-        → IfOk result (λ out. out.items ≡ lists_after (run f) moved.now.number) }
+    requires { (beside : Beside) × (f : RunFacts beside) × IsMoved f work.now moved.now }
+    ensures { (beside : Beside) (f : RunFacts beside) → IsMoved f work.now moved.now → HaveUnitPlaces f moved.now units_at.now
+        → IfOk result (λ out. out.items ≡ lists_after_by (common f) (run f) moved.now.number) }
 {
     let file = moved.file;
     lists_section(
@@ -114,10 +114,10 @@ pub(crate) fn address_ranges(
     moved: &FileAfter,
     units_at: &[u64],
 ) -> Result<Vec<u8>, NoMemory>
-    requires moved { (f : RunFacts Alone) × IsMoved f work.now moved.now }
+    requires moved { (beside : Beside) × (f : RunFacts beside) × IsMoved f work.now moved.now }
     requires many { length units_at.now ≡ length (raw_units moved.now.file.now.units) }
-    ensures { (f : RunFacts Alone) → IsMoved f work.now moved.now → HaveUnitPlaces f moved.now units_at.now
-        → IfOk result (λ out. out.items ≡ ranges_after (run f) moved.now.number) }
+    ensures { (beside : Beside) (f : RunFacts beside) → IsMoved f work.now moved.now → HaveUnitPlaces f moved.now units_at.now
+        → IfOk result (λ out. out.items ≡ ranges_after_by (common f) (run f) moved.now.number) }
 {
     let file = moved.file;
     let starts = unit_starts(alloc, &file.units)?;

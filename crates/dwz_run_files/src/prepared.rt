@@ -54,8 +54,8 @@ fn look_at(_bytes: &[u8])
     ensures { AreBytes _bytes.now }
 {}
 
-// Looks at all contents. So they are known to be bytes.
-fn look_at_all(contents: &[Vec<u8>])
+/// Looks at all contents. So they are known to be bytes.
+pub(crate) fn look_at_all(contents: &[Vec<u8>])
     ensures { Each AreBytes (map (λ c. c.items) contents.now) }
 {
     for content in contents {

@@ -2,7 +2,7 @@
 
 ghost use Rattle.std.specs.Prelude.{◌≡◌, ◌<◌, ◌^◌, All, IfOk, IsSome, get_or, length, false};
 ghost use Rattle.dwz_def_reading.specs.Texts.{text_at};
-ghost use Rattle.dwz_law_layout.specs.Beside.{Alone};
+ghost use Rattle.dwz_law_layout.specs.Beside.{Beside};
 ghost use Rattle.dwz_law_layout.specs.Facts.{RunFacts};
 ghost use Rattle.dwz_run_files.specs.Moved.{ArePruned};
 ghost use Rattle.dwz_run_files.specs.Pruned.{AreFilesWritten, FileKeeps, UsesNameTexts};
@@ -98,7 +98,7 @@ pub fn prune_files(
     requires few { length graph.now.given < 2 ^ 32 }
     requires many { length written.now.ranks.now ≡ length graph.now.given }
     requires texts { UsesNameTexts graph.now.given known.now written.now }
-    ensures { (f : RunFacts Alone) → AreFilesWritten f graph.now.given written.now prunes.now
+    ensures { (beside : Beside) (f : RunFacts beside) → AreFilesWritten f graph.now.given written.now prunes.now
         → IfOk result (λ pruned. ArePruned f known.now written.now.orders.now pruned.items) }
 {
     let count = written.ranks.len();

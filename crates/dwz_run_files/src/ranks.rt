@@ -4,7 +4,7 @@
 //! one further, since the common file has the first order.
 
 ghost use Rattle.std.specs.Prelude.{◌≡◌, ◌<◌, ◌^◌, length, IfOk};
-ghost use Rattle.dwz_law_layout.specs.Beside.{Alone};
+ghost use Rattle.dwz_law_layout.specs.Beside.{Beside};
 ghost use Rattle.dwz_law_layout.specs.Facts.{RunFacts, written as written_of};
 ghost use Rattle.dwz_run_files.specs.Prepared.{AreRanks, firsts_from};
 
@@ -16,7 +16,7 @@ use std::alloc::Global;
 pub fn ranks_of(alloc: Global, written: &[bool]) -> Result<Vec<Option<u32>>, NoMemory>
     requires { length written.now < 2 ^ 32 }
     ensures many { IfOk result (λ ranks. length ranks.items ≡ length written.now) }
-    ensures ranks { (f : RunFacts Alone) → written.now ≡ written_of f → IfOk result (λ ranks. AreRanks f ranks.items) }
+    ensures ranks { (beside : Beside) (f : RunFacts beside) → written.now ≡ written_of f → IfOk result (λ ranks. AreRanks f ranks.items) }
 {
     let mut ranks = Vec::with_capacity(alloc, written.len())?;
     let mut next = 0;
@@ -36,8 +36,19 @@ pub fn ranks_of(alloc: Global, written: &[bool]) -> Result<Vec<Option<u32>>, NoM
 pub fn firsts_of(alloc: Global, orders: &[FileItems]) -> Result<Vec<u32>, NoMemory>
     ensures { IfOk result (λ firsts. firsts.items ≡ firsts_from 0 orders.now) }
 {
+    firsts_over(alloc, 0, orders)
+}
+
+/// The same over a common file that stands, whose units, so many, have the first numbers.
+pub(crate) fn firsts_over(
+    alloc: Global,
+    commons: u32,
+    orders: &[FileItems],
+) -> Result<Vec<u32>, NoMemory>
+    ensures { IfOk result (λ firsts. firsts.items ≡ firsts_from commons orders.now) }
+{
     let mut firsts = Vec::with_capacity(alloc, orders.len())?;
-    let mut first = 0;
+    let mut first = commons;
     for order in orders {
         firsts.push(first)?;
         first = behind(first, order.len())?;

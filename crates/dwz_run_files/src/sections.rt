@@ -1,10 +1,10 @@
 //! All that is new in a file.
 
 ghost use Rattle.std.specs.Prelude.{◌≡◌, ℕ, false, get_or, length, IfOk};
-ghost use Rattle.dwz_def_output.specs.NewFiles.{IsNewFile, IsNewOrOld};
-ghost use Rattle.dwz_law_layout.specs.Beside.{Alone};
-ghost use Rattle.dwz_law_layout.specs.Facts.{RunFacts, run};
-ghost use Rattle.dwz_def_output.specs.Contents.{sections_after};
+ghost use Rattle.dwz_def_output.specs.NewFiles.{IsNewFileBy, IsNewOrOldBy};
+ghost use Rattle.dwz_law_layout.specs.Beside.{Beside};
+ghost use Rattle.dwz_law_layout.specs.Facts.{RunFacts, common, run};
+ghost use Rattle.dwz_def_output.specs.Contents.{sections_after_by};
 ghost use Rattle.dwz_run_files.specs.Prepared.{IsRank};
 ghost use Rattle.dwz_unit.specs.Rows.{units_of as raw_units};
 ghost use Rattle.dwz_run_files.specs.Works.{HasRank, HaveUnitPlaces, IsMoved, IsWork};
@@ -29,10 +29,10 @@ fn sections_of<R: Threads + Sync>(
     units_at: &[u64],
     workers: u32,
 ) -> Result<Sections, NoMemory>
-    requires moved { (f : RunFacts Alone) × IsMoved f work.now moved.now }
+    requires moved { (beside : Beside) × (f : RunFacts beside) × IsMoved f work.now moved.now }
     requires many { length units_at.now ≡ length (raw_units moved.now.file.now.units) }
-    ensures { (f : RunFacts Alone) → IsMoved f work.now moved.now → HaveUnitPlaces f moved.now units_at.now
-        → IfOk result (λ sections. sections ≡ sections_after (run f) moved.now.number) }
+    ensures { (beside : Beside) (f : RunFacts beside) → IsMoved f work.now moved.now → HaveUnitPlaces f moved.now units_at.now
+        → IfOk result (λ sections. sections ≡ sections_after_by (common f) (run f) moved.now.number) }
 {
     let old = &moved.file.sections;
     let pruned = work.prepared.pruned.as_slice();
@@ -73,8 +73,8 @@ fn new_file<R: Threads + Sync>(
     rank: u32,
     workers: u32,
 ) -> Result<NewFile, NoMemory>
-    requires work { (f : RunFacts Alone) × IsWork f work.now × HasRank f number rank }
-    ensures { (f : RunFacts Alone) → IsWork f work.now → HasRank f number rank → IfOk result (IsNewFile (run f) number) }
+    requires work { (beside : Beside) × (f : RunFacts beside) × IsWork f work.now × HasRank f number rank }
+    ensures { (beside : Beside) (f : RunFacts beside) → IsWork f work.now → HasRank f number rank → IfOk result (IsNewFileBy (common f) (run f) number) }
 {
     let moved = moved_file(work, number, rank);
     let units_at = units_at(alloc, work, &moved)?;
@@ -97,8 +97,8 @@ pub(crate) fn new_or_old<R: Threads + Sync>(
     rank: Option<u32>,
     workers: u32,
 ) -> Result<Option<NewFile>, NoMemory>
-    requires work { (f : RunFacts Alone) × IsWork f work.now × IsRank f number rank }
-    ensures { (f : RunFacts Alone) → IsWork f work.now → IsRank f number rank → IfOk result (IsNewOrOld (run f) number) }
+    requires work { (beside : Beside) × (f : RunFacts beside) × IsWork f work.now × IsRank f number rank }
+    ensures { (beside : Beside) (f : RunFacts beside) → IsWork f work.now → IsRank f number rank → IfOk result (IsNewOrOldBy (common f) (run f) number) }
 {
     match rank {
         Some(rank) => {

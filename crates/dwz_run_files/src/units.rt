@@ -1,9 +1,9 @@
 //! `.debug_info` and `.debug_abbrev` of what is laid, and where the units of a file begin after.
 
 ghost use Rattle.std.specs.Prelude.{◌≡◌, ℕ, length, IfOk};
-ghost use Rattle.dwz_def_readback.specs.Files.{sections_of};
-ghost use Rattle.dwz_law_layout.specs.Beside.{Alone};
-ghost use Rattle.dwz_law_layout.specs.Facts.{RunFacts, run};
+ghost use Rattle.dwz_def_readback.specs.Files.{sections_by};
+ghost use Rattle.dwz_law_layout.specs.Beside.{Beside};
+ghost use Rattle.dwz_law_layout.specs.Facts.{RunFacts, common, run};
 ghost use Rattle.dwz_encode.specs.Pages.{units_page};
 ghost use Rattle.dwz_unit.specs.Rows.{units_of as raw_units};
 ghost use Rattle.dwz_def_encoding.specs.Writing.{joined};
@@ -54,7 +54,7 @@ pub(crate) fn info_section<R: Threads + Sync>(
     moved: &FileAfter,
     workers: u32,
 ) -> Result<Blob, NoMemory>
-    ensures { (f : RunFacts Alone) → IsMoved f work.now moved.now → IfOk result (λ info. info ≡ (sections_of (run f) moved.now.number).info) }
+    ensures { (beside : Beside) (f : RunFacts beside) → IsMoved f work.now moved.now → IfOk result (λ info. info ≡ (sections_by (common f) (run f) moved.now.number).info) }
 {
     laid_info(
         rt,
@@ -73,8 +73,8 @@ pub(crate) fn abbrev_section(
     work: &LaidRun,
     moved: &FileAfter,
 ) -> Result<Blob, NoMemory>
-    ensures { (f : RunFacts Alone) → IsMoved f work.now moved.now
-        → IfOk result (λ abbrevs. abbrevs ≡ (sections_of (run f) moved.now.number).abbrevs) }
+    ensures { (beside : Beside) (f : RunFacts beside) → IsMoved f work.now moved.now
+        → IfOk result (λ abbrevs. abbrevs ≡ (sections_by (common f) (run f) moved.now.number).abbrevs) }
 {
     laid_abbrevs(alloc, moved.laid)
 }
@@ -86,7 +86,7 @@ pub(crate) fn units_at(
     moved: &FileAfter,
 ) -> Result<Vec<u64>, NoMemory>
     ensures many { IfOk result (λ v. length v.items ≡ length (raw_units moved.now.file.now.units)) }
-    ensures places { (f : RunFacts Alone) → IsMoved f work.now moved.now → IfOk result (λ v. HaveUnitPlaces f moved.now v.items) }
+    ensures places { (beside : Beside) (f : RunFacts beside) → IsMoved f work.now moved.now → IfOk result (λ v. HaveUnitPlaces f moved.now v.items) }
 {
     let places = work.layout.spots().places.as_slice();
     unit_places(alloc, &moved.file.units, moved.start, places)

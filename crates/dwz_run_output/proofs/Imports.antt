@@ -1,16 +1,14 @@
 -- A file imports from the common file only where there is one, and then `.debug_sup` is added to it.
-use Rattle.std.proofs.Common.{◌≡◌, ◌&&◌, ◌||◌, ◌==◌, ℕ, Bool, true, false, List, [], ◌∷◌, Some, None, refl, sym, ap}
+use Rattle.std.proofs.Common.{◌≡◌, ◌&&◌, ◌||◌, ◌==◌, ℕ, Bool, true, false, List, [], ◌∷◌, Option, Some, None, refl, sym, ap, ◌∙◌}
 use Rattle.std.specs.List.{list_any}
 use Rattle.std.specs.Prelude.{if◌then◌else◌}
 use Rattle.dwz_def_reading.specs.Supplementary.{sup_bytes}
 use Rattle.dwz_def_tops.specs.Spots.{EntryName, FileUnit}
 use Rattle.dwz_def_plan.specs.Homes.{Common, file_of, same_home}
 use Rattle.dwz_def_plan.specs.Plan.{PartialUnit}
-use Rattle.dwz_def_readback.specs.Files.{Run, imports_common}
-use Rattle.dwz_words.specs.declared.options.Options.{Options}
-use Rattle.dwz_def_output.specs.FilesAfter.{has_common, is_common, sup_after, sup_of}
-use Rattle.dwz_def_run.specs.Out.{sup_name}
-use Rattle.dwz_run_output.specs.Common.{IsCommonMade}
+use Rattle.dwz_def_readback.specs.Files.{CommonFile, Run, imports_common}
+use Rattle.dwz_def_output.specs.FilesAfter.{has_common, is_common, sup_after_by, sup_of_by}
+use Rattle.dwz_run_output.specs.Making.{IsSupOf}
 
 abbrev imports_here : List (FileUnit EntryName) → ℕ → List PartialUnit → Bool
 imports_here units file parts = list_any (λ (part : PartialUnit). same_home part.home Common && list_any (λ i. file_of units i == file) part.users) parts
@@ -29,12 +27,20 @@ no_imports r file none = none_imported r.units file r.move.parts none
 
 -- ---- `.debug_sup` of a file
 
-sup_by : (name : List ℕ) (r : Run) (file : ℕ) (b : Bool) → imports_common r.move r.units file ≡ b
-    → sup_after name r file ≡ (if b then Some (sup_bytes (sup_of name r)) else None)
-sup_by name r file b e = ap (λ (b : Bool). if b then Some (sup_bytes (sup_of name r)) else None) e
+sup_by : (k : CommonFile) (name : List ℕ) (r : Run) (file : ℕ) (b : Bool) → imports_common r.move r.units file ≡ b
+    → sup_after_by k name r file ≡ (if b then Some (sup_bytes (sup_of_by k name r)) else None)
+sup_by k name r file b e = ap (λ (b : Bool). if b then Some (sup_bytes (sup_of_by k name r)) else None) e
 
-pub sup_not : (o : Options) (r : Run) (file : ℕ) → imports_common r.move r.units file ≡ false → None ≡ sup_after (sup_name o) r file
-sup_not o r file imports = sym (sup_by (sup_name o) r file false imports)
+pub sup_not : (k : CommonFile) (name : List ℕ) (r : Run) (file : ℕ) → imports_common r.move r.units file ≡ false → None ≡ sup_after_by k name r file
+sup_not k name r file imports = sym (sup_by k name r file false imports)
 
-pub sup_none : (o : Options) (r : Run) (file : ℕ) → IsCommonMade o r None → None ≡ sup_after (sup_name o) r file
-sup_none o r file none = sup_not o r file (no_imports r file none)
+pub sup_none : (k : CommonFile) (name : List ℕ) (r : Run) (file : ℕ) (sup : Option (List ℕ)) → IsSupOf k name r sup → sup ≡ None → None ≡ sup_after_by k name r file
+sup_none k name r file None none is = sup_not k name r file (none file)
+sup_none k name r file (Some bytes) is none = absurd cc
+
+pub sup_some : (k : CommonFile) (name : List ℕ) (r : Run) (file : ℕ) (sup : Option (List ℕ)) (bytes : List ℕ) → IsSupOf k name r sup → sup ≡ Some bytes
+    → imports_common r.move r.units file ≡ true → Some bytes ≡ sup_after_by k name r file
+sup_some k name r file None bytes is some imports = absurd cc
+sup_some k name r file (Some b) bytes is some imports =
+    let same : b ≡ bytes = cc in
+    ap (λ (w : List ℕ). Some w) (sym same ∙ is) ∙ sym (sup_by k name r file true imports)

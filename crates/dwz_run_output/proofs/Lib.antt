@@ -9,3 +9,5 @@ pub mod FileAnswers
 pub mod RunReady
 pub mod AllLengths
 pub mod Outcomes
+pub mod StandingRead
+pub mod OutcomesOver

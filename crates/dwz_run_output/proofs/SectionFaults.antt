@@ -7,24 +7,24 @@ use Rattle.dwz_def_reading.specs.declared.elf.NewContent.{NewContent}
 use Rattle.dwz_def_output.specs.Changed.{changes_by, if_new}
 use Rattle.dwz_def_tops.specs.Lists.{Nth}
 use Rattle.dwz_def_images.specs.Units.{changes}
-use Rattle.dwz_def_readback.specs.Files.{Run}
-use Rattle.dwz_def_output.specs.Contents.{listed, sections_after}
-use Rattle.dwz_def_output.specs.Refusals.{FirstNarrow, IsLargeSection, SectionsFault, spoken}
+use Rattle.dwz_def_readback.specs.Files.{CommonFile, Run}
+use Rattle.dwz_def_output.specs.Contents.{listed, sections_after_by}
+use Rattle.dwz_def_output.specs.Refusals.{FirstNarrowBy, IsLargeSection, SectionsFaultBy, spoken}
 use Rattle.dwz_def_reading.specs.FirstOf.{OfFirst, OrElse}
 use Rattle.dwz_def_output.proofs.FreeLemmas.{Nothing, not_first, not_then}
 use Rattle.dwz_def_output.specs.declared.new_file.NewFile.{NewFile}
-use Rattle.dwz_def_output.specs.NewFiles.{IsFound, IsNewFile, IsNewOrOld, NarrowFault}
+use Rattle.dwz_def_output.specs.NewFiles.{IsFound, IsNewFileBy, IsNewOrOldBy, NarrowFaultBy}
 use Rattle.dwz_run_output.proofs.FirstFound.{found_joined}
 
-module _ (r : Run) (file : ℕ) (moves : changes r.move r.units file ≡ true) where
+module _ (k : CommonFile) (r : Run) (file : ℕ) (moves : changes r.move r.units file ≡ true) where
   abbrev InInfo : Fault → Type 0
-  InInfo = FirstNarrow r file 1 (spoken r file)
+  InInfo = FirstNarrowBy k r file 1 (spoken r file)
 
   abbrev InLists : Fault → Type 0
-  InLists = FirstNarrow r file 7 (listed r file)
+  InLists = FirstNarrowBy k r file 7 (listed r file)
 
   abbrev Large : Fault → Type 0
-  Large = OfFirst IsLargeSection (changes_by (sections_after r file) None).new
+  Large = OfFirst IsLargeSection (changes_by (sections_after_by k r file) None).new
 
   narrow_first : (f : Fault) → OrElse InInfo InLists f → OrElse InInfo (OrElse InLists Large) f
   narrow_first f (inl here) = inl here
@@ -35,20 +35,20 @@ module _ (r : Run) (file : ℕ) (moves : changes r.move r.units file ≡ true) w
   none_at_all narrow large f (inr (none, inl there)) = narrow f (inr (none, there))
   none_at_all narrow large f (inr (none, inr (other, last))) = large f last
 
-  pub sections_found : (a b : Option Fault) → IsFound (NarrowFault r file) a → IsFound Large b → IsFound (SectionsFault r file) (option_or a b)
+  pub sections_found : (a b : Option Fault) → IsFound (NarrowFaultBy k r file) a → IsFound Large b → IsFound (SectionsFaultBy k r file) (option_or a b)
   sections_found (Some f) b narrow large = (moves, narrow_first f narrow)
   sections_found None (Some f) narrow large = (moves, inr (not_first InInfo InLists narrow, inr (not_then InInfo InLists narrow, large)))
   sections_found None None narrow large = λ f has. none_at_all narrow large f has.1
 
 -- what is found of the sections that were made
-pub new_found : (r : Run) (file : ℕ) (n : NewFile) (b : Option Fault) → IsNewFile r file n → IsFound (OfFirst IsLargeSection (changes_by n.sections None).new) b
-    → IsFound (SectionsFault r file) (option_or n.narrow b)
-new_found r file n b is large =
-    sections_found r file is.moves n.narrow b is.narrow (subst (λ (s : Sections). IsFound (OfFirst IsLargeSection (changes_by s None).new) b) is.sections large)
+pub new_found : (k : CommonFile) (r : Run) (file : ℕ) (n : NewFile) (b : Option Fault) → IsNewFileBy k r file n → IsFound (OfFirst IsLargeSection (changes_by n.sections None).new) b
+    → IsFound (SectionsFaultBy k r file) (option_or n.narrow b)
+new_found k r file n b is large =
+    sections_found k r file is.moves n.narrow b is.narrow (subst (λ (s : Sections). IsFound (OfFirst IsLargeSection (changes_by s None).new) b) is.sections large)
 
 -- a file of which nothing moves has none
-pub old_found : (r : Run) (file : ℕ) → IsNewOrOld r file None → IsFound (SectionsFault r file) None
-old_found r file same f has = let z : true ≡ false = sym has.0 ∙ same in absurd (let w : true ≡ false = z in cc)
+pub old_found : (k : CommonFile) (r : Run) (file : ℕ) → IsNewOrOldBy k r file None → IsFound (SectionsFaultBy k r file) None
+old_found k r file same f has = let z : true ≡ false = sym has.0 ∙ same in absurd (let w : true ≡ false = z in cc)
 
 -- ---- rows by number
 

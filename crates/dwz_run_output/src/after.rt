@@ -7,12 +7,12 @@ ghost use Rattle.dwz_def_output.specs.Written.{ReadAs};
 ghost use Rattle.dwz_def_run.specs.Out.{Slims, run_for};
 ghost use Rattle.dwz_def_output.specs.NewFiles.{AreNew, IsNewCommon};
 
-use crate::common::{common_fault, common_made};
+use crate::common::{add_common, common_fault, common_line, common_made, sup_in};
 use crate::faults::{in_file, sections_refusal};
 use crate::making::all_made;
-use crate::puts::puts;
+use crate::puts::add_files;
 use crate::rows::look_at_all;
-use crate::summary::{common_line, lines};
+use crate::summary::lines;
 use dwz_def_output::NewFile;
 use dwz_graph::Graph;
 use dwz_model::{GraphErr, Sections};
@@ -53,10 +53,13 @@ pub fn outcome(
     }
     look_at_all(contents);
     let common = common_made(alloc, options, graph, common)?;
-    let files = all_made(alloc, contents, graph, &common, made)?;
+    let files = all_made(alloc, contents, graph, sup_in(&common), made)?;
     let line = common_line(alloc, &options.common, &common)?;
-    let lines = lines(alloc, options.files.as_slice(), contents, &files)?;
-    let puts = puts(alloc, options, contents, common, files)?;
+    let names = options.files.as_slice();
+    let lines = lines(alloc, names, contents, &files)?;
+    let mut puts = Vec::new(alloc);
+    add_common(alloc, &mut puts, &options.common, common)?;
+    add_files(alloc, &mut puts, &options.out, names, contents, files)?;
     let summary = Summary {
         common: line,
         files: SummaryLines::new(lines),

@@ -1,22 +1,24 @@
-//! The common file: its first fault, and its bytes.
+//! The common file: its first fault, its bytes, and what is put and said of it.
 
-ghost use Rattle.std.specs.Prelude.{◌≡◌, ℕ, ◌+◌, ◌^◌, ◌<◌, [], IfOk, get_or, length};
+ghost use Rattle.std.specs.Prelude.{◌≡◌, ◌+◌, ◌++◌, ◌^◌, ◌<◌, [], IfOk, OnOk, get_or, length};
+ghost use Rattle.std.specs.Option.{option_map};
 ghost use Rattle.dwz_def_reading.specs.ElfHeaders.{file_header};
 ghost use Rattle.dwz_def_reading.specs.ElfLayout.{too_large};
 ghost use Rattle.dwz_model.specs.declared.fault.Fault.{Fault};
 ghost use Rattle.dwz_def_reading.specs.SupplementaryFile.{common_sum};
 ghost use Rattle.dwz_sup.specs.Common.{common_length};
-ghost use Rattle.dwz_def_readback.specs.Files.{Run, imports_common};
+ghost use Rattle.dwz_def_readback.specs.Files.{Made, Run};
 ghost use Rattle.dwz_words.specs.declared.options.Options.{Options};
-ghost use Rattle.dwz_def_output.specs.FilesAfter.{sup_after};
-ghost use Rattle.dwz_def_run.specs.Out.{sup_name};
+ghost use Rattle.dwz_def_run.specs.Out.{common_length_after, common_puts, sup_name};
 ghost use Rattle.dwz_run_output.specs.Common.{FaultWith, IsCommonMade, IsLargeWith, room_of};
+ghost use Rattle.dwz_run_output.specs.Making.{IsSupOf};
 ghost use Rattle.dwz_def_output.specs.NewFiles.{IsFound, IsNewCommon};
 
 use crate::faults::{TOO_LARGE, first_large, too_large};
 use crate::rows::copy_name;
 use dwz_graph::Graph;
 use dwz_model::{Blob, Fault, NoMemory, Sections, WHOLE_FILE};
+use dwz_outside::Put;
 use dwz_sup::{checksum, common_file, debug_sup};
 use dwz_words::Options;
 use std::alloc::Global;
@@ -152,17 +154,48 @@ pub(crate) fn common_made(
     }))
 }
 
-/// `.debug_sup` of a file, where it imports from the common file.
-pub(crate) fn sup_of_file(
-    alloc: Global,
-    common: &Option<CommonFile>,
-    imports: bool,
-) -> Result<Option<Blob>, NoMemory>
-    ensures { (o : Options) (r : Run) (file : ℕ) → IsCommonMade o r common.now → imports ≡ imports_common r.move r.units file
-        → IfOk result (λ sup. sup ≡ sup_after (sup_name o) r file) }
+/// `.debug_sup` of the files that import from that common file, where there is one.
+pub(crate) fn sup_in(common: &Option<CommonFile>) -> Option<&[u8]>
+    ensures { (o : Options) (r : Run) → IsCommonMade o r common.now → IsSupOf Made (sup_name o) r (option_map (λ s. s.now) result) }
 {
     match common {
-        Some(common) if imports => Ok(Some(copy_name(alloc, &common.sup)?)),
+        Some(common) => Some(common.sup.as_slice()),
+        None => None,
+    }
+}
+
+/// The name and the length of the common file, where one is asked for and there is one.
+pub(crate) fn common_line(
+    alloc: Global,
+    name: &Option<Blob>,
+    common: &Option<CommonFile>,
+) -> Result<Option<(Blob, u64)>, NoMemory>
+    ensures { (o : Options) (r : Run) → IsCommonMade o r common.now → IfOk result (λ line. line ≡ common_length_after name.now r) }
+{
+    match (name, common) {
+        (Some(name), Some(common)) => {
+            Ok(Some((copy_name(alloc, name)?, common.bytes.len() as u64)))
+        }
         _ => Ok(None),
     }
+}
+
+/// Adds what is put of the common file, where one is asked for.
+pub(crate) fn add_common(
+    alloc: Global,
+    puts: &mut Vec<Put>,
+    name: &Option<Blob>,
+    common: Option<CommonFile>,
+) -> Result<(), NoMemory>
+    ensures { (o : Options) (r : Run) → IsCommonMade o r common → OnOk result (puts.new.items ≡ puts.old.items ++ common_puts name.now r) }
+{
+    if let Some(name) = name
+        && let Some(CommonFile { bytes, sup: _ }) = common
+    {
+        puts.push(Put {
+            name: copy_name(alloc, name)?,
+            bytes,
+        })?;
+    }
+    Ok(())
 }

@@ -3,11 +3,11 @@
 ghost use Rattle.std.specs.Prelude.{◌≡◌, ℕ, ◌<◌, ◌^◌, length};
 ghost use Rattle.std.specs.Option.{option_copied};
 ghost use Rattle.std.specs.List.{range_with_len};
-ghost use Rattle.dwz_def_readback.specs.Files.{Run};
-ghost use Rattle.dwz_def_output.specs.Refusals.{InFile, IsLargeSection, SectionsFault, too_large_at};
+ghost use Rattle.dwz_def_readback.specs.Files.{CommonFile, Run};
+ghost use Rattle.dwz_def_output.specs.Refusals.{InFile, IsLargeSection, SectionsFaultBy, too_large_at};
 ghost use Rattle.dwz_def_reading.specs.FirstOf.{OfFirst};
 ghost use Rattle.dwz_def_output.specs.Changed.{changes_by, if_new};
-ghost use Rattle.dwz_def_output.specs.NewFiles.{AreNew, IsFound, IsNewFile, IsNewOrOld};
+ghost use Rattle.dwz_def_output.specs.NewFiles.{AreNewBy, IsFound, IsNewFileBy, IsNewOrOldBy};
 
 use dwz_def_output::NewFile;
 use dwz_model::{
@@ -66,14 +66,14 @@ pub(crate) fn first_large(sections: &Sections) -> Option<Fault>
 
 // The first fault of what is new in a file.
 fn new_fault(new: &NewFile) -> Option<Fault>
-    ensures { (r : Run) (file : ℕ) → IsNewFile r file new.now → IsFound (SectionsFault r file) result }
+    ensures { (k : CommonFile) (r : Run) (file : ℕ) → IsNewFileBy k r file new.now → IsFound (SectionsFaultBy k r file) result }
 {
     new.narrow.or(first_large(&new.sections))
 }
 
 // The same of a file that may stay as it is.
 fn fault_of(new: &Option<NewFile>) -> Option<Fault>
-    ensures { (r : Run) (file : ℕ) → IsNewOrOld r file new.now → IsFound (SectionsFault r file) result }
+    ensures { (k : CommonFile) (r : Run) (file : ℕ) → IsNewOrOldBy k r file new.now → IsFound (SectionsFaultBy k r file) result }
 {
     match new {
         Some(new) => new_fault(new),
@@ -84,8 +84,8 @@ fn fault_of(new: &Option<NewFile>) -> Option<Fault>
 /// The first fault of the new sections of the files, which come in order.
 pub(crate) fn sections_refusal(made: &[Option<NewFile>]) -> Option<Refusal>
     requires { length made.now < 2 ^ 32 }
-    ensures { (r : Run) (count : ℕ) → AreNew r made.now count
-        → IsFound (OfFirst (InFile (SectionsFault r)) (range_with_len 0 (length made.now))) result }
+    ensures { (k : CommonFile) (r : Run) (count : ℕ) → AreNewBy k r made.now count
+        → IsFound (OfFirst (InFile (SectionsFaultBy k r)) (range_with_len 0 (length made.now))) result }
 {
     for (file, new) in made.iter().enumerate() {
         if let Some(fault) = fault_of(new) {

@@ -1,17 +1,15 @@
 //! The bytes of the files of which something moves.
 
-ghost use Rattle.std.specs.Prelude.{◌≡◌, ℕ, ◌<◌, ◌^◌, [], None, OnOk, get_or, length, map};
+ghost use Rattle.std.specs.Prelude.{◌≡◌, ℕ, ◌<◌, ◌^◌, List, [], None, IfOk, OnOk, get_or, length, map};
+ghost use Rattle.std.specs.Option.{option_map};
 ghost use Rattle.dwz_def_reading.specs.ElfReading.{elf_of};
-ghost use Rattle.dwz_def_readback.specs.Files.{Run};
+ghost use Rattle.dwz_def_readback.specs.Files.{CommonFile, Run, imports_common};
 ghost use Rattle.dwz_elf.specs.Rebuilds.{Finishes};
 ghost use Rattle.dwz_def_output.specs.Changed.{CanGiveAll, changes_by};
-ghost use Rattle.dwz_words.specs.declared.options.Options.{Options};
-ghost use Rattle.dwz_def_run.specs.Out.{sup_name};
-ghost use Rattle.dwz_run_output.specs.Common.{IsCommonMade};
+ghost use Rattle.dwz_def_output.specs.FilesAfter.{sup_after_by};
 ghost use Rattle.dwz_run_output.specs.Giving.{IsThere, given, with_sup_if};
-ghost use Rattle.dwz_run_output.specs.Making.{AnswersAll, AnswersFile, CanMake};
+ghost use Rattle.dwz_run_output.specs.Making.{AnswersAll, AnswersFile, CanMake, IsSupOf};
 
-use crate::common::{CommonFile, sup_of_file};
 use crate::faults::in_file;
 use crate::rows::take_row;
 use dwz_def_output::NewFile;
@@ -82,18 +80,29 @@ fn rebuild_file(
     rebuild.finish(alloc, bytes)
 }
 
+// `.debug_sup` of a file, where it imports from the common file, whose files have that.
+fn sup_of_file(alloc: Global, sup: Option<&[u8]>, imports: bool) -> Result<Option<Blob>, NoMemory>
+    ensures { (k : CommonFile) (name : List ℕ) (r : Run) (file : ℕ) → IsSupOf k name r (option_map (λ s. s.now) sup.entry)
+        → imports ≡ imports_common r.move r.units file → IfOk result (λ own. own ≡ sup_after_by k name r file) }
+{
+    match sup {
+        Some(sup) if imports => Ok(Some(Blob::new(Vec::from_slice(alloc, sup)?))),
+        _ => Ok(None),
+    }
+}
+
 // The new bytes of the file with a number, where something of it moves.
 fn made_file(
     alloc: Global,
     file: u32,
     bytes: &[u8],
     elf: &Elf,
-    common: &Option<CommonFile>,
+    sup: Option<&[u8]>,
     new: Option<NewFile>,
 ) -> Result<Option<Blob>, GraphErr>
     requires { elf.now ≡ elf_of bytes.now }
-    ensures { (o : Options) (r : Run) → IsCommonMade o r common.now → CanMake r file bytes.now new
-        → AnswersFile (sup_name o) r file result }
+    ensures { (k : CommonFile) (name : List ℕ) (r : Run) → IsSupOf k name r (option_map (λ s. s.now) sup.entry) → CanMake k r file bytes.now new
+        → AnswersFile k name r file result }
 {
     let Some(new) = new else {
         return Ok(None);
@@ -103,28 +112,28 @@ fn made_file(
         narrow: _,
         imports,
     } = new;
-    let sup = sup_of_file(alloc, common, imports)?;
-    match rebuild_file(alloc, bytes, elf, sections, sup) {
+    let own = sup_of_file(alloc, sup, imports)?;
+    match rebuild_file(alloc, bytes, elf, sections, own) {
         Ok(out) => Ok(Some(Blob::new(out))),
         Err(ReadErr::Refused(fault)) => Err(GraphErr::Refused(in_file(file, fault))),
         Err(ReadErr::NoMemory) => Err(GraphErr::NoMemory),
     }
 }
 
-/// For each file its new bytes, or None where nothing of it moves. One that imports from the common file gets `.debug_sup`. Refused
+/// For each file its new bytes, or None where nothing of it moves. One that imports from the common file gets that `.debug_sup`. Refused
 /// with the first file that can't be laid out around its loaded bytes, or that is too large.
 pub(crate) fn all_made(
     alloc: Global,
     contents: &[Vec<u8>],
     graph: &Graph<'_>,
-    common: &Option<CommonFile>,
+    sup: Option<&[u8]>,
     mut made: Vec<Option<NewFile>>,
 ) -> Result<Vec<Option<Blob>>, GraphErr>
     requires read { graph.now.given ≡ map (λ c. c.items) contents.now }
     requires few { length contents.now < 2 ^ 32 }
-    ensures { (o : Options) (r : Run) → IsCommonMade o r common.now
-        → ((file : ℕ) → file < length contents.now → CanMake r file (get_or graph.now.given file []) (get_or made.items file None))
-        → AnswersAll (λ files. files.items) (sup_name o) r (length contents.now) result }
+    ensures { (k : CommonFile) (name : List ℕ) (r : Run) → IsSupOf k name r (option_map (λ s. s.now) sup.entry)
+        → ((file : ℕ) → file < length contents.now → CanMake k r file (get_or graph.now.given file []) (get_or made.items file None))
+        → AnswersAll (λ files. files.items) k name r (length contents.now) result }
 {
     let mut files = Vec::new(alloc);
     for (file, content) in contents.iter().enumerate() {
@@ -135,7 +144,7 @@ pub(crate) fn all_made(
             number,
             content.as_slice(),
             &graph.file(number).elf,
-            common,
+            sup,
             new,
         )?;
         files.push(bytes)?;

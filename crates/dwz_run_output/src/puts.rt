@@ -1,17 +1,14 @@
-//! What is put.
+//! What is put of the files.
 
-ghost use Rattle.std.specs.Prelude.{◌≡◌, ℕ, ◌++◌, OnOk, IfOk, is_some, map, unwrap_or};
-ghost use Rattle.dwz_def_readback.specs.Files.{Run};
+ghost use Rattle.std.specs.Prelude.{◌≡◌, ◌++◌, OnOk, is_some, map, unwrap_or};
+ghost use Rattle.dwz_def_readback.specs.Files.{CommonFile, Run};
 ghost use Rattle.dwz_words.specs.declared.options.Options.{Options};
-ghost use Rattle.dwz_def_run.specs.Out.{all_puts, common_puts, puts_by};
-ghost use Rattle.dwz_run_output.specs.Common.{IsCommonMade};
+ghost use Rattle.dwz_def_run.specs.Out.{files_puts_by, puts_by, sup_name};
 ghost use Rattle.dwz_run_output.specs.Making.{AreBefore, AreBytesOf};
 
-use crate::common::CommonFile;
 use crate::rows::{content_of, copy_name, take_row};
 use dwz_model::{Blob, NoMemory};
 use dwz_outside::Put;
-use dwz_words::Options;
 use std::alloc::Global;
 
 // Adds what is put of a file: its new bytes, or else its old ones where the output goes elsewhere.
@@ -39,43 +36,22 @@ fn add_put(
     Ok(())
 }
 
-// Adds what is put of the common file, where one is asked for.
-fn add_common(
+/// Adds what is put of the files, in order, to the one output where that is given, and else each to its name.
+pub(crate) fn add_files(
     alloc: Global,
     puts: &mut Vec<Put>,
-    name: &Option<Blob>,
-    common: Option<CommonFile>,
-) -> Result<(), NoMemory>
-    ensures { (o : Options) (r : Run) → IsCommonMade o r common → OnOk result (puts.new.items ≡ puts.old.items ++ common_puts name.now r) }
-{
-    if let Some(name) = name
-        && let Some(CommonFile { bytes, sup: _ }) = common
-    {
-        puts.push(Put {
-            name: copy_name(alloc, name)?,
-            bytes,
-        })?;
-    }
-    Ok(())
-}
-
-/// What is put: the common file, and then the files in order.
-pub(crate) fn puts(
-    alloc: Global,
-    options: &Options,
+    out: &Option<Blob>,
+    names: &[Blob],
     contents: &[Vec<u8>],
-    common: Option<CommonFile>,
     mut files: Vec<Option<Blob>>,
-) -> Result<Vec<Put>, NoMemory>
-    ensures { (r : Run) → AreBefore r (map (λ c. c.items) contents.now) → IsCommonMade options.now r common
-        → AreBytesOf options.now r files.items → IfOk result (λ puts. puts.items ≡ all_puts options.now r) }
+) -> Result<(), NoMemory>
+    ensures { (k : CommonFile) (o : Options) (r : Run) → o.out ≡ out.now → AreBefore r (map (λ c. c.items) contents.now)
+        → AreBytesOf k (sup_name o) r files.items → OnOk result (puts.new.items ≡ puts.old.items ++ files_puts_by k o r 0 names.now) }
 {
-    let mut puts = Vec::new(alloc);
-    add_common(alloc, &mut puts, &options.common, common)?;
-    for (file, name) in options.files.as_slice().iter().enumerate() {
+    for (file, name) in names.iter().enumerate() {
         let new = take_row(&mut files, file);
         let old = content_of(contents, file);
-        add_put(alloc, &mut puts, &options.out, name, old, new)?;
+        add_put(alloc, puts, out, name, old, new)?;
     }
-    Ok(puts)
+    Ok(())
 }

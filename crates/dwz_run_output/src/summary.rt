@@ -1,33 +1,15 @@
-//! The lengths of the files before and afterwards, and of the common file.
+//! The lengths of the files before and afterwards.
 
 ghost use Rattle.std.specs.Prelude.{◌≡◌, IfOk, get_or, length, map};
 ghost use Rattle.std.specs.Option.{option_map};
-ghost use Rattle.dwz_def_readback.specs.Files.{Run};
-ghost use Rattle.dwz_def_run.specs.Out.{common_length_after, summary_lines};
+ghost use Rattle.dwz_def_readback.specs.Files.{CommonFile, Run};
+ghost use Rattle.dwz_def_run.specs.Out.{summary_lines_by, sup_name};
 ghost use Rattle.dwz_words.specs.declared.options.Options.{Options};
-ghost use Rattle.dwz_run_output.specs.Common.{IsCommonMade};
 ghost use Rattle.dwz_run_output.specs.Making.{AreBefore, AreBytesOf};
 
-use crate::common::CommonFile;
 use crate::rows::{content_of, copy_name};
 use dwz_model::{Blob, NoMemory};
 use std::alloc::Global;
-
-/// The name and the length of the common file, where one is asked for and there is one.
-pub(crate) fn common_line(
-    alloc: Global,
-    name: &Option<Blob>,
-    common: &Option<CommonFile>,
-) -> Result<Option<(Blob, u64)>, NoMemory>
-    ensures { (o : Options) (r : Run) → IsCommonMade o r common.now → IfOk result (λ line. line ≡ common_length_after name.now r) }
-{
-    match (name, common) {
-        (Some(name), Some(common)) => {
-            Ok(Some((copy_name(alloc, name)?, common.bytes.len() as u64)))
-        }
-        _ => Ok(None),
-    }
-}
 
 // How many new bytes the file with a number has, where it has some.
 fn new_length(files: &[Option<Blob>], file: usize) -> Option<u64>
@@ -46,8 +28,8 @@ pub(crate) fn lines(
     contents: &[Vec<u8>],
     files: &[Option<Blob>],
 ) -> Result<Vec<(Blob, u64, Option<u64>)>, NoMemory>
-    ensures { (o : Options) (r : Run) → AreBefore r (map (λ c. c.items) contents.now) → AreBytesOf o r files.now
-        → IfOk result (λ lines. lines.items ≡ summary_lines o r 0 names.now) }
+    ensures { (k : CommonFile) (o : Options) (r : Run) → AreBefore r (map (λ c. c.items) contents.now) → AreBytesOf k (sup_name o) r files.now
+        → IfOk result (λ lines. lines.items ≡ summary_lines_by k o r 0 names.now) }
 {
     let mut lines = Vec::new(alloc);
     for (file, name) in names.iter().enumerate() {

@@ -10,16 +10,17 @@ use Rattle.dwz_def_taken.specs.declared.fixed.Fixed.{Fixed}
 use Rattle.dwz_def_taken.specs.Beside.{all_attrs, all_below, then_entries}
 use Rattle.dwz_def_taken.specs.Over.{common_parts, row_map}
 use Rattle.dwz_def_over.specs.Over.{OverFiles}
+use Rattle.dwz_def_run_over.specs.Comes.{reusing}
 use Rattle.dwz_def_run_over.specs.Reuses.{summary_over}
 use Rattle.dwz_test_definitions.proofs.Comes.{come}
 use Rattle.dwz_test_over.proofs.Bytes.{both_file, common_file, three_file}
 use Rattle.dwz_test_over.proofs.Beside.{over_both, over_common}
 
--- the one FILE is `three`; the common file is `common`
-abbrev pub options : Options
-options = record {
+-- the words `--reuse common three`
+abbrev pub asked : Options
+asked = record {
   quiet = false;
-  common = Some (codes "common");
+  common = None;
   name = None;
   out = None;
   workers = 4;
@@ -28,8 +29,13 @@ options = record {
   explain = false;
   check = false;
   expand = false;
+  reuse = Some (codes "common");
   sup = None;
 }
+
+-- the one FILE is `three`; the common file is `common`
+abbrev pub options : Options
+options = reusing asked
 
 -- the type is taken: it stands for the common file's, the next top
 abbrev pub taken_fixed : Fixed

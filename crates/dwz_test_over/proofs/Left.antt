@@ -27,11 +27,12 @@ use Rattle.dwz_def_taken.specs.Over.{common_parts, row_map}
 use Rattle.dwz_def_taken.specs.Takes.{Blocked, CanTake, CanTakeAlong, IsFixed, IsImage, IsTaken, Takes, image_at, is_blocked, takes_of}
 use Rattle.dwz_def_over.specs.Over.{AreOverFiles, OverFiles, run_over, stands}
 use Rattle.dwz_def_run.specs.Out.{sup_name}
-use Rattle.dwz_def_run_over.specs.Reuses.{Reuses, output_over}
+use Rattle.dwz_def_run_over.specs.Comes.{Comes}
+use Rattle.dwz_def_run_over.specs.Reuses.{output_over}
 use Rattle.dwz_test_definitions.proofs.Comes.{come, said}
 use Rattle.dwz_test_over.proofs.Bytes.{both_file, three_file}
 use Rattle.dwz_test_over.proofs.Beside.{over_both, three_doc}
-use Rattle.dwz_test_over.proofs.Comes.{left, left_fixed, options}
+use Rattle.dwz_test_over.proofs.Comes.{asked, left, left_fixed, options}
 use Rattle.dwz_test_over.proofs.Taken.{prunable, units_read}
 use Rattle.dwz_test_over.proofs.Whole.{one_file}
 
@@ -236,6 +237,6 @@ output_is : output_over options over ≡ out
 unfolding come then_entries all_below all_attrs row_map common_parts
 output_is = refl
 
-left_comes : Reuses options (both_file ∷ three_file ∷ []) (writes out)
+left_comes : Comes asked (both_file ∷ three_file ∷ []) (writes out)
 unfolding come
 left_comes = (over, (refl, refl), record { read = left_over; free = free }, sym output_is)

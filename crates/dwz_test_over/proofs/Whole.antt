@@ -24,10 +24,11 @@ use Rattle.dwz_def_taken.specs.Beside.{all_attrs, all_below, then_entries}
 use Rattle.dwz_def_taken.specs.Over.{common_parts, row_map}
 use Rattle.dwz_def_over.specs.Over.{OverFiles, run_over, stands}
 use Rattle.dwz_def_run.specs.Out.{sup_name}
-use Rattle.dwz_def_run_over.specs.Reuses.{Reuses, output_over}
+use Rattle.dwz_def_run_over.specs.Comes.{Comes}
+use Rattle.dwz_def_run_over.specs.Reuses.{output_over}
 use Rattle.dwz_test_definitions.proofs.Comes.{come}
 use Rattle.dwz_test_over.proofs.Bytes.{common_file, three_file, three_new}
-use Rattle.dwz_test_over.proofs.Comes.{options, taken}
+use Rattle.dwz_test_over.proofs.Comes.{asked, options, taken}
 use Rattle.dwz_test_over.proofs.Taken.{common_units, taken_over}
 
 abbrev over : OverFiles
@@ -128,6 +129,6 @@ unfolding come common_sup_fault read_sup then_entries all_below all_attrs row_ma
     compress digest_bytes first_words hash_after rounds schedule sha256
 output_is = refl
 
-pub three_comes : Reuses options (common_file ∷ three_file ∷ []) (writes out)
+pub three_comes : Comes asked (common_file ∷ three_file ∷ []) (writes out)
 unfolding come
 three_comes = (over, (refl, refl), record { read = taken_over; free = free }, sym output_is)

@@ -3,7 +3,7 @@ use Rattle.std.proofs.Common.{◌≡◌, ◌⊎◌, ◌≤◌, ◌+◌, refl, ap
 use Rattle.std.specs.Prelude.{if◌then◌else◌, is_none, is_some, nat_le, nat_lt, not, ◌==◌, ◌&&◌, ◌||◌}
 use Rattle.std.proofs.lemmas.Bool.{eqb-true, leb-true}
 use Rattle.clap.proofs.WalkLemmas.{both}
-use Rattle.dwz_words.specs.Conditions.{FitTogether, Word, are_distinct, task_count}
+use Rattle.dwz_words.specs.Conditions.{FitTogether, Word, are_distinct, may_have_out, task_count}
 use Rattle.dwz_words.specs.declared.options.Options.{Options}
 
 -- what a flag adds to the count of those that hold
@@ -25,8 +25,13 @@ one_of_two : (a b : Bool) → (a || b) ≡ true → (a ≡ true) ⊎ (b ≡ true
 one_of_two true b e = inl refl
 one_of_two false b e = inr e
 
+-- what is given
+some_given : {X : Type 0} (o : Option X) → is_some o ≡ true → weight (is_some o) ≡ 1
+some_given (Some x) e = refl
+some_given None e = cc
+
 module _ (o : Options) (fit : FitTogether o) where
-  count_is : task_count o ≡ weight (is_some o.common) + weight o.explain + weight o.check + weight o.expand + weight (is_some o.demo)
+  count_is : task_count o ≡ weight (is_some o.common) + weight (is_some o.reuse) + weight o.explain + weight o.check + weight o.expand + weight (is_some o.demo)
   count_is = omega arith
 
   at_most_one : task_count o ≤ 1
@@ -79,16 +84,19 @@ module _ (o : Options) (fit : FitTogether o) where
         adds_none o.expand (omega (arith, count_is, at_most_one)),
       )
 
-  -- with OUT there is one FILE and no task, but that it may be expanded
+  -- with OUT there is one FILE and no task, but that it may be expanded, or written over a common file
   pub with_out : (out : Word) → o.out ≡ Some out
       → (length o.files ≡ 1) × (o.common ≡ None) × (o.explain ≡ false) × (o.demo ≡ None) × (o.check ≡ false)
   with_out out e =
-      let alone = subst (λ (w : Option Word). (is_none w || (length o.files == 1 && (task_count o == 0 || o.expand))) ≡ true) e fit.out_only_for_one in
-      let parts = both (length o.files == 1) (task_count o == 0 || o.expand) alone in
+      let alone = subst (λ (w : Option Word). (is_none w || (length o.files == 1 && may_have_out o)) ≡ true) e fit.out_only_for_one in
+      let parts = both (length o.files == 1) (may_have_out o) alone in
       let rest : weight (is_some o.common) + weight o.explain + weight o.check + weight (is_some o.demo) ≡ 0 =
-      elim (one_of_two (task_count o == 0) o.expand parts.1) [
+      elim (one_of_two (task_count o == 0) (is_some o.reuse || o.expand) parts.1) [
         | inl none ↦ omega (arith, count_is, eqb-true (task_count o) 0 none)
-        | inr expands ↦ omega (arith, count_is, at_most_one, ap weight expands)
+        | inr either ↦ elim (one_of_two (is_some o.reuse) o.expand either) [
+          | inl reuses ↦ omega (arith, count_is, at_most_one, some_given o.reuse reuses)
+          | inr expands ↦ omega (arith, count_is, at_most_one, ap weight expands)
+        ]
       ] in (
         eqb-true (length o.files) 1 parts.0,
         not_given o.common (omega (arith, rest)),
@@ -96,6 +104,29 @@ module _ (o : Options) (fit : FitTogether o) where
         not_given o.demo (omega (arith, rest)),
         adds_none o.check (omega (arith, rest)),
       )
+
+  -- with `--reuse` no common file is made, and nothing is explained, demonstrated, compared or expanded
+  pub with_reuse : (common : Word) → o.reuse ≡ Some common
+      → (o.common ≡ None) × (o.explain ≡ false) × (o.demo ≡ None) × (o.check ≡ false) × (o.expand ≡ false)
+  with_reuse common e =
+      let one = given o.reuse common e in (
+        not_given o.common (omega (arith, count_is, at_most_one)),
+        adds_none o.explain (omega (arith, count_is, at_most_one)),
+        not_given o.demo (omega (arith, count_is, at_most_one)),
+        adds_none o.check (omega (arith, count_is, at_most_one)),
+        adds_none o.expand (omega (arith, count_is, at_most_one)),
+      )
+
+  -- where two files are compared, or there is a demonstration, nothing is written over a common file
+  pub no_reuse_with_check : o.check ≡ true → o.reuse ≡ None
+  no_reuse_with_check e =
+      let one : weight o.check ≡ 1 = ap weight e in
+      not_given o.reuse (omega (arith, count_is, at_most_one))
+
+  pub no_reuse_with_demo : (n : ℕ) → o.demo ≡ Some n → o.reuse ≡ None
+  no_reuse_with_demo n e =
+      let one = given o.demo n e in
+      not_given o.reuse (omega (arith, count_is, at_most_one))
 
   -- with `--expand` there are one FILE and OUT; no common file is made, and nothing is explained, demonstrated or compared
   pub with_expand : o.expand ≡ true

@@ -21,8 +21,8 @@ use Rattle.clap.specs.declared.builder.value_parser.ValueParser.TheVariants as v
 use Rattle.clap.specs.declared.parser.matches.ValueSource.{ValueSource}
 use Rattle.clap.specs.declared.parser.matches.ValueSource.TheVariants.{CommandLine, DefaultValue}
 use Rattle.clap.proofs.OnLiterals.{clap_on_literals}
-use Rattle.dwz_words.specs.Command.{check_rule, common_rule, demo_rule, dwarf_rule, dwz_command, expand_rule, explain_rule, file_rule, name_rule, out_rule, quiet_rule, sup_rule, workers_rule}
-use Rattle.dwz_words.specs.Plain.{Argument, begins_with_dash, check, common, demo, dwarf, expand, explain, file, option_name, name, out, quiet, sup, words_of, workers}
+use Rattle.dwz_words.specs.Command.{check_rule, common_rule, demo_rule, dwarf_rule, dwz_command, expand_rule, explain_rule, file_rule, name_rule, out_rule, quiet_rule, reuse_rule, sup_rule, workers_rule}
+use Rattle.dwz_words.specs.Plain.{Argument, begins_with_dash, check, common, demo, dwarf, expand, explain, file, option_name, name, out, quiet, reuse, sup, words_of, workers}
 
 -- ---- the command
 
@@ -48,6 +48,7 @@ rule_for (demo text) = built_rule demo_rule
 rule_for explain = built_rule explain_rule
 rule_for check = built_rule check_rule
 rule_for expand = built_rule expand_rule
+rule_for (reuse text) = built_rule reuse_rule
 rule_for (sup text) = built_rule sup_rule
 rule_for (file text) = built_rule file_rule
 
@@ -63,6 +64,7 @@ values_for (demo text) = text ∷ []
 values_for explain = []
 values_for check = []
 values_for expand = []
+values_for (reuse text) = text ∷ []
 values_for (sup text) = text ∷ []
 values_for (file text) = text ∷ []
 
@@ -162,6 +164,10 @@ module _ (rows : List Row) (text : Text) (v : IsNoFlag text) where
   unfolding clap_on_literals
   demo_value = leads_by _ _ text (rw (v.no_dashes, v.no_long, v.no_short) refl) (rw (v.no_dashes, v.no_long, v.no_short) refl)
 
+  pub reuse_value : Leads (awaiting rows (codes "reuse")) (text ∷ []) (between rows (Some (codes "reuse", text ∷ [])) idle)
+  unfolding clap_on_literals
+  reuse_value = leads_by _ _ text (rw (v.no_dashes, v.no_long, v.no_short) refl) (rw (v.no_dashes, v.no_long, v.no_short) refl)
+
   pub sup_value : Leads (awaiting rows (codes "sup")) (text ∷ []) (between rows (Some (codes "sup", text ∷ [])) idle)
   unfolding clap_on_literals
   sup_value = leads_by _ _ text (rw (v.no_dashes, v.no_long, v.no_short) refl) (rw (v.no_dashes, v.no_long, v.no_short) refl)
@@ -237,6 +243,13 @@ module _ (rows : List Row) (pending : Pending) (settles : settle_fault rules fal
   demo_word idle e = leads_by _ _ _ (rw settles refl) refl
   demo_word positional e = leads_by _ _ _ (rw settles refl) refl
   demo_word (option id) e = cc
+
+  pub reuse_word : (waiting : Waiting) → is_ready waiting ≡ true
+      → Leads (between rows pending waiting) (codes "--reuse" ∷ []) (awaiting (full_rows rows pending) (codes "reuse"))
+  unfolding clap_on_literals
+  reuse_word idle e = leads_by _ _ _ (rw settles refl) refl
+  reuse_word positional e = leads_by _ _ _ (rw settles refl) refl
+  reuse_word (option id) e = cc
 
   pub sup_word : (waiting : Waiting) → is_ready waiting ≡ true
       → Leads (between rows pending waiting) (codes "--sup" ∷ []) (awaiting (full_rows rows pending) (codes "sup"))

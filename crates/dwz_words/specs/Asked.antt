@@ -19,14 +19,23 @@ names_of_places words = words
 abbrev pub names_numbered : Options → List Word
 names_numbered o = if o.explain then names_of_places o.files else o.files
 
+-- the first of two that is given
+abbrev pub first_given : Option Word → Option Word → Option Word
+first_given None other = other
+first_given (Some word) other = Some word
+
+-- the common file that is read: that of `--sup`, or that of `--reuse`
+abbrev pub common_read : Options → Option Word
+common_read o = first_given o.sup o.reuse
+
 -- these names, and before them that of a common file, if there is one
 abbrev pub behind : Option Word → List Word → List Word
 behind None names = names
 behind (Some common) names = common ∷ names
 
--- the names of the files that are got, in order: the common file of `--sup` comes first
+-- the names of the files that are got, in order: the common file that is read comes first
 abbrev pub names_got : Options → List Word
-names_got o = behind o.sup (names_numbered o)
+names_got o = behind (common_read o) (names_numbered o)
 
 -- of FILE OFFSET FILE OFFSET the two places, each as the number of its file and an offset there; of any other number of words twice the
 -- first byte of file 0

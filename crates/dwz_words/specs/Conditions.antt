@@ -14,9 +14,9 @@ Word = List ℕ
 
 -- ---- which stand together
 
--- the tasks that may be asked for: to make a common file, to explain, to compare, to expand, to demonstrate
+-- the tasks that may be asked for: to make a common file, to write over one that is finished, to explain, to compare, to expand, to demonstrate
 abbrev pub tasks : Options → List Bool
-tasks o = is_some o.common ∷ o.explain ∷ o.check ∷ o.expand ∷ is_some o.demo ∷ []
+tasks o = is_some o.common ∷ is_some o.reuse ∷ o.explain ∷ o.check ∷ o.expand ∷ is_some o.demo ∷ []
 
 -- how many of them are asked for; where none is, each FILE is worked on by itself
 abbrev pub task_count : Options → ℕ
@@ -34,13 +34,17 @@ has_file_count o = if is_some o.demo then length o.files == 0
     else (if o.expand then length o.files == 1
     else (nat_lt 0 (length o.files) && nat_le (length o.files) 256))))
 
--- NAME only with COMMON
+-- NAME only with COMMON, of `-m` or of `--reuse`
 abbrev pub has_name_only_with_common : Options → Bool
-has_name_only_with_common o = is_none o.name || is_some o.common
+has_name_only_with_common o = is_none o.name || (is_some o.common || is_some o.reuse)
 
--- OUT only with one FILE, and where no task but `--expand` is asked for
+-- no task but `--reuse` and `--expand` goes with OUT
+abbrev pub may_have_out : Options → Bool
+may_have_out o = task_count o == 0 || (is_some o.reuse || o.expand)
+
+-- OUT only with one FILE, and where no other task is asked for
 abbrev pub has_out_only_for_one : Options → Bool
-has_out_only_for_one o = is_none o.out || (length o.files == 1 && (task_count o == 0 || o.expand))
+has_out_only_for_one o = is_none o.out || (length o.files == 1 && may_have_out o)
 
 -- and `--expand` only with OUT
 abbrev pub has_out_with_expand : Options → Bool
@@ -69,9 +73,12 @@ has_distinct_files o = o.explain || are_distinct o.files
 abbrev pub is_apart : List Word → Option Word → Bool
 is_apart files common = option_map_or (λ common. not (is_among files common)) common true
 
--- so it is with that of `-m`, and with that of `--sup`
+-- so it is with that of `-m`, with that of `--reuse`, and with that of `--sup`
 abbrev pub has_common_apart : Options → Bool
 has_common_apart o = is_apart o.files o.common
+
+abbrev pub has_reuse_apart : Options → Bool
+has_reuse_apart o = is_apart o.files o.reuse
 
 abbrev pub has_sup_apart : Options → Bool
 has_sup_apart o = is_apart o.files o.sup
@@ -81,7 +88,10 @@ abbrev pub are_other : Option Word → Option Word → Bool
 are_other (Some one) (Some two) = not (bytes_eq one two)
 are_other _ _ = true
 
--- the COMMON of `--sup` isn't OUT either
+-- neither the COMMON of `--reuse` is OUT nor that of `--sup`
+abbrev pub has_reuse_apart_from_out : Options → Bool
+has_reuse_apart_from_out o = are_other o.reuse o.out
+
 abbrev pub has_sup_apart_from_out : Options → Bool
 has_sup_apart_from_out o = are_other o.sup o.out
 
@@ -94,7 +104,8 @@ abbrev pub has_file_names : Options → Bool
 has_file_names o = list_all is_file_name o.files
     && (option_map_or is_file_name o.common true
     && (option_map_or is_file_name o.name true
-    && (option_map_or is_file_name o.out true && option_map_or is_file_name o.sup true)))
+    && (option_map_or is_file_name o.out true
+    && (option_map_or is_file_name o.reuse true && option_map_or is_file_name o.sup true))))
 
 -- ---- places in files
 
@@ -126,6 +137,8 @@ pub record FitTogether (o : Options) : Type 0 where
   pub sup_only_with_check_or_expand : IsTrue (has_sup_only_with_check_or_expand o)
   pub distinct_files : IsTrue (has_distinct_files o)
   pub common_apart : IsTrue (has_common_apart o)
+  pub reuse_apart : IsTrue (has_reuse_apart o)
+  pub reuse_apart_from_out : IsTrue (has_reuse_apart_from_out o)
   pub sup_apart : IsTrue (has_sup_apart o)
   pub sup_apart_from_out : IsTrue (has_sup_apart_from_out o)
   pub file_names : IsTrue (has_file_names o)

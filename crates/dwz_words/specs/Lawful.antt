@@ -43,6 +43,7 @@ options_of rows = record {
   explain = is_set (codes "explain") rows;
   check = is_set (codes "check") rows;
   expand = is_set (codes "expand") rows;
+  reuse = first_of (codes "reuse") rows;
   sup = first_of (codes "sup") rows;
 }
 

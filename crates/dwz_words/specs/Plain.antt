@@ -22,6 +22,7 @@ pub data Argument : Type 0 where
   explain : Argument
   check : Argument
   expand : Argument
+  reuse : Word → Argument
   sup : Word → Argument
   file : Word → Argument
 
@@ -37,6 +38,7 @@ words_of (demo word) = codes "--demo" ∷ word ∷ []
 words_of explain = codes "--explain" ∷ []
 words_of check = codes "--check" ∷ []
 words_of expand = codes "--expand" ∷ []
+words_of (reuse word) = codes "--reuse" ∷ word ∷ []
 words_of (sup word) = codes "--sup" ∷ word ∷ []
 words_of (file word) = word ∷ []
 
@@ -63,6 +65,7 @@ is_plain (demo word) = is_plain_number 2 10000 word
 is_plain explain = true
 is_plain check = true
 is_plain expand = true
+is_plain (reuse word) = not (begins_with_dash word)
 is_plain (sup word) = not (begins_with_dash word)
 is_plain (file word) = not (begins_with_dash word)
 
@@ -78,6 +81,7 @@ option_name (demo word) = Some (codes "demo")
 option_name explain = Some (codes "explain")
 option_name check = Some (codes "check")
 option_name expand = Some (codes "expand")
+option_name (reuse word) = Some (codes "reuse")
 option_name (sup word) = Some (codes "sup")
 option_name (file word) = None
 
@@ -114,6 +118,7 @@ value_of (demo word) = word
 value_of explain = codes "true"
 value_of check = codes "true"
 value_of expand = codes "true"
+value_of (reuse word) = word
 value_of (sup word) = word
 value_of (file word) = word
 
@@ -138,5 +143,6 @@ options_said arguments = record {
   explain = is_some (value_at (codes "explain") arguments);
   check = is_some (value_at (codes "check") arguments);
   expand = is_some (value_at (codes "expand") arguments);
+  reuse = value_at (codes "reuse") arguments;
   sup = value_at (codes "sup") arguments;
 }

@@ -1,7 +1,7 @@
 //! What options ask for: which files are got, and of which two places something is said.
 
 ghost use Rattle.std.specs.Prelude.{◌≡◌, IfOk, map};
-ghost use Rattle.dwz_words.specs.Asked.{names_got, names_numbered, offset_value, places_asked};
+ghost use Rattle.dwz_words.specs.Asked.{common_read, names_got, names_numbered, offset_value, places_asked};
 
 use crate::conditions::is_offset;
 use crate::options::Options;
@@ -38,12 +38,22 @@ pub fn names_numbered<'a>(alloc: Global, options: &'a Options) -> Result<Vec<&'a
     }
 }
 
-/// The names of the files that are got, in order: with `--sup` first the common file, and then those that have numbers.
+/// The common file that is read, with `--sup` or `--reuse`.
+pub fn common_read(options: &Options) -> &Option<Blob>
+    ensures { result.now ≡ common_read options.now }
+{
+    match &options.sup {
+        Some(_) => &options.sup,
+        None => &options.reuse,
+    }
+}
+
+/// The names of the files that are got, in order: with `--sup` or `--reuse` first the common file, and then those that have numbers.
 pub fn names_got<'a>(alloc: Global, options: &'a Options) -> Result<Vec<&'a [u8]>, NoMemory>
     ensures { IfOk result (λ v. map (λ n. n.now) v.items ≡ names_got options.now) }
 {
     let files = names_numbered(alloc, options)?;
-    match &options.sup {
+    match common_read(options) {
         None => Ok(files),
         Some(common) => {
             let mut names = Vec::new(alloc);

@@ -66,8 +66,8 @@ fn file_words<'a>(alloc: Global) -> Arg<'a>
     Arg::new(alloc, "FILE").num_args(0..)
 }
 
-/// `[-q] [--dwarf-5] [-m COMMON [-M NAME]] [-o OUT] [-j N] FILE...`, `--demo N`, `--explain FILE OFFSET FILE OFFSET`,
-/// `--expand FILE [--sup COMMON] -o OUT`, and `--check OLD NEW [--sup COMMON]`.
+/// `[-q] [--dwarf-5] [-m COMMON [-M NAME]] [-o OUT] [-j N] FILE...`, `--demo N`, `--reuse COMMON [-M NAME] [-o OUT] [-j N] FILE...`,
+/// `--explain FILE OFFSET FILE OFFSET`, `--expand FILE [--sup COMMON] -o OUT`, and `--check OLD NEW [--sup COMMON]`.
 pub(crate) fn make_command<'a>(alloc: Global) -> Result<Command<'a>, NoMemory>
     ensures { IfOk result (λ command. app_of command ≡ dwz_command) }
 {
@@ -88,5 +88,6 @@ pub(crate) fn make_command<'a>(alloc: Global) -> Result<Command<'a>, NoMemory>
         .arg(long_flag(alloc, "explain"))?
         .arg(long_flag(alloc, "check"))?;
     let beside = asked.arg(long_option(alloc, "sup"))?;
-    beside.arg(long_flag(alloc, "expand"))
+    let expanding = beside.arg(long_flag(alloc, "expand"))?;
+    expanding.arg(long_option(alloc, "reuse"))
 }

@@ -10,6 +10,7 @@ ghost use Rattle.dwz_words.specs.Conditions.{FitTogether, are_distinct, are_othe
 ghost use Rattle.dwz_words.specs.Conditions.{has_distinct_files, has_file_count, has_file_names};
 ghost use Rattle.dwz_words.specs.Conditions.{has_name_only_with_common, has_offsets, has_one_task};
 ghost use Rattle.dwz_words.specs.Conditions.{has_out_only_for_one, has_out_with_expand, has_sup_apart};
+ghost use Rattle.dwz_words.specs.Conditions.{has_reuse_apart, has_reuse_apart_from_out, may_have_out};
 ghost use Rattle.dwz_words.specs.Conditions.{has_sup_apart_from_out, has_sup_only_with_check_or_expand};
 ghost use Rattle.dwz_words.specs.Conditions.{is_among, is_apart, is_file_name, is_offset};
 ghost use Rattle.dwz_words.specs.Conditions.{is_offset_digit, task_count};
@@ -28,6 +29,7 @@ fn task_count(options: &Options) -> usize
 {
     let tasks = [
         options.common.is_some(),
+        options.reuse.is_some(),
         options.explain,
         options.check,
         options.expand,
@@ -62,14 +64,19 @@ fn has_file_count(options: &Options) -> bool
 fn has_name_only_with_common(options: &Options) -> bool
     ensures { result ≡ has_name_only_with_common options.now }
 {
-    options.name.is_none() || options.common.is_some()
+    options.name.is_none() || options.common.is_some() || options.reuse.is_some()
+}
+
+fn may_have_out(options: &Options) -> bool
+    ensures { result ≡ may_have_out options.now }
+{
+    task_count(options) == 0 || options.reuse.is_some() || options.expand
 }
 
 fn has_out_only_for_one(options: &Options) -> bool
     ensures { result ≡ has_out_only_for_one options.now }
 {
-    options.out.is_none()
-        || options.files.len() == 1 && (task_count(options) == 0 || options.expand)
+    options.out.is_none() || options.files.len() == 1 && may_have_out(options)
 }
 
 fn has_out_with_expand(options: &Options) -> bool
@@ -127,6 +134,12 @@ fn has_sup_apart(options: &Options) -> bool
     is_apart(options.files.as_slice(), &options.sup)
 }
 
+fn has_reuse_apart(options: &Options) -> bool
+    ensures { result ≡ has_reuse_apart options.now }
+{
+    is_apart(options.files.as_slice(), &options.reuse)
+}
+
 fn are_other(one: &Option<Blob>, two: &Option<Blob>) -> bool
     ensures { result ≡ are_other one.now two.now }
 {
@@ -140,6 +153,12 @@ fn has_sup_apart_from_out(options: &Options) -> bool
     ensures { result ≡ has_sup_apart_from_out options.now }
 {
     are_other(&options.sup, &options.out)
+}
+
+fn has_reuse_apart_from_out(options: &Options) -> bool
+    ensures { result ≡ has_reuse_apart_from_out options.now }
+{
+    are_other(&options.reuse, &options.out)
 }
 
 fn is_file_name(word: &Blob) -> bool
@@ -170,6 +189,7 @@ fn has_file_names(options: &Options) -> bool
         && is_file_name_or_none(&options.common)
         && is_file_name_or_none(&options.name)
         && is_file_name_or_none(&options.out)
+        && is_file_name_or_none(&options.reuse)
         && is_file_name_or_none(&options.sup)
 }
 
@@ -224,6 +244,8 @@ pub(crate) fn fit_together(options: &Options) -> bool
         && has_sup_only_with_check_or_expand(options)
         && has_distinct_files(options)
         && has_common_apart(options)
+        && has_reuse_apart(options)
+        && has_reuse_apart_from_out(options)
         && has_sup_apart(options)
         && has_sup_apart_from_out(options)
         && has_file_names(options)

@@ -23,6 +23,6 @@ mod conditions;
 mod options;
 mod reading;
 
-pub use asked::{names_got, names_numbered, places_asked};
+pub use asked::{common_read, names_got, names_numbered, places_asked};
 pub use options::{Options, WordsErr};
 pub use reading::parse;

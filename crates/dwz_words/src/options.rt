@@ -29,6 +29,8 @@ pub struct Options {
     pub check: bool,
     /// `--expand`: write one file without its partial units. FILE is one, and OUT is given.
     pub expand: bool,
+    /// `--reuse COMMON`: the name of the finished common file over which FILEs are written.
+    pub reuse: Option<Blob>,
     /// `--sup COMMON`: the name of the finished common file beside which the files of `--check` and `--expand` are read.
     pub sup: Option<Blob>,
 }

@@ -77,6 +77,7 @@ fn options_of(alloc: Global, matches: &ArgMatches<'_>) -> Result<Options, NoMemo
         explain: matches.get_one::<bool>("explain").unwrap_or(false),
         check: matches.get_one::<bool>("check").unwrap_or(false),
         expand: matches.get_one::<bool>("expand").unwrap_or(false),
+        reuse: blob_if_some(alloc, matches.get_str("reuse"))?,
         sup: blob_if_some(alloc, matches.get_str("sup"))?,
     })
 }

@@ -1,6 +1,7 @@
 use Rattle.dwz_law_over.proofs.OverFacts.{are_facts}
 use Rattle.dwz_law_over.proofs.OverMoves.{over_moves}
 use Rattle.dwz_law_over.proofs.OverWhole.{over_whole}
+use Rattle.dwz_law_over.proofs.StandingRows.{standing_rows}
 use Rattle.dwz_law_over.proofs.over_laws.Goals as goal
 
 pub returns-clause-moves : goal.returns-clause-moves
@@ -11,3 +12,6 @@ returns-clause-whole c = over_whole
 
 pub returns-clause-facts : goal.returns-clause-facts
 returns-clause-facts c = are_facts
+
+pub returns-clause-rows : goal.returns-clause-rows
+returns-clause-rows c = standing_rows

@@ -1,6 +1,8 @@
+use Rattle.dwz_def_run_over.proofs.Gotten.{got_whole}
 use Rattle.dwz_def_run_over.proofs.Lengths.{lengths_over}
 use Rattle.dwz_def_run_over.proofs.OneReuse.{one_reuse, some_reuse}
-use Rattle.dwz_def_run_over.proofs.NotPut.{not_put, stops_over}
+use Rattle.dwz_def_run_over.proofs.OneComes.{never_no_reuse}
+use Rattle.dwz_def_run_over.proofs.NotPut.{holds_over, not_put, stops_over}
 use Rattle.dwz_def_run_over.proofs.reuses.reuses_laws.Goals as goal
 
 pub returns-clause-one : goal.returns-clause-one
@@ -8,6 +10,9 @@ returns-clause-one c = one_reuse
 
 pub returns-clause-some : goal.returns-clause-some
 returns-clause-some c = some_reuse
+
+pub returns-clause-never_nothing : goal.returns-clause-never_nothing
+returns-clause-never_nothing c = never_no_reuse
 
 pub returns-clause-not_put : goal.returns-clause-not_put
 returns-clause-not_put c = not_put
@@ -17,3 +22,9 @@ returns-clause-stops c = stops_over
 
 pub returns-clause-lengths : goal.returns-clause-lengths
 returns-clause-lengths c o x bytes written few = lengths_over o x bytes written few
+
+pub returns-clause-held : goal.returns-clause-held
+returns-clause-held c = holds_over
+
+pub returns-clause-got : goal.returns-clause-got
+returns-clause-got c o contents x has are store common is = got_whole store common o.files contents x are is has.0 has.1

@@ -10,6 +10,7 @@ use Rattle.dwz_graph.proofs.RowLemmas.{row_there}
 use Rattle.dwz_graph.proofs.ValueSteps.{next_read, no_pair}
 use Rattle.dwz_encode_common.specs.Placed.{entry_places}
 use Rattle.dwz_encode_common.specs.Stored.{text_read}
+use Rattle.dwz_encode_common.specs.TextsIn.{texts_in}
 use Rattle.dwz_encode_common.proofs.PlacedSteps.{all_placed, values_placed}
 use Rattle.dwz_encode_common.proofs.placed.put_row.Goals as goal
 
@@ -44,7 +45,7 @@ loop-pair-preserved c =
       places = λ row found. (
           let is = (next_read row.entry.at pairs j no_pair c.loop-pair.cursor c.known_value-raw.new.cursor value row.entry.attrs
           c.loop-pair-test.true (c.loop-pair.invariant.reads row found) c.known_value-raw.ensures.value).is in
-          values_placed c.in_common_file-is_common.result to.shares to.pool.now to.known.now to.file
+          values_placed c.is_written_there-is_common.result to.shares (texts_in to.texts.now) to.known.now to.file
           (text_read (sources_view p.sections.now) c.base_of-base.result) row.entry.attrs j a c.args.places.now.items
           c.loop-pair.places.items c.put_value.new.places.items is
           (c.loop-pair.invariant.places row found) c.in_ok-put_value.ensures);
@@ -57,9 +58,9 @@ returns c = λ row found. (
     let old = c.args.places.now.items in
     let pairs = c.values-cursor.result.pairs.now in
     let count = reads_count row.entry.at pairs c.values-cursor.result.cursor row.entry.attrs (c.values-cursor.ensures.read row found) in
-    all_placed c.in_common_file-is_common.result to.shares to.pool.now to.known.now to.file
+    all_placed c.is_written_there-is_common.result to.shares (texts_in to.texts.now) to.known.now to.file
     (text_read (sources_view p.sections.now) c.base_of-base.result) row.entry.attrs c.loop-pair.pair-index old
     c.loop-pair.places.items
     (omega (arith, count, c.loop-pair-test.false)) (c.loop-pair.invariant.places row found)
-    ∙ (λ i. old ++ entry_places (c.in_common_file-is_common.ensures i) to.shares to.pool.now to.known.now to.file (length old)
+    ∙ (λ i. old ++ entry_places (c.is_written_there-is_common.ensures i) to.shares (texts_in to.texts.now) to.known.now to.file (length old)
     (flat_map (text_read (sources_view p.sections.now) (c.base_of-base.ensures row found i)) row.entry.attrs)))

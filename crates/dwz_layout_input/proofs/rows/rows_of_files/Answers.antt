@@ -44,7 +44,7 @@ loop-texts-preserved c =
           rows_next c.args.files.now c.args.indexes.now c.args.plan.now c.args.tops.now starts c.args.all.items c.loop-texts.texts-iterator.rest.items c.next.new.self.rest.items n
           c.loop-texts.rows.items c.push.new.self.items c.index-files-number.result c.index-indexes-number.result (get_or starts n 0) c.in-Some.texts c.in_ok-row.row
           lt c.index-files-number.is lti c.index-indexes-number.is lts (get_or_default starts n 0 (get_or starts n 0) lts)
-          c.in-Some.ensures.steps.0 c.in_ok-push.ensures.items (λ f p. c.in_ok-row.ensures.listed f p) c.loop-texts.invariant.rows;
+          c.in-Some.ensures.steps.0 c.in_ok-push.ensures.items (λ beside f p. c.in_ok-row.ensures.listed beside f p) c.loop-texts.invariant.rows;
       numbers =
           numbers_next c.args.numbers.items c.loop-texts.left.rest.items c.next-in-loop-texts.new.self.rest.items n (length c.args.files.now) c.loop-texts.rows.items c.push.new.self.items
           c.in_ok-row.row c.in-Some-next.numbers c.in-Some-next.ensures.items c.in_ok-push.ensures.items c.in_ok-row.ensures.numbers c.loop-texts.invariant.numbers;

@@ -6,7 +6,7 @@ use Rattle.dwz_layout_input.proofs.TextSteps.{listed_with}
 use Rattle.dwz_layout_input.proofs.texts.with_texts.Goals as goal
 
 pub returns-clause-listed : goal.returns-clause-listed
-returns-clause-listed c = λ f before h. (
+returns-clause-listed c = λ beside f before h. (
     let known = c.args.known in
     listed_with f before known _ c.args.texts (record { files = c.requires.files; spaces = c.requires.spaces; commons = c.requires.commons; numbers = c.requires.numbers }) c.in_ok-files.ensures
     (with_items_is known.spaces c.put_names.new.spaces (omega (arith, known.spaces.ok.0, ap (λ (w : List SpaceRow). length w) c.as_mut_slice.ensures.value, c.put_names.auto.spaces))

@@ -20,7 +20,7 @@ loop-top-preserved c =
     c.loop-top.invariant c.mark.ensures
 
 pub returns : goal.returns
-returns c = λ docs rule many shows planned. (
+returns c = λ docs m many planned. (
     let rows = c.args.tops.now.rows in
     let all : length rows ≡ c.loop-top.top = (let long = ap (λ (w : List TopRow). length w) c.as_slice-row-items.ensures in omega arith) in
-    flags_so docs rule c.args.tops.now c.args.plan.now shows planned c.args.files c.loop-top.top c.loop-top.flags.items many all c.loop-top.invariant)
+    flags_so docs m c.args.tops.now c.args.plan.now planned c.args.files c.loop-top.top c.loop-top.flags.items many all c.loop-top.invariant)

@@ -31,11 +31,11 @@ loop-part-preserved c =
     ]
 
 pub returns : goal.returns
-returns c = λ docs rule many shows planned. (
+returns c = λ docs m many planned. (
     let count = c.args.files in
     let files = c.args.tops.now.files_of_units in
     let parts = c.args.plan.now.partials in
     let i = c.loop-part.part-index in
     let all : length parts ≡ length c.partials-part-items.result.now = ap (λ (w : List Partial). length w) (sym c.partials-part-items.ensures) in
     let whole = subst (λ (ps : List Partial). Flagged count files ps c.loop-part.flags.items) (take_all i parts (omega (arith, all, c.loop-part-test.false))) c.loop-part.invariant in
-    flags_so docs rule c.args.tops.now c.args.plan.now shows planned count c.loop-part.flags.items many whole)
+    flags_so docs m c.args.tops.now c.args.plan.now planned count c.loop-part.flags.items many whole)

@@ -1,111 +1,50 @@
-use Rattle.std.proofs.Common.{◌+◌, ◌∷◌, ◌++◌, [], ℕ, List, length, ap, ◌∙◌, arith}
-use Rattle.dwz_graph.specs.Files.{docs_of}
-use Rattle.dwz_graph.specs.Index.{Index}
-use Rattle.dwz_graph.proofs.IndexesThere.{of_indexes}
-use Rattle.dwz_layout_order.specs.Ordered.{AreOrders}
-use Rattle.dwz_layout_order.proofs.FileSteps.{all_put, file_is_small, many, one_more, starts, steps_many, units_within}
-use Rattle.dwz_layout_order.proofs.PartSteps.{files_low, numbers_low, numbers_of, parts_put}
+use Rattle.std.proofs.Common.{◌≡◌, ◌+◌, ◌<◌, ℕ, length, refl, sym, ap, ◌∙◌, arith}
+use Rattle.std.proofs.lemmas.Result.{IfOk-weaker}
+use Rattle.dwz_groups.specs.Groups.{values_at}
+use Rattle.dwz_layout.specs.declared.order.UnitItems.{UnitItems}
+use Rattle.dwz_layout_order.specs.Ordered.{AreOrders, AreOrdersBehind}
+use Rattle.dwz_layout_order.specs.Parts.{file_pairs}
+use Rattle.dwz_layout_order.proofs.FileSteps.{files_long, with_common}
+use Rattle.dwz_layout_order.proofs.PartSteps.{hold_spaced, numbers_low, numbers_of, parts_put, settled_below}
 use Rattle.dwz_layout_order.proofs.orders.orders_of_files.Goals as goal
 
-pub overflow_cast-files : goal.overflow_cast-files
-overflow_cast-files c = (let m = (many c.args.graph.now.given c.files-files.result.now c.indexes-indexes.result.now c.files-files.ensures c.indexes-indexes.ensures).0 in let few = c.requires.few in omega arith)
-
-pub parts_of_files-requires-clause-files : goal.parts_of_files-requires-clause-files
-parts_of_files-requires-clause-files c =
-    let m = (many c.args.graph.now.given c.files-files.result.now c.indexes-indexes.result.now c.files-files.ensures c.indexes-indexes.ensures).0 in
-    files_low (length c.files-files.result.now) (length c.args.graph.now.given) c.args.settled.now.plan.now.partials c.partials.result.now c.partials.ensures m c.requires.files
+pub parts_of-requires-clause-few_parts : goal.parts_of-requires-clause-few_parts
+parts_of-requires-clause-few_parts c = c.requires.settled.spaced.few_parts
 
 pub get-requires : goal.get-requires
 get-requires c =
-    let n = length c.files-files.result.now in
-    (numbers_of c.args.settled.now n n c.partials.result.now c.in_ok-parts.parts c.partials.ensures c.in_ok-parts.ensures (omega arith)).0
+    let m = files_long c.args.graph.now.given c.files.result.now c.files.ensures in
+    (numbers_of c.args.settled.now (length c.args.graph.now.given) (length c.files.result.now) c.args.settled.now.plan.now.partials c.in_ok-parts.parts refl c.in_ok-parts.ensures (omega arith)).0
+
+pub parts_items-requires-clause-settled : goal.parts_items-requires-clause-settled
+parts_items-requires-clause-settled c = c.requires.settled.spaced
 
 pub parts_items-requires-clause-there : goal.parts_items-requires-clause-there
 parts_items-requires-clause-there c =
-    let n = length c.files-files.result.now in
-    numbers_low c.args.settled.now n c.get.result.now (c.get.ensures ∙ (numbers_of c.args.settled.now n n c.partials.result.now c.in_ok-parts.parts c.partials.ensures c.in_ok-parts.ensures
-    (omega arith)).1)
+    let m = files_long c.args.graph.now.given c.files.result.now c.files.ensures in
+    let n = length c.files.result.now in
+    numbers_low c.args.settled.now n c.get.result.now
+    (c.get.ensures ∙ (numbers_of c.args.settled.now (length c.args.graph.now.given) n c.args.settled.now.plan.now.partials c.in_ok-parts.parts refl c.in_ok-parts.ensures (omega arith)).1)
 
-pub loop-number-init : goal.loop-number-init
-loop-number-init c =
-    let s = c.args.settled.now in
-    let files = c.files-files.result.now in
-    let n = length files in
-    let numbers = c.get.ensures ∙ (numbers_of s n n c.partials.result.now c.in_ok-parts.parts c.partials.ensures c.in_ok-parts.ensures (omega arith)).1 in
-    let common = c.in_ok-common.common.items in
-    starts c.args.graph.now.given files c.indexes-indexes.result.now c.files-files.ensures c.indexes-indexes.ensures s common c.push.new.self.items
-    (parts_put s n c.get.result.now common numbers c.in_ok-common.ensures)
-    (c.in_ok-push.ensures.items ∙ (λ i. c.new-orders.ensures.items i ++ c.new.ensures i ∷ []))
+pub parts_items-requires-clause-inside : goal.parts_items-requires-clause-inside
+parts_items-requires-clause-inside c =
+    let m = files_long c.args.graph.now.given c.files.result.now c.files.ensures in
+    let n = length c.files.result.now in
+    hold_spaced (length c.args.graph.now.given + 1) c.args.settled.now n c.get.result.now c.requires.settled (omega arith)
+    (c.get.ensures ∙ (numbers_of c.args.settled.now (length c.args.graph.now.given) n c.args.settled.now.plan.now.partials c.in_ok-parts.parts refl c.in_ok-parts.ensures (omega arith)).1)
 
-pub bounds-indexes-number : goal.bounds-indexes-number
-bounds-indexes-number c = (let m = (many c.args.graph.now.given c.files-files.result.now c.indexes-indexes.result.now c.files-files.ensures c.indexes-indexes.ensures).1 in omega arith)
-
-pub overflow_cast-number : goal.overflow_cast-number
-overflow_cast-number c = (let m = (many c.args.graph.now.given c.files-files.result.now c.indexes-indexes.result.now c.files-files.ensures c.indexes-indexes.ensures).0 in let few = c.requires.few in omega arith)
-
-pub put_file-requires-clause-there : goal.put_file-requires-clause-there
-put_file-requires-clause-there c =
-    let n = length c.files-files.result.now in
-    (numbers_of c.args.settled.now n c.loop-number.number c.partials.result.now c.in_ok-parts.parts c.partials.ensures c.in_ok-parts.ensures (omega arith)).0
-
-pub put_file-requires-clause-numbers : goal.put_file-requires-clause-numbers
-put_file-requires-clause-numbers c =
-    let n = length c.files-files.result.now in
-    (numbers_of c.args.settled.now n c.loop-number.number c.partials.result.now c.in_ok-parts.parts c.partials.ensures c.in_ok-parts.ensures (omega arith)).1
-
-pub put_file-requires-clause-small : goal.put_file-requires-clause-small
-put_file-requires-clause-small c =
-    (file_is_small c.args.graph.now.given c.files-files.result.now c.indexes-indexes.result.now c.files-files.ensures c.indexes-indexes.ensures c.args.settled.now c.loop-number.number c.loop-number.start
-    c.loop-number.orders.items c.loop-number.invariant
-    c.index-files-number.result c.index-indexes-number.result c.loop-number-test.true c.index-files-number.is c.index-indexes-number.is).0
-
-pub put_file-requires-clause-few_units : goal.put_file-requires-clause-few_units
-put_file-requires-clause-few_units c =
-    (file_is_small c.args.graph.now.given c.files-files.result.now c.indexes-indexes.result.now c.files-files.ensures c.indexes-indexes.ensures c.args.settled.now c.loop-number.number c.loop-number.start
-    c.loop-number.orders.items c.loop-number.invariant
-    c.index-files-number.result c.index-indexes-number.result c.loop-number-test.true c.index-files-number.is c.index-indexes-number.is).1
-
-pub put_file-requires-clause-imports : goal.put_file-requires-clause-imports
-put_file-requires-clause-imports c =
-    let inside = units_within c.args.graph.now.given c.files-files.result.now c.indexes-indexes.result.now c.files-files.ensures c.indexes-indexes.ensures c.args.settled.now c.loop-number.number c.loop-number.start
-    c.loop-number.orders.items c.loop-number.invariant
-    c.index-files-number.result c.index-indexes-number.result c.loop-number-test.true c.index-files-number.is c.index-indexes-number.is in
-    let all = c.requires.imports in
-    omega arith
-
-pub len-start-requires : goal.len-start-requires
-len-start-requires c =
-    let small = (file_is_small c.args.graph.now.given c.files-files.result.now c.indexes-indexes.result.now c.files-files.ensures c.indexes-indexes.ensures c.args.settled.now c.loop-number.number c.loop-number.start
-    c.loop-number.orders.items c.loop-number.invariant
-    c.index-files-number.result c.index-indexes-number.result c.loop-number-test.true c.index-files-number.is c.index-indexes-number.is).0.entries in
-    let steps = steps_many c.args.graph.now.given c.files-files.result.now c.indexes-indexes.result.now c.files-files.ensures c.indexes-indexes.ensures c.args.settled.now c.loop-number.number c.loop-number.start
-    c.loop-number.orders.items c.loop-number.invariant
-    c.index-files-number.result c.index-indexes-number.result c.loop-number-test.true c.index-files-number.is c.index-indexes-number.is in
-    omega arith
-
-pub overflow_add-start : goal.overflow_add-start
-overflow_add-start c =
-    let small = (file_is_small c.args.graph.now.given c.files-files.result.now c.indexes-indexes.result.now c.files-files.ensures c.indexes-indexes.ensures c.args.settled.now c.loop-number.number c.loop-number.start
-    c.loop-number.orders.items c.loop-number.invariant
-    c.index-files-number.result c.index-indexes-number.result c.loop-number-test.true c.index-files-number.is c.index-indexes-number.is).0.entries in
-    let steps = steps_many c.args.graph.now.given c.files-files.result.now c.indexes-indexes.result.now c.files-files.ensures c.indexes-indexes.ensures c.args.settled.now c.loop-number.number c.loop-number.start
-    c.loop-number.orders.items c.loop-number.invariant
-    c.index-files-number.result c.index-indexes-number.result c.loop-number-test.true c.index-files-number.is c.index-indexes-number.is in
-    let len = c.len-start.ensures in
-    omega arith
-
-pub loop-number-preserved : goal.loop-number-preserved
-loop-number-preserved c =
-    one_more c.args.graph.now.given c.files-files.result.now c.indexes-indexes.result.now c.files-files.ensures c.indexes-indexes.ensures c.args.settled.now c.loop-number.number c.loop-number.start
-    c.loop-number.orders.items c.loop-number.invariant
-    c.index-files-number.result c.index-indexes-number.result c.loop-number-test.true c.index-files-number.is c.index-indexes-number.is
-    c.put_file.new.orders.items (c.loop-number.start + c.len-start.result) (ap (λ (k : ℕ). c.loop-number.start + k) c.len-start.ensures) c.in_ok-put_file.ensures
+pub orders_behind-requires-clause-settled : goal.orders_behind-requires-clause-settled
+orders_behind-requires-clause-settled c = settled_below (length c.args.graph.now.given + 1) (length c.args.graph.now.given) c.args.settled.now (omega arith) c.requires.settled
 
 pub returns : goal.returns
-returns c =
+returns c = λ indexes are. (
     let contents = c.args.graph.now.given in
     let s = c.args.settled.now in
-    let orders = c.loop-number.orders.items in
-    of_indexes (docs_of contents) (λ (xs : List Index). AreOrders contents xs s orders) c.indexes-indexes.result.now c.indexes-indexes.ensures
-    (all_put contents c.files-files.result.now c.indexes-indexes.result.now c.files-files.ensures c.indexes-indexes.ensures s c.loop-number.number c.loop-number.start orders (omega arith)
-    c.loop-number.invariant)
+    let m = files_long contents c.files.result.now c.files.ensures in
+    let n = length c.files.result.now in
+    let common = c.in_ok-common.common.items in
+    let numbers : c.get.result.now ≡ values_at (file_pairs 0 s.plan.now.partials) (length contents) =
+    c.get.ensures ∙ (numbers_of s (length contents) n s.plan.now.partials c.in_ok-parts.parts refl c.in_ok-parts.ensures (omega arith)).1
+    ∙ ap (values_at (file_pairs 0 s.plan.now.partials)) (sym m) in
+    IfOk-weaker c.orders_behind.result (λ orders. AreOrdersBehind common contents indexes s orders.items) (λ orders. AreOrders contents indexes s orders.items)
+    (λ orders b. with_common contents indexes s common orders.items (parts_put s (length contents) c.get.result.now common numbers c.in_ok-common.ensures) b) (c.orders_behind.ensures indexes are))

@@ -9,7 +9,7 @@ pub returns-in_err-index : goal.returns-in_err-index
 returns-in_err-index c = λ contents files t knows got. (
     let indexes = c.args.indexes.now in
     let l = located contents files indexes c.args.tops.now c.args.top t knows got in
-    let says = c.in_ok-file.ensures (units_of (docs_of contents)) t knows.shows got in
+    let says = c.in_ok-file.ensures (units_of (docs_of contents)) t knows.first got in
     let same : c.in_ok-file.file ≡ t.file = cc in
     absurd (get_none indexes indexes c.in_ok-file.file l.x refl c.in_err-index.ensures.lookup.0 (ap (slice_get indexes) same ∙ l.index_got)))
 
@@ -17,7 +17,7 @@ pub returns-in_err-entry : goal.returns-in_err-entry
 returns-in_err-entry c = λ contents files t knows got. (
     let indexes = c.args.indexes.now in
     let l = located contents files indexes c.args.tops.now c.args.top t knows got in
-    let says = c.in_ok-file.ensures (units_of (docs_of contents)) t knows.shows got in
+    let says = c.in_ok-file.ensures (units_of (docs_of contents)) t knows.first got in
     let same : c.in_ok-file.file ≡ t.file = cc in
     let x = c.in_ok-index.index.now in
     let found = file_found indexes indexes c.in_ok-file.file x refl c.in_ok-index.ensures.lookup.0 c.in_ok-index.ensures.lookup.1 in
@@ -29,7 +29,7 @@ pub returns : goal.returns
 returns c = λ contents files t knows got. (
     let indexes = c.args.indexes.now in
     let l = located contents files indexes c.args.tops.now c.args.top t knows got in
-    let says = c.in_ok-file.ensures (units_of (docs_of contents)) t knows.shows got in
+    let says = c.in_ok-file.ensures (units_of (docs_of contents)) t knows.first got in
     let same : c.in_ok-file.file ≡ t.file = cc in
     let x = c.in_ok-index.index.now in
     let found = file_found indexes indexes c.in_ok-file.file x refl c.in_ok-index.ensures.lookup.0 c.in_ok-index.ensures.lookup.1 in

@@ -1,4 +1,4 @@
-use Rattle.std.proofs.Common.{◌<◌, All, Bool, List, ℕ, length, sym, ap, subst, ◌∙◌}
+use Rattle.std.proofs.Common.{◌<◌, All, Bool, List, ℕ, length, sym, ap, subst, ◌∙◌, arith}
 use Rattle.dwz_graph.specs.Files.{docs_of}
 use Rattle.dwz_plan.specs.Gained.{IsPlanOf}
 use Rattle.dwz_plan.specs.Rows.{given}
@@ -15,10 +15,10 @@ pub least-requires-clause-inside : goal.least-requires-clause-inside
 least-requires-clause-inside g c κs within = targets_low (docs_of c.args.graph.now.given) c.in_ok-tops.tops c.in_ok-tops.ensures.outline
 
 pub make-requires-clause-rows : goal.make-requires-clause-rows
-make-requires-clause-rows g c = c.in_ok-tops.ensures.few_rows
+make-requires-clause-rows g c = let few = c.in_ok-tops.ensures.few_rows in omega (arith, few)
 
 pub make-requires-clause-units : goal.make-requires-clause-units
-make-requires-clause-units g c = c.in_ok-tops.ensures.few_units
+make-requires-clause-units g c = let few = c.in_ok-tops.ensures.few_units in omega (arith, few)
 
 pub make-requires-clause-least : goal.make-requires-clause-least
 make-requires-clause-least g c =
@@ -52,8 +52,8 @@ returns-clause-plan g c =
     let made : IsMade c.args.scope docs tops least plan = record {
       outline = t.outline;
       files = t.files;
-      few_rows = t.few_rows;
-      few_units = t.few_units;
+      few_rows = (let few = t.few_rows in omega (arith, few));
+      few_units = (let few = t.few_units in omega (arith, few));
       are = c.in_ok-least.ensures (flags_show docs tops c.as_slice-flags.result.now t.outline (c.as_slice-flags.ensures.value ∙ c.in_ok-movable.ensures));
       is_plan = subst (λ (w : List ℕ). IsPlanOf (given c.args.scope tops w) plan) c.as_slice.ensures c.in_ok-plan.ensures;
     } in
@@ -69,8 +69,8 @@ returns-clause-fits g c =
     let made : IsMade c.args.scope docs tops least plan = record {
       outline = t.outline;
       files = t.files;
-      few_rows = t.few_rows;
-      few_units = t.few_units;
+      few_rows = (let few = t.few_rows in omega (arith, few));
+      few_units = (let few = t.few_units in omega (arith, few));
       are = c.in_ok-least.ensures (flags_show docs tops c.as_slice-flags.result.now t.outline (c.as_slice-flags.ensures.value ∙ c.in_ok-movable.ensures));
       is_plan = subst (λ (w : List ℕ). IsPlanOf (given c.args.scope tops w) plan) c.as_slice.ensures c.in_ok-plan.ensures;
     } in

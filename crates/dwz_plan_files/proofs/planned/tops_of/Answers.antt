@@ -1,8 +1,8 @@
 use Rattle.std.proofs.Common.{length, arith}
 use Rattle.dwz_graph.specs.Files.{docs_of}
 use Rattle.dwz_graph.proofs.IndexesThere.{indexes_there}
-use Rattle.dwz_layout_order.proofs.FileCounts.{are_many}
-use Rattle.dwz_move_files.proofs.FilesLow.{tops_few}
+use Rattle.dwz_layout_order.proofs.FileCounts.{all_ends, are_many}
+use Rattle.dwz_layout_order.proofs.FileRoom.{tops_small}
 use Rattle.dwz_plan_files.proofs.OutlineNeeds.{rows_many, units_many, with_files}
 use Rattle.dwz_plan_files.proofs.UnitRoom.{units_small}
 use Rattle.dwz_plan_files.proofs.planned.tops_of.Goals as goal
@@ -30,8 +30,9 @@ pub returns-clause-few_rows : goal.returns-clause-few_rows
 returns-clause-few_rows g c =
     let there = indexes_there c.args.graph.now.given c.files.result.now c.files.ensures in
     let many = rows_many (docs_of c.args.graph.now.given) c.in_ok-outline.outline.tops c.in_ok-outline.ensures.tops in
-    let few = tops_few c.args.graph.now.given c.files.result.now there.indexes c.files.ensures there.are in
-    omega (arith, many, few)
+    let ends = (all_ends c.args.graph.now.given there.indexes there.are).1 in
+    let few = tops_small c.args.graph.now.given c.files.result.now there.indexes c.files.ensures there.are (length there.indexes) in
+    omega (arith, many, ends, few)
 
 pub returns-clause-few_units : goal.returns-clause-few_units
 returns-clause-few_units g c =

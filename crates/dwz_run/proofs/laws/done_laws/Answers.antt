@@ -1,5 +1,5 @@
 use Rattle.dwz_run.proofs.AllDone.{all_apart, all_done, all_silent}
-use Rattle.dwz_run.proofs.SameWorkers.{same_out}
+use Rattle.dwz_run.proofs.SameWorkers.{same_comes}
 use Rattle.dwz_run.proofs.laws.done_laws.Goals as goal
 
 pub returns-clause-done : goal.returns-clause-done
@@ -12,4 +12,4 @@ pub returns-clause-silent : goal.returns-clause-silent
 returns-clause-silent c words old new shown shown_new e store told = all_silent words old new shown shown_new store told e
 
 pub returns-clause-workers : goal.returns-clause-workers
-returns-clause-workers c o n contents outcome given = same_out o n contents outcome given
+returns-clause-workers c o n contents outcome given = same_comes o n contents outcome given

@@ -4,7 +4,7 @@ use Rattle.dwz_run_course.specs.Answers.{IsAnswer}
 use Rattle.dwz_def_run.specs.Out.{Slims}
 use Rattle.dwz_def_run.specs.Tells.{TellsWhy}
 use Rattle.dwz_graph.specs.Files.{FilesRead}
-use Rattle.dwz_run.proofs.FilesWritten.{all_read, compared_as_asked, expanded_as_asked, read_refused, slimmed_as_asked, told_as_asked}
+use Rattle.dwz_run.proofs.FilesWritten.{all_read, compared_as_asked, expanded_as_asked, read_refused, reused_as_asked, slimmed_as_asked, told_as_asked}
 use Rattle.dwz_run.proofs.written.written_files.Goals as goal
 
 pub returns-in_err-graph : goal.returns-in_err-graph
@@ -12,17 +12,22 @@ returns-in_err-graph g c =
     let contents = map (λ (v : Vec ℕ Global). v.items) c.args.contents.now in
     let p = err_from_is_err_and c.from_residual.result c.from_residual.ensures.1 in
     rw (p.1, p.2)
-    (read_refused c.args.options.now contents c.in_err-graph.field-0.0 (sym c.compares.ensures ∙ c.if-compares.false) (sym c.expands.ensures ∙ c.if-expands.false)
+    (read_refused c.args.options.now contents c.in_err-graph.field-0.0 (sym c.reuses.ensures ∙ c.if-reuses.false) (sym c.compares.ensures ∙ c.if-compares.false) (sym c.expands.ensures ∙ c.if-expands.false)
     c.in_err-graph.ensures.answers)
+
+pub returns-then-reuses : goal.returns-then-reuses
+returns-then-reuses g c =
+    reused_as_asked c.args.options.now (map (λ (v : Vec ℕ Global). v.items) c.args.contents.now) c.reused_files.result (sym c.reuses.ensures ∙ c.if-reuses.true)
+    c.reused_files.ensures
 
 pub returns-then-compares : goal.returns-then-compares
 returns-then-compares g c =
-    compared_as_asked c.args.options.now (map (λ (v : Vec ℕ Global). v.items) c.args.contents.now) c.compared_files.result (sym c.compares.ensures ∙ c.if-compares.true)
+    compared_as_asked c.args.options.now (map (λ (v : Vec ℕ Global). v.items) c.args.contents.now) c.compared_files.result (sym c.reuses.ensures ∙ c.if-reuses.false) (sym c.compares.ensures ∙ c.if-compares.true)
     c.compared_files.ensures
 
 pub returns-then-expands : goal.returns-then-expands
 returns-then-expands g c =
-    expanded_as_asked c.args.options.now (map (λ (v : Vec ℕ Global). v.items) c.args.contents.now) c.expanded_files.result (sym c.expands.ensures ∙ c.if-expands.true)
+    expanded_as_asked c.args.options.now (map (λ (v : Vec ℕ Global). v.items) c.args.contents.now) c.expanded_files.result (sym c.reuses.ensures ∙ c.if-reuses.false) (sym c.expands.ensures ∙ c.if-expands.true)
     c.expanded_files.ensures
 
 pub told_places-requires-clause-reads : goal.told_places-requires-clause-reads
@@ -40,11 +45,11 @@ pub returns-then-options : goal.returns-then-options
 returns-then-options g c =
     let o = c.args.options.now in
     let is = subst (λ (bytes : List (List ℕ)). IsAnswer (TellsWhy o bytes) c.told_places.result) (ap (λ (w : FilesRead). w.given) c.in_ok-graph.ensures.contents) c.told_places.ensures in
-    told_as_asked o (map (λ (v : Vec ℕ Global). v.items) c.args.contents.now) c.told_places.result c.if-options.true is
+    told_as_asked o (map (λ (v : Vec ℕ Global). v.items) c.args.contents.now) c.told_places.result (sym c.reuses.ensures ∙ c.if-reuses.false) c.if-options.true is
 
 pub returns : goal.returns
 returns g c =
     let o = c.args.options.now in
     let is = subst (λ (bytes : List (List ℕ)). IsAnswer (Slims o bytes) c.slimmed_files.result) (ap (λ (w : FilesRead). w.given) c.in_ok-graph.ensures.contents) c.slimmed_files.ensures in
-    slimmed_as_asked o (map (λ (v : Vec ℕ Global). v.items) c.args.contents.now) c.slimmed_files.result c.if-options.false (sym c.compares.ensures ∙ c.if-compares.false)
+    slimmed_as_asked o (map (λ (v : Vec ℕ Global). v.items) c.args.contents.now) c.slimmed_files.result (sym c.reuses.ensures ∙ c.if-reuses.false) c.if-options.false (sym c.compares.ensures ∙ c.if-compares.false)
     (sym c.expands.ensures ∙ c.if-expands.false) is

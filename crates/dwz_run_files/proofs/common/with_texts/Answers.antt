@@ -7,6 +7,7 @@ use Rattle.dwz_layout_numbers.specs.Images.{starts_from}
 use Rattle.dwz_layout.specs.declared.order.UnitItems.{UnitItems}
 use Rattle.dwz_def_readback.specs.Sound.{FewTexts}
 use Rattle.dwz_def_encoding.specs.Placing.{lines_bytes, texts_bytes}
+use Rattle.dwz_law_layout.specs.Beside.{Alone}
 use Rattle.dwz_law_layout.specs.Facts.{run}
 use Rattle.dwz_encode_common.specs.SharedLaws.{HasCommon}
 use Rattle.dwz_encode_common.specs.WithCommon.{IsWithCommon}
@@ -48,5 +49,5 @@ returns c = λ f s t b more. (
     } in
     let counted = p.listed.commons in
     let some : 0 < f.commons = omega (arith, counted, more) in
-    texts_given f s t before orders p b.as_read c.args.importing.now b.importing_are k has (c.in_ok-known.ensures.listed f t p.listed) some
+    texts_given f s t before orders p b.as_read c.args.importing.now b.importing_are k has (c.in_ok-known.ensures.listed Alone f t p.listed) some
     c.in_ok-common.common strs lines few _ refl refl)

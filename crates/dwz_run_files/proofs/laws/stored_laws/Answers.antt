@@ -5,10 +5,10 @@ pub returns-clause-read : goal.returns-clause-read
 returns-clause-read c = λ contents files flags are kept prunable. read_so contents files flags are kept prunable
 
 pub returns-clause-stored : goal.returns-clause-stored
-returns-clause-stored c = λ f flags kept input. are_stored f flags kept input
+returns-clause-stored c = λ beside f flags kept input. are_stored beside f flags kept input
 
 pub returns-clause-many : goal.returns-clause-many
 returns-clause-many c = λ contents files kept. as_many contents files kept
 
 pub returns-clause-file : goal.returns-clause-file
-returns-clause-file c = λ f kept indexed n less. file_at f kept indexed n less
+returns-clause-file c = λ beside f kept indexed n less. file_at beside f kept indexed n less

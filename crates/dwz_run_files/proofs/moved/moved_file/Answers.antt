@@ -8,49 +8,49 @@ use Rattle.dwz_run_files.proofs.moved.moved_file.Goals as goal
 pub offset_bounds-prepared-number : goal.offset_bounds-prepared-number
 offset_bounds-prepared-number c =
     let r = c.requires in
-    let below = in_files r.0 c.args.work.now r.1 c.args.number c.args.rank r.2 in
-    let few = r.1.works.few in omega (arith, below, few)
+    let below = in_files r.1 c.args.work.now r.2 c.args.number c.args.rank r.3 in
+    let few = r.2.works.few in omega (arith, below, few)
 
 pub bounds-prepared-number : goal.bounds-prepared-number
-bounds-prepared-number c = (let r = c.requires in in_files r.0 c.args.work.now r.1 c.args.number c.args.rank r.2)
+bounds-prepared-number c = (let r = c.requires in in_files r.1 c.args.work.now r.2 c.args.number c.args.rank r.3)
 
 pub offset_bounds-indexes-number : goal.offset_bounds-indexes-number
 offset_bounds-indexes-number c =
     let r = c.requires in
-    let below = in_files r.0 c.args.work.now r.1 c.args.number c.args.rank r.2 in
-    let few = r.1.works.few in omega (arith, below, few)
+    let below = in_files r.1 c.args.work.now r.2 c.args.number c.args.rank r.3 in
+    let few = r.2.works.few in omega (arith, below, few)
 
 pub bounds-indexes-number : goal.bounds-indexes-number
-bounds-indexes-number c = (let r = c.requires in in_indexes r.0 c.args.work.now r.1 c.args.number c.args.rank r.2)
+bounds-indexes-number c = (let r = c.requires in in_indexes r.1 c.args.work.now r.2 c.args.number c.args.rank r.3)
 
 pub offset_bounds-work-number : goal.offset_bounds-work-number
 offset_bounds-work-number c =
     let r = c.requires in
-    let below = in_files r.0 c.args.work.now r.1 c.args.number c.args.rank r.2 in
-    let few = r.1.works.few in omega (arith, below, few)
+    let below = in_files r.1 c.args.work.now r.2 c.args.number c.args.rank r.3 in
+    let few = r.2.works.few in omega (arith, below, few)
 
 pub bounds-work-number : goal.bounds-work-number
-bounds-work-number c = (let r = c.requires in in_starts r.0 c.args.work.now r.1 c.args.number c.args.rank r.2)
+bounds-work-number c = (let r = c.requires in in_starts r.1 c.args.work.now r.2 c.args.number c.args.rank r.3)
 
 pub index-requires : goal.index-requires
 index-requires c =
     let r = c.requires in
-    let below = in_firsts r.0 c.args.work.now r.1 c.args.number c.args.rank r.2 in
+    let below = in_firsts r.1 c.args.work.now r.2 c.args.number c.args.rank r.3 in
     omega (arith, below, c.args.work.now.prepared.now.ordered.firsts.ok.0)
 
 pub index-requires-2 : goal.index-requires-2
 index-requires-2 c =
     let r = c.requires in
-    let below = in_orders r.0 c.args.work.now r.1 c.args.number c.args.rank r.2 in
+    let below = in_orders r.1 c.args.work.now r.2 c.args.number c.args.rank r.3 in
     omega (arith, below, c.args.work.now.prepared.now.ordered.orders.ok.0)
 
 pub file-requires : goal.file-requires
 file-requires c =
     let r = c.requires in
-    let below = in_layout r.0 c.args.work.now r.1 c.args.number c.args.rank r.2 in omega (arith, below)
+    let below = in_layout r.1 c.args.work.now r.2 c.args.number c.args.rank r.3 in omega (arith, below)
 
 pub returns-clause-moved : goal.returns-clause-moved
-returns-clause-moved c f is has =
+returns-clause-moved c beside f is has =
     let w = c.args.work.now in
     let p = w.prepared.now in
     let n = c.args.number in

@@ -3,9 +3,11 @@ use Rattle.dwz_def_reading.specs.Values.{AreBytes}
 use Rattle.dwz_def_reading.specs.Lists.{Each}
 use Rattle.dwz_layout.specs.declared.order.UnitItems.{UnitItems}
 use Rattle.dwz_encode_texts.specs.declared.pruning.PrunedFile.{PrunedFile}
+use Rattle.dwz_law_layout.specs.Beside.{Alone}
 use Rattle.dwz_run_files.specs.Common.{AreWhole}
 use Rattle.dwz_run_files.specs.Moved.{AreMoved, ArePruned}
-use Rattle.dwz_run_files.proofs.FactsJoined.{AreJoined, before, files_written_are, joined, ranks_long, texts_named, whole_so}
+use Rattle.dwz_run_files.proofs.FactsJoined.{AreJoined, before, joined, told, whole_so}
+use Rattle.dwz_run_files.proofs.FilesTold.{files_written_are, ranks_long, texts_named}
 use Rattle.dwz_run_files.proofs.FilesReady.{is_ready}
 use Rattle.dwz_run_files.proofs.prepared.prepare_files.Goals as goal
 
@@ -54,7 +56,8 @@ prune_files-requires-clause-many g c =
     whole_so contents files prunes a o k j c.as_slice-importing.result.now c.as_slice-importing.ensures.value c.as_slice-orders.result.now
     c.as_slice-orders.ensures.value c.in_ok-whole.whole c.in_ok-whole.ensures in
     let w = c.as_written.ensures in
-    ranks_long contents files prunes a o k j c.in_ok-whole.whole whole c.as_written.result w.ranks w.orders w.firsts
+    ranks_long f contents prunes j.ordered.order.lent o c.in_ok-whole.whole.known
+    (told contents files prunes a o k j c.in_ok-whole.whole whole) c.as_written.result w.ranks w.orders w.firsts
 
 pub prune_files-requires-clause-texts : goal.prune_files-requires-clause-texts
 prune_files-requires-clause-texts g c =
@@ -77,7 +80,8 @@ prune_files-requires-clause-texts g c =
     whole_so contents files prunes a o k j c.as_slice-importing.result.now c.as_slice-importing.ensures.value c.as_slice-orders.result.now
     c.as_slice-orders.ensures.value c.in_ok-whole.whole c.in_ok-whole.ensures in
     let w = c.as_written.ensures in
-    texts_named contents files prunes a o k j c.in_ok-whole.whole whole c.as_written.result w.ranks w.orders w.firsts
+    texts_named f contents prunes j.ordered.order.lent o c.in_ok-whole.whole.known
+    (told contents files prunes a o k j c.in_ok-whole.whole whole) c.as_written.result w.ranks w.orders w.firsts
 
 pub returns-clause-ready : goal.returns-clause-ready
 returns-clause-ready g c =
@@ -104,7 +108,7 @@ returns-clause-ready g c =
     let w = c.as_written.ensures in
     let pruned = c.in_ok-pruned.pruned.items in
     let are = subst (λ (orders : List (List UnitItems)). ArePruned f v.known orders pruned) w.orders
-    (c.in_ok-pruned.ensures f
-    (files_written_are contents files prunes a o k j v whole c.as_written.result w.ranks w.orders w.firsts)) in
+    (c.in_ok-pruned.ensures Alone f
+    (files_written_are f contents prunes j.ordered.order.lent o v.known (told contents files prunes a o k j v whole) c.as_written.result w.ranks w.orders w.firsts)) in
     let moved = subst (λ (ps : List (Option PrunedFile)). AreMoved ps v.known m) c.deref.ensures.value c.in_ok-known-2.ensures in
     is_ready contents files prunes a o k j v whole pruned m are moved _ refl refl refl refl refl refl

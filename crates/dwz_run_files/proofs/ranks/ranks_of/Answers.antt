@@ -10,7 +10,7 @@ returns-clause-many c =
     ∙ ranks_many 0 c.args.written.now
 
 pub returns-clause-ranks : goal.returns-clause-ranks
-returns-clause-ranks c = λ f is.
+returns-clause-ranks c = λ beside f is.
     ranks_so f c.args.written.now c.loop-is_written.ranks.items is
     (ranking_end c.args.written.now c.loop-is_written.is_written-index c.loop-is_written.next c.loop-is_written.ranks.items
     c.loop-is_written-test.false c.loop-is_written.invariant)

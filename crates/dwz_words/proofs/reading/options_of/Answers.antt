@@ -45,6 +45,8 @@ returns c =
     c.unwrap_or-6.ensures ∙ bool_read _ (one_of (codes "expand") (rows_of found)) c.get_one-6.result
     (λ e. c.get_one-6.ensures.none (one_text-rows found (codes "expand") ∙ e))
     (λ t e. c.get_one-6.ensures.value t (one_text-rows found (codes "expand") ∙ e)) in
-    let sup : c.in_ok-blob_if_some-4.field-0 ≡ first_of (codes "sup") (rows_of found) =
-    c.in_ok-blob_if_some-4.ensures ∙ (c.get_str-4.ensures ∙ first_value-rows found (codes "sup")) in
-    rw (quiet, common, name, out, workers, files, demo, explain, check, expand, sup) refl
+    let reuse : c.in_ok-blob_if_some-4.field-0 ≡ first_of (codes "reuse") (rows_of found) =
+    c.in_ok-blob_if_some-4.ensures ∙ (c.get_str-4.ensures ∙ first_value-rows found (codes "reuse")) in
+    let sup : c.in_ok-blob_if_some-5.field-0 ≡ first_of (codes "sup") (rows_of found) =
+    c.in_ok-blob_if_some-5.ensures ∙ (c.get_str-5.ensures ∙ first_value-rows found (codes "sup")) in
+    rw (quiet, common, name, out, workers, files, demo, explain, check, expand, reuse, sup) refl

@@ -105,7 +105,7 @@ class Gdb:
         return lost
 
     def words(self, question, answer):
-        answer = re.sub(r"\b(DIE|parameter_ref offset) [0-9a-f]+", r"\1", answer or "")
+        answer = re.sub(r"\b(DIE|DW_OP_GNU_parameter_ref offset) [0-9a-f]+", r"\1", answer or "")
         return sorted(answer.splitlines()) if question.startswith("info line") else answer
 
     def about(self, before):

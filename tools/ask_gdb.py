@@ -3,7 +3,8 @@
 With ASKED=LIST in the environment it is the questions that can be asked of the file: of each type, function and variable that gdb lists,
 and of each place in the code of functions where a line begins. With ASKED=FILE, where FILE holds such questions, it is the answers, and
 what gdb lists after them. No answer is null. Where a name stands for several things, gdb takes the one that it meets first: such a name
-isn't asked where only one is answered. A place in the code stands for one thing alone.
+isn't asked where only one is answered. A place in the code stands for one thing alone. gdb reads units as they are asked for, and tells of a
+variable what a declaration says where it hasn't read the unit that has more: so it reads all of them first.
 """
 
 import json
@@ -117,6 +118,7 @@ def answers(asked):
 
 Asked("blocks-at", lambda word: blocks_at(int(word, 0)))
 Asked("lines-of", lines_of)
+gdb.execute("maintenance expand-symtabs", to_string=True)
 with open(os.environ["SAID"], "w") as said:
     if os.environ["ASKED"] == "LIST":
         json.dump(questions(), said)

@@ -31,7 +31,7 @@ ROOTS = [
     ("dwz_def_taken", "src/taken.rt", ["taken_laws", "over_laws"]),
     ("dwz_def_over", "src/over.rt", ["read_laws", "refused_laws", "over_laws"]),
     ("dwz_def_run_over", "src/reuses.rt", ["reuses_laws"]),
-    ("dwz_def_run_batch", "src/batches.rt", ["alone_laws", "batches_laws"]),
+    ("dwz_def_run_batch", "src/batches.rt", ["alone_laws", "batches_laws", "yields_laws"]),
 ]
 BELIEVED = ["model", "bytes", "codes", "outside", "words", "text", "report", "gen", "run_course", "run"]
 MARK = "-- Inner:"

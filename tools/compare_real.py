@@ -9,7 +9,8 @@ The files are those of `small_programs.py`. The program writes each anew with `-
 is at hand (gdb, readelf, eu-readelf, llvm-dwarfdump) has to say of the new file what it said of the old one: `debug_readers.py` tells
 what is asked, and what may differ. In the way `alone` they are asked too of the file that the dwz of a distribution writes, where it is
 at hand and takes the file: how much differs there is shown beside. The program itself has to say (--check) that each new file is the same as
-the old one; where it doesn't find two files of a set to differ, a line says so. And it takes the partial units out of each (--expand): again
+the old one; where it doesn't find two files of a set to differ, a line says so; and of the new file and an old one in whose `.debug_info` a bit
+was changed it has to say what the model says: that they differ, at which unit, or why it can't be read. And it takes the partial units out of each (--expand): again
 status, text and bytes have to be the model's, and the readers have to say of what comes of it what they said of the old file. gdb 13, readelf 2.40, eu-readelf 0.188 and llvm-dwarfdump 14 don't
 follow references into a common file by DWARF 5 (7.5.4); so of files with one they are asked of what tools/gnu_forms.py makes of them.
 With --only just the sets are taken whose names have one of these words.
@@ -20,7 +21,9 @@ counts; the status is 1 where something differs. It belongs to no gate.
 
 import argparse
 import os
+import random
 import shutil
+import struct
 import sys
 import tempfile
 
@@ -112,6 +115,45 @@ def check_files(name, program, before, after, counts):
             print("%s, %s and %s: --check says %d, %s" % (name, os.fsdecode(one), os.fsdecode(other), status, text.decode(errors="replace")), flush=True)
 
 
+def info_of(data):
+    """Where `.debug_info` stands in a file, and how many bytes it has."""
+    table, = struct.unpack_from("<Q", data, 0x28)
+    size, count, names = struct.unpack_from("<HHH", data, 0x3a)
+    rows = [struct.unpack_from("<IIQQQQ", data, table + n * size) for n in range(count)]
+    for row in rows:
+        at = rows[names][4] + row[0]
+        if data[at:data.index(0, at)] == b".debug_info":
+            return row[4], row[5]
+    raise ValueError("no .debug_info")
+
+
+def edited(rng, data):
+    """The file with one bit of an entry changed, or of what stands before entries."""
+    first, size = info_of(data)
+    bad = bytearray(data)
+    bad[first + rng.randrange(size)] ^= 1 << rng.randrange(8)
+    return bytes(bad)
+
+
+def check_edits(name, program, model, edits, before, after, counts):
+    """What the program says (--check) of each new file beside so many old ones that were edited, which has to be what the model says."""
+    new = new_files(after)
+    sup = [b"--sup", COMMON] if COMMON in new else []
+    for file, data in before.items():
+        rng = random.Random("%s, %s" % (name, os.fsdecode(file)))
+        for _ in range(edits):
+            words = [b"--check", b"old-" + file, file] + sup
+            held = {b"old-" + file: edited(rng, data), **new}
+            with tempfile.TemporaryDirectory() as place:
+                got = run_program(program, words, held, place)
+            found = differences(got, run_model(model, words, dict(held), ALL_WORDS))
+            counts["differ"] += bool(found)
+            counts["edited"] += 1
+            counts["seen to differ"] += got[0] == 8
+            for one in found:
+                print("%s, %s, edited: %s" % (name, os.fsdecode(file), one), flush=True)
+
+
 def expand_file(name, program, model, held, words, job, counts):
     """What the program writes without partial units, once it was compared; None where it is refused."""
     with tempfile.TemporaryDirectory() as place:
@@ -165,6 +207,7 @@ def main():
     parser.add_argument("--keep", help="a folder that keeps the files")
     parser.add_argument("--ways", type=lambda text: text.split(","), default=WAYS, help="alone,common")
     parser.add_argument("--jobs", type=numbers, default=[1, 7])
+    parser.add_argument("--edits", type=int, default=2, help="how often each old file is edited")
     parser.add_argument("--only", default="", help="words, with commas between them")
     options = parser.parse_intermixed_args()
     if not set(options.ways) <= set(WAYS):
@@ -179,7 +222,7 @@ def main():
     else:
         print("no model in %s: status, text and bytes aren't compared" % options.model)
     asked = at_hand()
-    counted = ["sets", "written", "with a common file", "refused", "differ", "checked", "not the same", "expanded", "not expanded", "asked", "not asked", "read less"]
+    counted = ["sets", "written", "with a common file", "refused", "differ", "checked", "not the same", "edited", "seen to differ", "expanded", "not expanded", "asked", "not asked", "read less"]
     counts = dict.fromkeys(counted, 0)
     with tempfile.TemporaryDirectory() as temporary:
         folder = options.keep or temporary
@@ -188,6 +231,8 @@ def main():
                 status, after = compare_set(name, words, held, options.jobs, program, model, counts)
                 if status == 0:
                     check_files(name, program, held, after, counts)
+                    if model:
+                        check_edits(name, program, model, options.edits, held, after, counts)
                     place = os.path.join(folder, "read", name)
                     read_files(name, asked, place, held, after, counts)
                     expand_files(name, asked, place, program, model, options.jobs[-1], held, after, counts)

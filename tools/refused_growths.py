@@ -4,7 +4,7 @@
     tools/refused_growths.py [--program PROGRAM] [--workers N ...]
 
 Small files are made (by gcc), and each kind of run goes over them: each FILE by itself, with `-o`, with `-m`, a demonstration, the answers of `--explain` and
-`--check`, a file that is expanded, a FILE that is refused, and words that are wrong. Of each run the first growth is refused (malloc, calloc or realloc answers null), then the second, and so on
+`--check`, a file that is expanded, FILEs over a finished common file, together and each as if it were alone, a FILE that is refused, and words that are wrong. Of each run the first growth is refused (malloc, calloc or realloc answers null), then the second, and so on
 up to the last; and each time also all that come behind it. Whatever is refused, the run ends with status 5, all files are as they were, and nothing else is there; or it ends as it does where
 nothing is refused, with the same files and the same text. The last line is `wrong N`, and the status is 1 where N isn't 0. It belongs to no gate.
 """
@@ -129,6 +129,8 @@ def runs_of(folder, workers):
         yield "--check, the same", [*many, "--check", "old", "new", "--sup", "sup"]
         yield "--check, others", [*many, "--check", "old", "two"]
         yield "--expand", [*many, "--expand", "new", "--sup", "sup", "-o", "out"]
+        yield "--reuse", [*many, "--reuse", "sup", "one", "two"]
+        yield "--batch", [*many, "--batch", "sup", "one", "bare", "two"]
     yield "a FILE that is refused", ["one", "bare"]
     yield "words that are wrong", ["-m", "one"]
 

@@ -5,7 +5,7 @@
 //! each job is done once. Its clause speaks of the outcomes alone, so they are the same for every number of workers and every gate.
 //!
 //! In: a job, a number of workers, a gate that is told of each job. Out: `Outcomes`, in the order of the numbers; or want of memory, where one
-//! job wanted it. No call of the program makes a batch yet.
+//! job wanted it. Jobs may themselves use threads: what that asks of types is said by `ready` of the trait.
 //!
 //! `outcome_text` is what is said of one file, by its outcome: a line in the words of `dwz_report`. Where it is to be quiet, it is the line
 //! of a refusal, and else no byte.

@@ -125,7 +125,8 @@ are_held store names contents docs is read n name nth =
     subst (λ (k : ℕ). store name ≡ Some (get_or contents k [])) index o.held
 
 -- files that are slimmed are got by their names
-pub got_files : (o : Options) → FitTogether o → o.explain ≡ false → o.check ≡ false → o.expand ≡ false → o.reuse ≡ None → names_got o ≡ o.files
-got_files o fit slims no_check alone new = ap (λ (b : Bool). behind (common_read o) (if b then names_of_places o.files else o.files)) slims
-    ∙ ap (λ (sup : Option (List ℕ)). behind (first_given sup o.reuse) o.files) (no_sup o fit no_check alone)
-    ∙ ap (λ (reuse : Option (List ℕ)). behind reuse o.files) new
+pub got_files : (o : Options) → FitTogether o → o.explain ≡ false → o.check ≡ false → o.expand ≡ false → o.reuse ≡ None → o.batch ≡ None → names_got o ≡ o.files
+got_files o fit slims no_check alone new none = ap (λ (b : Bool). behind (common_read o) (if b then names_of_places o.files else o.files)) slims
+    ∙ ap (λ (sup : Option (List ℕ)). behind (first_given sup (first_given o.reuse o.batch)) o.files) (no_sup o fit no_check alone)
+    ∙ ap (λ (reuse : Option (List ℕ)). behind (first_given reuse o.batch) o.files) new
+    ∙ ap (λ (batch : Option (List ℕ)). behind batch o.files) none

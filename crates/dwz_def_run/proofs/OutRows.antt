@@ -29,7 +29,7 @@ use Rattle.dwz_def_run.specs.Out.{output_of, run_for}
 
 -- the words `a` and `-o out`, or `-m common` and these FILEs
 abbrev options : Option (List ℕ) → Option (List ℕ) → List (List ℕ) → Options
-options common out files = record { quiet = false; common = common; name = None; out = out; workers = 4; files = files; demo = None; explain = false; check = false; expand = false; reuse = None; sup = None }
+options common out files = record { quiet = false; common = common; name = None; out = out; workers = 4; files = files; demo = None; explain = false; check = false; expand = false; reuse = None; batch = None; sup = None }
 
 -- what comes of contents that read as these documents; whatever unfolds this unfolds all by which it is found
 come : Options → List (List ℕ) → List (Doc ℕ) → Output

@@ -35,6 +35,7 @@ answer_on same = record {
   puts = [];
   said = Parts (record { text = check_text same; is_summary = false } ∷ []);
   differs = tells_apart same;
+  partly = false;
 }
 
 -- The two files read as files that may have been written, beside the finished common one, or without one, and what is said of them is said; or

@@ -38,6 +38,7 @@ output_with o old new = record {
   puts = record { name = unwrap_or o.out []; bytes = new } ∷ [];
   said = Slimmed (summary_with o old new) 0;
   differs = false;
+  partly = false;
 }
 
 -- The file reads, and is written without its partial units, unless it is refused; or it doesn't read, or its common file doesn't, and the first fault of

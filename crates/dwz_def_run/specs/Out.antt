@@ -112,7 +112,7 @@ summary_of o r = record {
 
 -- its puts, its summary, and how many partial units all files have
 abbrev pub output_of : Options → Run → Output
-output_of o r = record { puts = all_puts o r; said = Slimmed (summary_of o r) (length r.move.parts); differs = false }
+output_of o r = record { puts = all_puts o r; said = Slimmed (summary_of o r) (length r.move.parts); differs = false; partly = false }
 
 -- the contents read so, and nothing refuses what comes of them
 abbrev pub IsWritten : Options → List (List ℕ) → List (Doc ℕ) → List Bool → Type 0

@@ -28,7 +28,7 @@ second_asked o = asked_place (places_asked o).1
 
 -- nothing is put, and the text is said whatever the words ask of quiet
 abbrev pub answer_of : Text → Output
-answer_of text = record { puts = []; said = Parts (record { text = text; is_summary = false } ∷ []); differs = false }
+answer_of text = record { puts = []; said = Parts (record { text = text; is_summary = false } ∷ []); differs = false; partly = false }
 
 -- the text is of the two places in these documents
 abbrev pub IsTold : Options → List (Doc ℕ) → Text → Type 0

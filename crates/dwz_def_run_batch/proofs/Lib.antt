@@ -1,7 +1,9 @@
 pub mod OneFile
 mod OwnPuts
 mod AllPuts
-mod Past
+pub mod Past
 pub mod OneBatch
+pub mod OneYields
+pub mod NeverNothing
 pub mod Stopping
 pub mod SameWorkers

@@ -32,7 +32,7 @@ module _ (o : Options) (common : List ℕ) where
       (IsFaultBy (rule_of_common (length o.files)) no_files_before common)
   agrees = file_agrees_by (rule_of_common (length o.files)) no_files_before common
 
-  not_both : (q : Refusal) → IsCommonRead o common → IsCommonRefused o common q → ⊥
+  pub not_both : (q : Refusal) → IsCommonRead o common → IsCommonRefused o common q → ⊥
   not_both q reads refused =
       let a : meaning ≡ Ok (reads.0, reads.1) = (agrees.ok (reads.0, reads.1)).1 reads.2 in
       let b : meaning ≡ Err refused.0 = (agrees.err refused.0).1 refused.1 in

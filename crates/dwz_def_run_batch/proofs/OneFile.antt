@@ -122,10 +122,11 @@ module _ (m n : ℕ) (bytes : List ℕ) (raw : List RawUnit) (doc : Doc Place) (
       let old_meant : units_meaning old raw ≡ Ok doc.units = ((units_agree old raw).ok doc.units).1 reads.means in
       units_mapped (placed n) (length (debug_info bytes)) old new mapped raw lie ∙ ap (map_ok (map (unit_map (placed n)))) old_meant
 
-  abbrev doc_by : Doc Place
+  -- what it says by the other number
+  abbrev pub doc_by : Doc Place
   doc_by = record { machine = doc.machine; units = map (unit_map (placed n)) doc.units }
 
-  by_number : ReadsBy (rule_of_common n) no_files_before bytes raw doc_by
+  pub by_number : ReadsBy (rule_of_common n) no_files_before bytes raw doc_by
   by_number = record {
     size = reads.size;
     elf = reads.elf;

@@ -61,6 +61,10 @@ module _ (o : Options) (contents : List (List ℕ)) (fit : FitBatch o) (outcomes
         let same = its outcome comes in
         (there.puts ∙ ap puts_of same, subst (λ (w : Outcome). In (part_of o file.name w) (batch_of o (all_got o contents) outcomes).parts) same there.said)
 
+    pub left_alone : (outcome : Outcome) → Alone o (common_got contents) file outcome → (store : Store)
+        → done puts store file.name ≡ done (puts_of outcome) store file.name
+    left_alone outcome comes store = there.left store ∙ ap (λ (w : Outcome). done (puts_of w) store file.name) (its outcome comes)
+
     module _ (store : Store) (k : ℕ) where
       abbrev now : Store
       now = done (take k puts) store
@@ -105,6 +109,13 @@ alone_law o contents all fit is =
     × ((file : FileGot) → In file (all_got o contents) → (outcome : Outcome) → Alone o (common_got contents) file outcome
     → (puts_at file.name b.puts ≡ puts_of outcome) × In (part_of o file.name outcome) b.parts)) (sym is.2.2)
     (apart_all o contents fit is.2.0 is.2.1, λ file there outcome comes. put_alone o contents fit is.2.0 is.2.1 file there outcome comes)
+
+pub held_law : (o : Options) (contents : List (List ℕ)) (all : Batch) → FitBatch o → Batches o contents (Ok all)
+    → (file : FileGot) → In file (all_got o contents) → (outcome : Outcome) → Alone o (common_got contents) file outcome
+    → (store : Store) → done all.puts store file.name ≡ done (puts_of outcome) store file.name
+held_law o contents all fit is file there outcome comes store =
+    subst (λ (ps : List Put). done ps store file.name ≡ done (puts_of outcome) store file.name) (sym (puts_are o contents all is))
+    (left_alone o contents fit is.2.0 is.2.1 file there outcome comes store)
 
 pub not_put_law : (o : Options) (contents : List (List ℕ)) (all : Batch) → FitBatch o → Batches o contents (Ok all)
     → (common : List ℕ) → o.common ≡ Some common

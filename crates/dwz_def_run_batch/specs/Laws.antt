@@ -19,6 +19,7 @@ use Rattle.dwz_def_run.specs.Out.{put_of}
 use Rattle.dwz_def_run_over.specs.Reuses.{common_got}
 use Rattle.dwz_def_run_batch.specs.Batches.{Alone, Batch, Batches, FileGot, IsCommonRead, all_got, options_alone, part_of, puts_of}
 use Rattle.dwz_def_run_batch.specs.Stops.{AreOldOrAlone, FitBatch, KeepRefused}
+use Rattle.dwz_def_run_batch.specs.Yields.{Yields}
 
 -- at most one thing comes of options and contents
 abbrev pub OneBatchLaw : Type 0
@@ -39,6 +40,16 @@ abbrev pub SomeBatchLaw : Type 0
 SomeBatchLaw =
     (o : Options) (contents : List (List ℕ)) → ((file : FileGot) → In file (all_got o contents) → HasTaken (common_got contents) file)
     → (all : Result Batch Refusal) × Batches o contents all
+
+-- ---- of all words
+
+-- at most one thing comes of options and contents, whatever is asked for
+abbrev pub OneYieldsLaw : Type 0
+OneYieldsLaw = (o : Options) (contents : List (List ℕ)) (a b : Outcome) → Yields o contents a → Yields o contents b → a ≡ b
+
+-- and it can't be that nothing does
+abbrev pub NeverNothingYieldsLaw : Type 0
+NeverNothingYieldsLaw = (o : Options) (contents : List (List ℕ)) → ((outcome : Outcome) → Yields o contents outcome → ⊥) → ⊥
 
 -- ---- of one file
 
@@ -78,6 +89,13 @@ AloneLaw =
     → AreApart all.puts
     × ((file : FileGot) → In file (all_got o contents) → (outcome : Outcome) → Alone o (common_got contents) file outcome
     → (puts_at file.name all.puts ≡ puts_of outcome) × In (part_of o file.name outcome) all.parts)
+
+-- after all puts each FILE holds what a run of it alone leaves there
+abbrev pub HeldBatchLaw : Type 0
+HeldBatchLaw =
+    (o : Options) (contents : List (List ℕ)) (all : Batch) → FitBatch o → Batches o contents (Ok all)
+    → (file : FileGot) → In file (all_got o contents) → (outcome : Outcome) → Alone o (common_got contents) file outcome
+    → (store : Store) → done all.puts store file.name ≡ done (puts_of outcome) store file.name
 
 -- no put is of the common file, so that this keeps its bytes
 abbrev pub NeverPutLaw : Type 0

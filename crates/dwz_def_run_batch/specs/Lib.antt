@@ -1,3 +1,4 @@
 pub mod Batches
+pub mod Yields
 pub mod Stops
 pub mod Laws

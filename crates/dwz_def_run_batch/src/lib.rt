@@ -11,9 +11,12 @@
 //! is of the common file; and after the first puts, however many, each FILE is as it was, or as it is put alone, and one that is refused
 //! is as it was.
 //!
-//! Read first: `specs/Batches.antt`, `specs/Stops.antt`.
+//! Laws on all words (`yields_laws`): of what is asked for, with `--batch` or without it (`Yields`), at most one thing comes, and it can't be
+//! that nothing does.
+//!
+//! Read first: `specs/Batches.antt`, `specs/Yields.antt`, `specs/Stops.antt`.
 #![tactic(auto)]
 
 mod batches;
 
-pub use batches::{alone_laws, batches_laws};
+pub use batches::{alone_laws, batches_laws, yields_laws};

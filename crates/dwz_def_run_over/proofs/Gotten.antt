@@ -37,12 +37,12 @@ not_long l before bytes left size = by (content_is_too_long before bytes) refl w
 left_after : (l : Limits) (before : ℕ) (bytes : List ℕ) (raw : List RawUnit) → Left l before → IsNotTooLong l bytes → Left (limits_after l bytes raw) (before + length bytes)
 left_after l before bytes raw left size = let files = size.files in omega (arith, left, files)
 
-short : {n : ℕ} → n ≤ longest_file → n ≤ 2 ^ 28
+pub short : {n : ℕ} → n ≤ longest_file → n ≤ 2 ^ 28
 unfolding longest_file
 short h = h
 
 -- a content that reads is all that was held
-all_got : (o : Option (List ℕ)) (content : List ℕ) → length content ≤ 2 ^ 28 → option_map (take most_got) o ≡ Some content → o ≡ Some content
+pub all_got : (o : Option (List ℕ)) (content : List ℕ) → length content ≤ 2 ^ 28 → option_map (take most_got) o ≡ Some content → o ≡ Some content
 unfolding most_got
 all_got None content short e = absurd cc
 all_got (Some held) content short e =

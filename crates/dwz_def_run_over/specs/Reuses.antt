@@ -33,7 +33,7 @@ abbrev pub summary_over : Options → OverFiles → Summary
 summary_over o x = record { common = None; files = summary_lines_by (stands x) o (run_over x) 0 o.files }
 
 abbrev pub output_over : Options → OverFiles → Output
-output_over o x = record { puts = puts_over o x; said = Slimmed (summary_over o x) (length (run_over x).move.parts); differs = false }
+output_over o x = record { puts = puts_over o x; said = Slimmed (summary_over o x) (length (run_over x).move.parts); differs = false; partly = false }
 
 -- these are the files with those contents, beside the common file with that one
 abbrev pub HasContents : List ℕ → List (List ℕ) → OverFiles → Type 0

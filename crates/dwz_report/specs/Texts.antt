@@ -94,7 +94,7 @@ memory_text = line (codes "dwz: out of memory" ∷ [])
 abbrev pub usage_text : Text
 usage_text = line (
     codes "usage: dwz [-q] [--dwarf-5] [-m COMMON [-M NAME]] [-o OUT] [-j N] FILE..."
-    ∷ codes " | --demo N | --reuse COMMON [-M NAME] [-o OUT] [-j N] FILE... | --explain FILE OFFSET FILE OFFSET | --expand FILE [--sup COMMON] -o OUT | --check OLD NEW [--sup COMMON]" ∷ [])
+    ∷ codes " | --demo N | --reuse COMMON [-M NAME] [-o OUT] [-j N] FILE... | --batch COMMON [-M NAME] [-j N] FILE... | --explain FILE OFFSET FILE OFFSET | --expand FILE [--sup COMMON] -o OUT | --check OLD NEW [--sup COMMON]" ∷ [])
 
 -- ---- what was done
 

@@ -83,7 +83,7 @@ pub fn memory_text() -> &'static [u8]
 pub fn usage_text() -> &'static [u8]
     ensures { result.now ≡ Texts.usage_text }
 {
-    b"usage: dwz [-q] [--dwarf-5] [-m COMMON [-M NAME]] [-o OUT] [-j N] FILE... | --demo N | --reuse COMMON [-M NAME] [-o OUT] [-j N] FILE... | --explain FILE OFFSET FILE OFFSET | --expand FILE [--sup COMMON] -o OUT | --check OLD NEW [--sup COMMON]\n"
+    b"usage: dwz [-q] [--dwarf-5] [-m COMMON [-M NAME]] [-o OUT] [-j N] FILE... | --demo N | --reuse COMMON [-M NAME] [-o OUT] [-j N] FILE... | --batch COMMON [-M NAME] [-j N] FILE... | --explain FILE OFFSET FILE OFFSET | --expand FILE [--sup COMMON] -o OUT | --check OLD NEW [--sup COMMON]\n"
 }
 
 fn common_text(alloc: Global, common: &Option<(Blob, u64)>) -> Result<Vec<u8>, NoMemory>

@@ -30,7 +30,8 @@ of_either (Some word) common n c = of_name (Some word) n
 
 pub named_well : (o : Options) → FitTogether o → NoZero (sup_name o)
 named_well o fit =
-    let others = option_map_or is_file_name o.out true && (option_map_or is_file_name o.reuse true && option_map_or is_file_name o.sup true) in
+    let read = option_map_or is_file_name o.reuse true && (option_map_or is_file_name o.batch true && option_map_or is_file_name o.sup true) in
+    let others = option_map_or is_file_name o.out true && read in
     let rest = (and_parts (list_all is_file_name o.files)
     (option_map_or is_file_name o.common true && (option_map_or is_file_name o.name true && others)) fit.file_names).1 in
     let common = and_parts (option_map_or is_file_name o.common true) (option_map_or is_file_name o.name true && others) rest in

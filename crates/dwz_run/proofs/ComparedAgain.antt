@@ -18,7 +18,8 @@ use Rattle.dwz_def_output.specs.FilesAfter.{bytes_after, common_bytes, has_commo
 use Rattle.dwz_def_run.specs.Compares.{Compares, answer_on}
 use Rattle.dwz_def_run.specs.Out.{IsWritten, OutBy, Slims, all_puts, common_of, run_for, sup_name, top_scope_of}
 use Rattle.dwz_def_run.proofs.Gotten.{are_held, got_files}
-use Rattle.dwz_def_run_over.specs.Comes.{Comes, ComesBy}
+use Rattle.dwz_def_run_over.specs.Comes.{ComesBy}
+use Rattle.dwz_def_run_batch.specs.Yields.{Yields, YieldsBy}
 use Rattle.dwz_gen.specs.Demo.{demo_files}
 use Rattle.dwz_law_run.specs.SameLaws.{NamesCommon, compared_of}
 use Rattle.dwz_law_run.proofs.SameLemmas.{names_sup, same_said}
@@ -29,11 +30,11 @@ use Rattle.dwz_run_course.specs.declared.status.Status.{Status}
 use Rattle.dwz_run_course.specs.declared.status.Status.TheVariants.{Done, NoMemory}
 use Rattle.dwz_run_course.specs.Demo.{asked, asked_by}
 use Rattle.dwz_run_course.specs.Ends.{AreContents, Complete, puts_unless_demo}
-use Rattle.dwz_run_course.specs.Gets.{AreOfBytes, gets}
+use Rattle.dwz_run_course.specs.Gets.{AreOfBytes, gets, longest_behind}
 use Rattle.dwz_run_course.specs.Outcome.{writes}
 use Rattle.dwz_words.specs.declared.options.Options.{Options}
 use Rattle.dwz_words.specs.Asked.{names_got}
-use Rattle.dwz_words.proofs.Fits.{no_reuse_with_check, with_check}
+use Rattle.dwz_words.proofs.Fits.{no_batch_with_check, no_reuse_with_check, with_check}
 use Rattle.dwz_run.specs.Laws.{AsksForFiles, AsksToCompare, HoldAfter, NoneFailed, RunEnds, to_compare}
 use Rattle.dwz_run.specs.SecondCall.{AgainLaw, ComparesAgain, GotBeside}
 use Rattle.dwz_run.proofs.AllDone.{with_puts}
@@ -41,7 +42,7 @@ use Rattle.dwz_run.proofs.Answered.{asked_for}
 use Rattle.dwz_run.proofs.CommonName.{named_well}
 use Rattle.dwz_run.proofs.HeldAfter.{hold_after}
 use Rattle.dwz_run.proofs.OfBytes.{each_bytes}
-use Rattle.dwz_run.proofs.Outputs.{got_of}
+use Rattle.dwz_run.proofs.Outputs.{got_of, got_plain}
 
 -- a file that imports from the common file has one
 imports_has : (r : Run) (file : ℕ) → imports_common r.move r.units file ≡ true → has_common r ≡ true
@@ -77,10 +78,10 @@ module _ (words : List (List ℕ)) (old new : FilesSeen) (shown shown_new : Cons
   same_contents : ended.files.1.contents ≡ a.contents
   same_contents =
       let came = ended.files.1 in
-      let are = subst (λ (p : Options). AreContents demo_files p.demo old (names_got p) came.contents) same_options came.are in
-      let held = subst (λ (d : Option ℕ). AreContents demo_files d old (names_got o) came.contents) a.no_demo are in
-      let got = got_of words old store told (names_got o) came.contents held in
-      let names = got_files o a.lawful.fit a.slims a.no_check a.no_expand a.no_reuse in
+      let are = subst (λ (p : Options). AreContents demo_files p.demo (longest_behind p) old (names_got p) came.contents) same_options came.are in
+      let held = subst (λ (d : Option ℕ). AreContents demo_files d (longest_behind o) old (names_got o) came.contents) a.no_demo are in
+      let got = got_plain o store (names_got o) came.contents a.no_batch (got_of words old store told (longest_behind o) (names_got o) came.contents held) in
+      let names = got_files o a.lawful.fit a.slims a.no_check a.no_expand a.no_reuse a.no_batch in
       let both : Some came.contents ≡ Some a.contents = sym got ∙ ap (λ (ns : List (List ℕ)). gets store 0 ns) names ∙ a.got in cc
 
   bytes : Each AreBytes a.contents
@@ -89,10 +90,11 @@ module _ (words : List (List ℕ)) (old new : FilesSeen) (shown shown_new : Cons
   given : Slims o a.contents (writes out)
   given =
       let came = ended.files.1 in
-      let one = subst (λ (p : Options). Comes (asked p) came.contents (writes out)) same_options came.given in
-      let two = subst (λ (cs : List (List ℕ)). Comes (asked o) cs (writes out)) same_contents one in
-      let three = subst (λ (d : Option ℕ). Comes (asked_by d o) a.contents (writes out)) a.no_demo two in
-      let plain = subst (λ (w : Option (List ℕ)). ComesBy w o a.contents (writes out)) a.no_reuse three in
+      let one = subst (λ (p : Options). Yields (asked p) came.contents (writes out)) same_options came.given in
+      let two = subst (λ (cs : List (List ℕ)). Yields (asked o) cs (writes out)) same_contents one in
+      let three = subst (λ (d : Option ℕ). Yields (asked_by d o) a.contents (writes out)) a.no_demo two in
+      let one_by_one = subst (λ (w : Option (List ℕ)). YieldsBy w o a.contents (writes out)) a.no_batch three in
+      let plain = subst (λ (w : Option (List ℕ)). ComesBy w o a.contents (writes out)) a.no_reuse one_by_one in
       let four = subst (λ (b : Bool). OutBy b o.check o.expand o a.contents (writes out)) a.slims plain in
       let five = subst (λ (b : Bool). OutBy false b o.expand o a.contents (writes out)) a.no_check four in
       subst (λ (b : Bool). OutBy false false b o a.contents (writes out)) a.no_expand five
@@ -160,13 +162,14 @@ module _ (words : List (List ℕ)) (old new : FilesSeen) (shown shown_new : Cons
         subst (λ (cs : List (List ℕ)). Compares c.options cs (writes (answer_on Yes))) (sym f.1)
         (same_said o c.options a.contents docs prunes bytes written (named_well o a.lawful.fit) file doc.0 doc.1 f.0 (subst AreWithinLimits f.1 within))
 
-    comes : Comes c.options c.contents (writes (answer_on Yes))
+    comes : Yields c.options c.contents (writes (answer_on Yes))
     comes =
-        subst (λ (w : Option (List ℕ)). ComesBy w c.options c.contents (writes (answer_on Yes))) (sym (no_reuse_with_check c.options c.lawful.fit c.compares))
+        subst (λ (w : Option (List ℕ)). YieldsBy w c.options c.contents (writes (answer_on Yes))) (sym (no_batch_with_check c.options c.lawful.fit c.compares))
+        (subst (λ (w : Option (List ℕ)). ComesBy w c.options c.contents (writes (answer_on Yes))) (sym (no_reuse_with_check c.options c.lawful.fit c.compares))
         (subst (λ (b : Bool). OutBy b c.options.check c.options.expand c.options c.contents (writes (answer_on Yes))) (sym (with_check c.options c.lawful.fit c.compares).2)
-        (subst (λ (b : Bool). OutBy false b c.options.expand c.options c.contents (writes (answer_on Yes))) (sym c.compares) said))
+        (subst (λ (b : Bool). OutBy false b c.options.expand c.options c.contents (writes (answer_on Yes))) (sym c.compares) said)))
 
-    pub ends_again : (before behind : FilesSeen) (printed printed_new : ConsoleSeen) (status : Status) → Complete demo_files Comes again before behind printed printed_new status
+    pub ends_again : (before behind : FilesSeen) (printed printed_new : ConsoleSeen) (status : Status) → Complete demo_files Yields again before behind printed printed_new status
         → NoneFailed before behind printed printed_new → before.held ≡ Some held → (status ≡ Done) ⊎ (status ≡ NoMemory)
     ends_again before behind printed printed_new status complete none there =
         complete (answer_on Yes) (asked_for again before held there (to_compare c) (writes (answer_on Yes)) comes) none.reads none.writes none.texts

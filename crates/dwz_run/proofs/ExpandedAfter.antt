@@ -1,5 +1,5 @@
 -- What is written of a file without its partial units reads by itself, and means the same: the contents are bytes, so its own and those of its common file are.
-use Rattle.std.proofs.Common.{◌≡◌, ℕ, zero, suc, List, [], ◌∷◌, Option, Some, None, get_or, sym, subst, inl}
+use Rattle.std.proofs.Common.{◌≡◌, ℕ, List, [], Option, Some, None, get_or, sym, subst, inl}
 use Rattle.std.specs.Option.{option_map}
 use Rattle.dwz_model.specs.declared.fault.Refusal.{Refusal}
 use Rattle.dwz_model.specs.Lists.{Each}
@@ -14,11 +14,7 @@ use Rattle.dwz_words.specs.declared.options.Options.{Options}
 use Rattle.dwz_def_run.specs.Compares.{common_in}
 use Rattle.dwz_def_run.specs.Expands.{IsOneRead, one_in}
 use Rattle.dwz_run.specs.Expanding.{MeansAfter, ReadsAfter}
-
-bytes_at : (contents : List (List ℕ)) → Each AreBytes contents → (k : ℕ) → AreBytes (get_or contents k [])
-bytes_at [] all k = tt
-bytes_at (c ∷ contents) all zero = all.0
-bytes_at (c ∷ contents) all (suc k) = bytes_at contents all.1 k
+use Rattle.dwz_run.proofs.OfBytes.{bytes_at}
 
 module _ (contents : List (List ℕ)) (all : Each AreBytes contents) where
   file_bytes : (sup : Option (List ℕ)) → AreBytes (one_in sup contents)

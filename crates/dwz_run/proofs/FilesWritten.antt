@@ -34,6 +34,7 @@ use Rattle.dwz_def_run.specs.Expands.{Expands}
 use Rattle.dwz_def_run.specs.Tells.{TellsWhy}
 use Rattle.dwz_def_run_over.specs.Comes.{Comes, ComesBy, reusing}
 use Rattle.dwz_def_run_over.specs.Reuses.{Reuses}
+use Rattle.dwz_def_run_batch.specs.Yields.{Batched, Yields, YieldsBy, batching}
 use Rattle.dwz_def_output.specs.declared.new_file.NewFile.{NewFile}
 use Rattle.dwz_def_output.specs.NewFiles.{AreNew, IsNewCommon}
 use Rattle.dwz_def_over.proofs.ReadOver.{read_length}
@@ -115,6 +116,22 @@ expanded_as_asked o contents result new expands is = alone o contents result new
   by false true false n = absurd cc
   by false false true n = is
   by false false false n = absurd cc
+
+-- ---- or of many files, each as if it were alone
+
+pub not_batched : (o : Options) (contents : List (List ℕ)) (result : Result Output GraphErr) → is_some o.batch ≡ false
+    → IsAnswer (Comes o contents) result → IsAnswer (Yields o contents) result
+not_batched o contents result none is = by o.batch none where
+  by : (batch : Option (List ℕ)) → is_some batch ≡ false → IsAnswer (YieldsBy batch o contents) result
+  by None e = is
+  by (Some common) e = absurd cc
+
+pub batched_as_asked : (o : Options) (contents : List (List ℕ)) (result : Result Output GraphErr) → is_some o.batch ≡ true
+    → IsAnswer (Batched (batching o) contents) result → IsAnswer (Yields o contents) result
+batched_as_asked o contents result batches is = by o.batch batches where
+  by : (batch : Option (List ℕ)) → is_some batch ≡ true → IsAnswer (YieldsBy batch o contents) result
+  by None e = absurd cc
+  by (Some common) e = is
 
 -- ---- the files of a graph, which stands for their contents
 

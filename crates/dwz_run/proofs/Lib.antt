@@ -8,6 +8,8 @@ pub mod OneExpanded
 pub mod CommonName
 pub mod HeldAfter
 pub mod ReusedAfter
+pub mod FirstGot
+pub mod BatchedAfter
 pub mod ChangedFiles
 pub mod Outputs
 pub mod AllDone
@@ -15,6 +17,12 @@ pub mod Stopped
 pub mod SameWorkers
 pub mod Causes
 pub mod Answered
+pub mod BatchAnswered
+pub mod ReusedAlone
 pub mod Demonstrated
 pub mod ComparedAgain
 pub mod FilesReused
+mod JobsDone
+mod ByNumber
+mod OneJob
+mod AllBatched

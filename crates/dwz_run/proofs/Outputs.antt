@@ -1,7 +1,8 @@
 -- What came of a run that did all is what is put of its FILEs, or of the two files of a demonstration, of which nothing is put, or the text on two
--- entries, or one FILE without its partial units, or FILEs over a finished common file, or the line on two files that were compared.
-use Rattle.std.proofs.Common.{◌≡◌, ◌⊎◌, ℕ, Bool, true, false, List, [], ◌∷◌, ◌++◌, length, Option, Some, None, unwrap_or, refl, sym, ap, subst, ◌∙◌, inl, inr, append-nil}
-use Rattle.std.specs.Prelude.{◌&&◌, IfSome, if◌then◌else◌}
+-- entries, or one FILE without its partial units, or FILEs over a finished common file, together or each as if it were alone with it, or the line
+-- on two files that were compared.
+use Rattle.std.proofs.Common.{◌≡◌, ◌⊎◌, ◌^◌, ℕ, Bool, true, false, List, [], ◌∷◌, ◌++◌, length, Option, Some, None, unwrap_or, refl, sym, ap, subst, ◌∙◌, inl, inr, append-nil}
+use Rattle.std.specs.Prelude.{◌&&◌, IfSome, is_some, if◌then◌else◌}
 use Rattle.dwz_def_reading.specs.Documents.{Doc}
 use Rattle.dwz_def_reading.specs.Files.{ReadAll, no_files_before}
 use Rattle.dwz_def_reading.specs.Finished.{FinishedDocs, ReadFinished}
@@ -15,11 +16,11 @@ use Rattle.dwz_outside.specs.Told.{FilesSeen}
 use Rattle.dwz_words.specs.declared.options.Options.{Options}
 use Rattle.dwz_words.specs.Asked.{names_got}
 use Rattle.dwz_words.specs.Lawful.{Lawful}
-use Rattle.dwz_words.proofs.Fits.{with_check, with_expand, with_explain, with_reuse}
+use Rattle.dwz_words.proofs.Fits.{with_batch, with_check, with_expand, with_explain, with_reuse}
 use Rattle.dwz_run_course.specs.declared.output.Output.{Output}
 use Rattle.dwz_run_course.specs.Demo.{asked_by, demo_options}
-use Rattle.dwz_run_course.specs.Ends.{AreContents, Came, done_text, puts_unless_demo, slimmed_text}
-use Rattle.dwz_run_course.specs.Gets.{AreOfBytes, gets}
+use Rattle.dwz_run_course.specs.Ends.{AreContents, Came, done_text, parts_text, puts_unless_demo, slimmed_text}
+use Rattle.dwz_run_course.specs.Gets.{AreOfBytes, gets, gets_by, longest_behind}
 use Rattle.dwz_run_course.specs.Outcome.{writes}
 use Rattle.dwz_gen.specs.Demo.{demo_files}
 use Rattle.dwz_def_run.specs.Compares.{Compares, answer_on, common_in, tells_apart, two_in}
@@ -29,9 +30,11 @@ use Rattle.dwz_def_run.specs.Tells.{IsTold, TellsWhy, answer_of}
 use Rattle.dwz_def_output.proofs.AllMade.{common_tied, file_tied, read_back}
 use Rattle.dwz_def_run.proofs.Gotten.{are_held, got_files}
 use Rattle.dwz_def_expanded.specs.NewFile.{expanded_bytes}
-use Rattle.dwz_def_run_over.specs.Comes.{Comes, ComesBy, reusing}
+use Rattle.dwz_def_run_over.specs.Comes.{ComesBy, reusing}
 use Rattle.dwz_def_run_over.specs.Reuses.{Reuses, summary_over}
 use Rattle.dwz_def_over.specs.Over.{run_over}
+use Rattle.dwz_def_run_batch.specs.Yields.{Batched, Yields, YieldsBy, batching}
+use Rattle.dwz_run.specs.Batched.{AsksToBatch, HasBatch}
 use Rattle.dwz_run.specs.Expanding.{AsksToExpand, HasOneOutput, new_put, said_of_one}
 use Rattle.dwz_run.specs.Laws.{AsksForAnswer, AsksForDemo, AsksForFiles, AsksToCompare, HasOutput, HoldAfter, IsDemoText, puts_in, run_in, said}
 use Rattle.dwz_run.specs.Reusing.{AsksToReuse, HasOverOutput, puts_of_over, said_over}
@@ -40,6 +43,7 @@ use Rattle.dwz_run.proofs.CommonName.{demo_named, named_well}
 use Rattle.dwz_run.proofs.OfBytes.{each_bytes}
 use Rattle.dwz_run.proofs.ExpandedAfter.{means_after, reads_after}
 use Rattle.dwz_run.proofs.ReusedAfter.{back_over, ties_over}
+use Rattle.dwz_run.proofs.BatchedAfter.{back_alone}
 
 -- ---- what comes of bytes reads back, and is tied to its common file
 
@@ -74,6 +78,7 @@ pub record OfFiles (words : List (List ℕ)) (store : Store) (o : Options) (out 
   pub puts_are : puts_unless_demo o.demo out ≡ puts_in has
   pub text_is : done_text o out ≡ said asks.options (run_in has)
   pub same : out.differs ≡ false
+  pub whole : out.partly ≡ false
 
 -- a demonstration was, and of what came of its two files nothing is put, and one line is said
 pub record OfDemo (words : List (List ℕ)) (o : Options) (out : Output) : Type 0 where
@@ -81,6 +86,7 @@ pub record OfDemo (words : List (List ℕ)) (o : Options) (out : Output) : Type 
   pub puts_are : puts_unless_demo o.demo out ≡ []
   pub is_text : IsDemoText asks (done_text o out)
   pub same : out.differs ≡ false
+  pub whole : out.partly ≡ false
 
 -- two entries were asked for, and of what came nothing is put, and the text on them is said
 pub record OfAnswer (words : List (List ℕ)) (store : Store) (o : Options) (out : Output) : Type 0 where
@@ -90,6 +96,7 @@ pub record OfAnswer (words : List (List ℕ)) (store : Store) (o : Options) (out
   pub puts_are : puts_unless_demo o.demo out ≡ []
   pub is_text : IsTold asks.options docs (done_text o out)
   pub same : out.differs ≡ false
+  pub whole : out.partly ≡ false
 
 -- two files were to be compared, and of what came nothing is put, and the line on them is said
 pub record OfCompared (words : List (List ℕ)) (store : Store) (o : Options) (out : Output) : Type 0 where
@@ -101,6 +108,7 @@ pub record OfCompared (words : List (List ℕ)) (store : Store) (o : Options) (o
   pub puts_are : puts_unless_demo o.demo out ≡ []
   pub text_is : done_text o out ≡ check_text answer
   pub differs : out.differs ≡ tells_apart answer
+  pub whole : out.partly ≡ false
 
 -- one file was to be written without its partial units, and of what came that is put, and its line is said
 pub record OfExpanded (words : List (List ℕ)) (store : Store) (o : Options) (out : Output) : Type 0 where
@@ -109,6 +117,7 @@ pub record OfExpanded (words : List (List ℕ)) (store : Store) (o : Options) (o
   pub puts_are : puts_unless_demo o.demo out ≡ new_put has ∷ []
   pub text_is : done_text o out ≡ said_of_one asks.options has.file.file.bytes (expanded_bytes has.file)
   pub same : out.differs ≡ false
+  pub whole : out.partly ≡ false
 
 -- FILEs were to be written over a finished common file, and of what came those are put, and their lines are said
 pub record OfReused (words : List (List ℕ)) (store : Store) (o : Options) (out : Output) : Type 0 where
@@ -117,13 +126,23 @@ pub record OfReused (words : List (List ℕ)) (store : Store) (o : Options) (out
   pub puts_are : puts_unless_demo o.demo out ≡ puts_of_over has
   pub text_is : done_text o out ≡ said_over asks.options has.files
   pub same : out.differs ≡ false
+  pub whole : out.partly ≡ false
+
+-- many FILEs were to be written over one, each as if it were alone with it, and of what came those are put, and their lines are said
+pub record OfBatch (words : List (List ℕ)) (store : Store) (o : Options) (out : Output) : Type 0 where
+  pub asks : AsksToBatch words store
+  pub has : HasBatch asks
+  pub puts_are : puts_unless_demo o.demo out ≡ has.all.puts
+  pub text_is : done_text o out ≡ parts_text asks.options.quiet has.all.parts
+  pub same : out.differs ≡ false
+  pub is_partly : out.partly ≡ has.all.partly
 
 abbrev pub Came_to : List (List ℕ) → Store → Options → Output → Type 0
 Came_to words store o out =
     OfFiles words store o out
     ⊎ (OfDemo words o out
     ⊎ (OfAnswer words store o out
-    ⊎ (OfExpanded words store o out ⊎ (OfReused words store o out ⊎ OfCompared words store o out))))
+    ⊎ (OfExpanded words store o out ⊎ (OfReused words store o out ⊎ (OfBatch words store o out ⊎ OfCompared words store o out)))))
 
 -- what is said of files that were slimmed, by the number of units of a demonstration
 abbrev slimmed_said : Options → {p : Options} {contents : List (List ℕ)} → HasOutput p contents → Option ℕ → List ℕ
@@ -139,13 +158,35 @@ demo_said_of words a contents out are bytes given =
       text_is = ap (done_text a.options) g.is ∙ ap (slimmed_said a.options g.has) a.is_demo;
     }
 
-module _ (words : List (List ℕ)) (old : FilesSeen) (store : Store) (told : old.held ≡ Some store) where
-  pub got_of : (names contents : List (List ℕ)) → IfSome old.held (λ s. gets s 0 names ≡ Some contents) → gets store 0 names ≡ Some contents
-  got_of names contents is = subst (λ (h : Option Store). IfSome h (λ s. gets s 0 names ≡ Some contents)) told is
+-- ---- how long a file behind the first may be by itself, for the gets to go on
 
-  of_files : (o : Options) (contents : List (List ℕ)) (out : Output) → Lawful words o → o.demo ≡ None → o.explain ≡ false → o.check ≡ false → o.expand ≡ false → o.reuse ≡ None
+module _ (o : Options) (store : Store) (names contents : List (List ℕ)) where
+  -- so many bytes by the common file of `--batch`
+  abbrev GotFor : Option (List ℕ) → Type 0
+  GotFor batch = gets_by (2 ^ 28) (if is_some batch then 2 ^ 29 else 2 ^ 28) store 0 names ≡ Some contents
+
+  pub got_plain : o.batch ≡ None → gets_by (2 ^ 28) (longest_behind o) store 0 names ≡ Some contents → gets store 0 names ≡ Some contents
+  got_plain none got = subst GotFor none got
+
+  pub plain_got : o.batch ≡ None → gets store 0 names ≡ Some contents → gets_by (2 ^ 28) (longest_behind o) store 0 names ≡ Some contents
+  plain_got none got = subst GotFor (sym none) got
+
+  pub got_for_batch : (common : List ℕ) → o.batch ≡ Some common → gets_by (2 ^ 28) (longest_behind o) store 0 names ≡ Some contents
+      → gets_by (2 ^ 28) (2 ^ 29) store 0 names ≡ Some contents
+  got_for_batch common batches got = subst GotFor batches got
+
+  pub batch_got : (common : List ℕ) → o.batch ≡ Some common → gets_by (2 ^ 28) (2 ^ 29) store 0 names ≡ Some contents
+      → gets_by (2 ^ 28) (longest_behind o) store 0 names ≡ Some contents
+  batch_got common batches got = subst GotFor (sym batches) got
+
+module _ (words : List (List ℕ)) (old : FilesSeen) (store : Store) (told : old.held ≡ Some store) where
+  pub got_of : (behind : ℕ) (names contents : List (List ℕ)) → IfSome old.held (λ s. gets_by (2 ^ 28) behind s 0 names ≡ Some contents)
+      → gets_by (2 ^ 28) behind store 0 names ≡ Some contents
+  got_of behind names contents is = subst (λ (h : Option Store). IfSome h (λ s. gets_by (2 ^ 28) behind s 0 names ≡ Some contents)) told is
+
+  of_files : (o : Options) (contents : List (List ℕ)) (out : Output) → Lawful words o → o.demo ≡ None → o.explain ≡ false → o.check ≡ false → o.expand ≡ false → o.reuse ≡ None → o.batch ≡ None
       → gets store 0 (names_got o) ≡ Some contents → AreOfBytes contents → Slims o contents (writes out) → OfFiles words store o out
-  of_files o contents out lawful no_demo slims no_check no_expand no_reuse got bytes given =
+  of_files o contents out lawful no_demo slims no_check no_expand no_reuse no_batch got bytes given =
       let g = given_of o contents out (named_well o lawful.fit) bytes given in
       record {
         asks = record {
@@ -156,13 +197,15 @@ module _ (words : List (List ℕ)) (old : FilesSeen) (store : Store) (told : old
           no_check = no_check;
           no_expand = no_expand;
           no_reuse = no_reuse;
+          no_batch = no_batch;
           contents = contents;
-          got = subst (λ (names : List (List ℕ)). gets store 0 names ≡ Some contents) (got_files o lawful.fit slims no_check no_expand no_reuse) got;
+          got = subst (λ (names : List (List ℕ)). gets store 0 names ≡ Some contents) (got_files o lawful.fit slims no_check no_expand no_reuse no_batch) got;
         };
         has = g.has;
         puts_are = ap (λ (d : Option ℕ). puts_unless_demo d out) no_demo ∙ ap (λ (x : Output). x.puts) g.is;
         text_is = ap (done_text o) g.is ∙ ap (slimmed_said o g.has) no_demo;
         same = ap (λ (x : Output). x.differs) g.is;
+        whole = ap (λ (x : Output). x.partly) g.is;
       }
 
   -- the one part of an answer is no summary, so it is said though the words ask for quiet
@@ -183,6 +226,7 @@ module _ (words : List (List ℕ)) (old : FilesSeen) (store : Store) (told : old
         puts_are = ap (λ (d : Option ℕ). puts_unless_demo d out) (with_explain o lawful.fit tells).1 ∙ ap (λ (x : Output). x.puts) is;
         is_text = subst (IsTold o given.0) (sym is_said) given.2.1;
         same = ap (λ (x : Output). x.differs) is;
+        whole = ap (λ (x : Output). x.partly) is;
       }
 
   of_compared : (o : Options) (contents : List (List ℕ)) (out : Output) → Lawful words o → o.check ≡ true
@@ -198,6 +242,7 @@ module _ (words : List (List ℕ)) (old : FilesSeen) (store : Store) (told : old
         puts_are = ap (λ (d : Option ℕ). puts_unless_demo d out) (with_check o lawful.fit compares).1 ∙ ap (λ (x : Output). x.puts) is;
         text_is = ap (done_text o) is ∙ all_said o.quiet (check_text given.2);
         differs = ap (λ (x : Output). x.differs) is;
+        whole = ap (λ (x : Output). x.partly) is;
       }
 
   of_expanded : (o : Options) (contents : List (List ℕ)) (out : Output) → Lawful words o → o.expand ≡ true
@@ -223,6 +268,7 @@ module _ (words : List (List ℕ)) (old : FilesSeen) (store : Store) (told : old
         puts_are = ap (λ (d : Option ℕ). puts_unless_demo d out) no_demo ∙ ap (λ (x : Output). x.puts) is ∙ ap put fit.5.1;
         text_is = ap (done_text o) is ∙ ap (λ (d : Option ℕ). if o.quiet then [] else slimmed_text d (summary_with o file.file.bytes new) 0) no_demo;
         same = ap (λ (x : Output). x.differs) is;
+        whole = ap (λ (x : Output). x.partly) is;
       }
 
   of_reused : (o : Options) (contents : List (List ℕ)) (out : Output) → Lawful words o → (common : List ℕ) → o.reuse ≡ Some common
@@ -243,9 +289,25 @@ module _ (words : List (List ℕ)) (old : FilesSeen) (store : Store) (told : old
         text_is = ap (done_text o) given.3
             ∙ ap (λ (d : Option ℕ). if o.quiet then [] else slimmed_text d (summary_over (reusing o) x) (length (run_over x).move.parts)) no_demo;
         same = ap (λ (y : Output). y.differs) given.3;
+        whole = ap (λ (y : Output). y.partly) given.3;
       }
 
-  pub outputs : (out : Output) (came : Came demo_files Comes words old (writes out))
+  of_batch : (o : Options) (contents : List (List ℕ)) (out : Output) → Lawful words o → (common : List ℕ) → o.batch ≡ Some common
+      → gets_by (2 ^ 28) (2 ^ 29) store 0 (names_got o) ≡ Some contents → AreOfBytes contents → Batched (batching o) contents (writes out)
+      → OfBatch words store o out
+  of_batch o contents out lawful common batches got bytes given =
+      let no_demo = (with_batch o lawful.fit common batches).3 in
+      let asks : AsksToBatch words store = record { options = o; lawful = lawful; common = common; batches = batches; contents = contents; got = got } in
+      record {
+        asks = asks;
+        has = record { all = given.0; comes = given.1; back = λ file there other comes. back_alone asks bytes file there other comes };
+        puts_are = ap (λ (d : Option ℕ). puts_unless_demo d out) no_demo ∙ ap (λ (y : Output). y.puts) given.2;
+        text_is = ap (done_text o) given.2;
+        same = ap (λ (y : Output). y.differs) given.2;
+        is_partly = ap (λ (y : Output). y.partly) given.2;
+      }
+
+  pub outputs : (out : Output) (came : Came demo_files Yields words old (writes out))
       → Came_to words store came.options out
   outputs out came = by came.options.demo refl came.are came.given where
     o : Options
@@ -254,23 +316,29 @@ module _ (words : List (List ℕ)) (old : FilesSeen) (store : Store) (told : old
     contents : List (List ℕ)
     contents = came.contents
 
-    undemonstrated : (b c d : Bool) → o.explain ≡ b → o.check ≡ c → o.expand ≡ d → o.reuse ≡ None → o.demo ≡ None → gets store 0 (names_got o) ≡ Some contents
+    undemonstrated : (b c d : Bool) → o.explain ≡ b → o.check ≡ c → o.expand ≡ d → o.reuse ≡ None → o.batch ≡ None → o.demo ≡ None → gets store 0 (names_got o) ≡ Some contents
         → OutBy b c d o contents (writes out) → Came_to words store o out
-    undemonstrated false false false slims none no_expand no_reuse no_demo got given =
-        inl (of_files o contents out came.lawful no_demo slims none no_expand no_reuse got came.bytes given)
-    undemonstrated false false true none no_check expands no_reuse no_demo got given =
+    undemonstrated false false false slims none no_expand no_reuse no_batch no_demo got given =
+        inl (of_files o contents out came.lawful no_demo slims none no_expand no_reuse no_batch got came.bytes given)
+    undemonstrated false false true none no_check expands no_reuse no_batch no_demo got given =
         inr (inr (inr (inl (of_expanded o contents out came.lawful expands got came.bytes given))))
-    undemonstrated false true d none compares any no_reuse no_demo got given =
-        inr (inr (inr (inr (inr (of_compared o contents out came.lawful compares got given)))))
-    undemonstrated true c d tells is any no_reuse no_demo got given = inr (inr (inl (of_answer o contents out came.lawful tells got given)))
+    undemonstrated false true d none compares any no_reuse no_batch no_demo got given =
+        inr (inr (inr (inr (inr (inr (of_compared o contents out came.lawful compares got given))))))
+    undemonstrated true c d tells is any no_reuse no_batch no_demo got given = inr (inr (inl (of_answer o contents out came.lawful tells got given)))
 
-    either : (reuse : Option (List ℕ)) → o.reuse ≡ reuse → o.demo ≡ None → gets store 0 (names_got o) ≡ Some contents
+    either : (reuse : Option (List ℕ)) → o.reuse ≡ reuse → o.batch ≡ None → o.demo ≡ None → gets store 0 (names_got o) ≡ Some contents
         → ComesBy reuse o contents (writes out) → Came_to words store o out
-    either None no_reuse no_demo got given = undemonstrated o.explain o.check o.expand refl refl refl no_reuse no_demo got given
-    either (Some common) reuses no_demo got given =
+    either None no_reuse no_batch no_demo got given = undemonstrated o.explain o.check o.expand refl refl refl no_reuse no_batch no_demo got given
+    either (Some common) reuses no_batch no_demo got given =
         inr (inr (inr (inr (inl (of_reused o contents out came.lawful common reuses got came.bytes given)))))
 
-    by : (d : Option ℕ) → o.demo ≡ d → AreContents demo_files d old (names_got o) contents → Comes (asked_by d o) contents (writes out)
+    any : (batch : Option (List ℕ)) → o.batch ≡ batch → o.demo ≡ None → gets_by (2 ^ 28) (longest_behind o) store 0 (names_got o) ≡ Some contents
+        → YieldsBy batch o contents (writes out) → Came_to words store o out
+    any None no_batch no_demo got given = either o.reuse refl no_batch no_demo (got_plain o store (names_got o) contents no_batch got) given
+    any (Some common) batches no_demo got given =
+        inr (inr (inr (inr (inr (inl (of_batch o contents out came.lawful common batches (got_for_batch o store (names_got o) contents common batches got) came.bytes given))))))
+
+    by : (d : Option ℕ) → o.demo ≡ d → AreContents demo_files d (longest_behind o) old (names_got o) contents → Yields (asked_by d o) contents (writes out)
         → Came_to words store o out
     by (Some n) e are given =
         let a : AsksForDemo words = record { options = o; lawful = came.lawful; units = n; is_demo = e } in
@@ -279,8 +347,9 @@ module _ (words : List (List ℕ)) (old : FilesSeen) (store : Store) (told : old
           puts_are = ap (λ (d : Option ℕ). puts_unless_demo d out) e;
           is_text = demo_said_of words a contents out are came.bytes given;
           same = ap (λ (x : Output). x.differs) given.3;
+          whole = ap (λ (x : Output). x.partly) given.3;
         }))
-    by None e are given = either o.reuse refl e (got_of (names_got o) contents are) given
+    by None e are given = any o.batch refl e (got_of (longest_behind o) (names_got o) contents are) given
 
 -- all puts done, the FILEs hold what they have after
 pub output_held : {words : List (List ℕ)} {store : Store} (a : AsksForFiles words store) (out : HasOutput a.options a.contents)

@@ -47,10 +47,11 @@ module _ (o : Options) (contents : List (List ℕ)) (docs : List (Doc ℕ)) (rea
   untold NoMemory is = tt
 
   pub told : (text : Text) → Said_of (numbers_of places) (Ok text) → (out : Output) (parts : List TextPart) → out.puts ≡ [] → out.said ≡ Parts parts
-      → out.differs ≡ false → parts ≡ record { text = text; is_summary = false } ∷ [] → IsAnswer (TellsWhy o contents) (Ok out)
-  told text is out parts puts said same one =
-      let by : List Put → Said → Bool → Output = λ p s d. record { puts = p; said = s; differs = d } in
+      → out.differs ≡ false → out.partly ≡ false → parts ≡ record { text = text; is_summary = false } ∷ [] → IsAnswer (TellsWhy o contents) (Ok out)
+  told text is out parts puts said same whole one =
+      let by : List Put → Said → Bool → Bool → Output = λ p s d b. record { puts = p; said = s; differs = d; partly = b } in
       let all = said ∙ ap (λ (ps : List TextPart). Parts ps) one in
-      let is_answer : out ≡ answer_of text = ap (λ (p : List Put). by p out.said out.differs) puts ∙ (ap (λ (s : Said). by [] s out.differs) all
-      ∙ ap (by [] (Parts (record { text = text; is_summary = false } ∷ []))) same) in
+      let is_answer : out ≡ answer_of text = ap (λ (p : List Put). by p out.said out.differs out.partly) puts ∙ (ap (λ (s : Said). by [] s out.differs out.partly) all
+      ∙ (ap (λ (d : Bool). by [] (Parts (record { text = text; is_summary = false } ∷ [])) d out.partly) same
+      ∙ ap (by [] (Parts (record { text = text; is_summary = false } ∷ [])) false) whole)) in
       ((docs, reads, (text, of_asked (Ok text) is, is_answer)), subst CanBeSaid (sym said) tt)

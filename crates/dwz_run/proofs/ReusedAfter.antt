@@ -1,5 +1,5 @@
 -- What is written of files over a finished common file reads back beside it, and is held after, as are FILEs and common file after the first puts.
-use Rattle.std.proofs.Common.{◌≡◌, ℕ, zero, suc, Bool, true, List, [], ◌∷◌, get_or, length, map, take, Option, Some, sym, ap, subst, ◌∙◌}
+use Rattle.std.proofs.Common.{◌≡◌, ℕ, suc, Bool, true, List, [], ◌∷◌, get_or, length, map, take, Option, Some, sym, ap, subst, ◌∙◌}
 use Rattle.std.specs.Prelude.{if◌then◌else◌}
 use Rattle.std.specs.List.{list_all}
 use Rattle.std.specs.Option.{option_map_or}
@@ -27,14 +27,9 @@ use Rattle.dwz_def_run_over.proofs.Gotten.{common_held, got_whole}
 use Rattle.dwz_def_run_over.proofs.NotPut.{holds_over, not_put, stops_over}
 use Rattle.dwz_run.specs.Reusing.{name_over}
 use Rattle.dwz_run.proofs.CommonName.{of_either}
-use Rattle.dwz_run.proofs.OfBytes.{each_bytes}
+use Rattle.dwz_run.proofs.OfBytes.{bytes_at, each_bytes}
 
 -- ---- contents are bytes
-
-bytes_at : (contents : List (List ℕ)) → Each AreBytes contents → (k : ℕ) → AreBytes (get_or contents k [])
-bytes_at [] all k = tt
-bytes_at (c ∷ contents) all zero = all.0
-bytes_at (c ∷ contents) all (suc k) = bytes_at contents all.1 k
 
 each_at : (contents : List (List ℕ)) → Each AreBytes contents → (names : List (List ℕ)) (i : ℕ) → Each AreBytes (map (λ n. get_or contents (suc n) []) (numbers_from i names))
 unfolding numbers_from
@@ -51,15 +46,15 @@ module _ (o : Options) (fit : FitTogether o) (common : List ℕ) (reuses : o.reu
       let name = (and_parts (option_map_or is_file_name o.common true) _ rest).1 in
       let out = (and_parts (option_map_or is_file_name o.name true) _ name).1 in
       let last = (and_parts (option_map_or is_file_name o.out true) _ out).1 in
-      of_either o.name o.reuse (and_parts (option_map_or is_file_name o.name true) _ name).0 (and_parts (option_map_or is_file_name o.reuse true) (option_map_or is_file_name o.sup true) last).0
+      of_either o.name o.reuse (and_parts (option_map_or is_file_name o.name true) _ name).0 (and_parts (option_map_or is_file_name o.reuse true) _ last).0
 
   -- the common file is got first
   pub got_over : names_got o ≡ common ∷ o.files
   got_over =
       let others = with_reuse o fit common reuses in
       ap (λ (b : Bool). behind (common_read o) (if b then names_of_places o.files else o.files)) others.1
-      ∙ ap (λ (sup : Option (List ℕ)). behind (first_given sup o.reuse) o.files) (no_sup o fit others.3 others.4)
-      ∙ ap (λ (reuse : Option (List ℕ)). behind reuse o.files) reuses
+      ∙ ap (λ (sup : Option (List ℕ)). behind (first_given sup (first_given o.reuse o.batch)) o.files) (no_sup o fit others.3 others.4)
+      ∙ ap (λ (reuse : Option (List ℕ)). behind (first_given reuse o.batch) o.files) reuses
 
   -- ---- what is written
 

@@ -1,5 +1,5 @@
 -- The number of workers is in nothing that comes of options: what is put and said is by names, contents and what moves, or by two places.
-use Rattle.std.proofs.Common.{◌≡◌, ℕ, suc, Bool, true, false, List, [], ◌∷◌, ◌++◌, Option, None, Some, length, refl, ap, ◌∙◌, inl, inr}
+use Rattle.std.proofs.Common.{◌≡◌, ℕ, suc, Bool, true, false, List, [], ◌∷◌, ◌++◌, Option, None, Some, Ok, Err, length, refl, ap, ◌∙◌, inl, inr}
 use Rattle.dwz_def_images.specs.Units.{changes}
 use Rattle.dwz_def_readback.specs.Files.{CommonFile, Made, Run}
 use Rattle.dwz_outside.specs.declared.puts.Put.{Put}
@@ -15,6 +15,8 @@ use Rattle.dwz_def_run.specs.Tells.{TellsWhy}
 use Rattle.dwz_def_over.specs.Over.{OverFiles, run_over, stands}
 use Rattle.dwz_def_run_over.specs.Comes.{Comes, ComesBy, reusing}
 use Rattle.dwz_def_run_over.specs.Reuses.{Reuses, output_over}
+use Rattle.dwz_def_run_batch.specs.Yields.{Batched, Yields, YieldsBy, batching}
+use Rattle.dwz_def_run_batch.proofs.SameWorkers.{workers_law}
 
 module _ (o : Options) (n : ℕ) where
   -- the same with so many workers
@@ -39,6 +41,7 @@ module _ (o : Options) (n : ℕ) where
         puts = common_puts o.common r ++ ps;
         said = Slimmed (record { common = common_length_after o.common r; files = ls }) (length r.move.parts);
         differs = false;
+        partly = false;
       } in
       ap (λ (ps : List Put). by ps (summary_lines_by Made o r 0 o.files)) (same_puts Made r 0 o.files) ∙ ap (by (files_puts_by Made other r 0 o.files)) (same_lines Made r 0 o.files)
 
@@ -76,6 +79,7 @@ module _ (o : Options) (n : ℕ) where
         puts = ps;
         said = Slimmed (record { common = None; files = ls }) (length (run_over x).move.parts);
         differs = false;
+        partly = false;
       } in
       ap (λ (ps : List Put). by ps (summary_lines_by (stands x) o (run_over x) 0 o.files)) (same_puts (stands x) (run_over x) 0 o.files)
       ∙ ap (by (files_puts_by (stands x) other (run_over x) 0 o.files)) (same_lines (stands x) (run_over x) 0 o.files)
@@ -91,3 +95,15 @@ same_comes o n contents outcome = by o.reuse where
   by : (reuse : Option (List ℕ)) → ComesBy reuse o contents outcome → ComesBy reuse (record o { workers = n }) contents outcome
   by None = same_out o n contents outcome
   by (Some common) = same_reused (reusing o) n contents outcome
+
+-- ---- or of many files, each as if it were alone
+
+same_batched : (o : Options) (n : ℕ) (contents : List (List ℕ)) (outcome : Outcome) → Batched o contents outcome → Batched (record o { workers = n }) contents outcome
+same_batched o n contents (writes out) is = (is.0, workers_law o contents (Ok is.0) n is.1, is.2)
+same_batched o n contents (refuses q) is = workers_law o contents (Err q) n is
+
+pub same_yields : (o : Options) (n : ℕ) (contents : List (List ℕ)) (outcome : Outcome) → Yields o contents outcome → Yields (record o { workers = n }) contents outcome
+same_yields o n contents outcome = by o.batch where
+  by : (batch : Option (List ℕ)) → YieldsBy batch o contents outcome → YieldsBy batch (record o { workers = n }) contents outcome
+  by None = same_comes o n contents outcome
+  by (Some common) = same_batched (batching o) n contents outcome

@@ -13,11 +13,13 @@ use Rattle.dwz_run_course.specs.Outcome.{writes}
 use Rattle.dwz_run_course.specs.Puts.{PutsStopped}
 use Rattle.dwz_gen.specs.Demo.{demo_files}
 use Rattle.dwz_def_run.proofs.Stopping.{stops}
-use Rattle.dwz_def_run_over.specs.Comes.{Comes}
+use Rattle.dwz_def_run_batch.specs.Yields.{Yields}
+use Rattle.dwz_run.specs.Batched.{StoppedBatch}
 use Rattle.dwz_run.specs.Expanding.{StoppedOne, new_put}
 use Rattle.dwz_run.specs.Laws.{AsksForFiles, HasOutput, ReadOn, RunEnds, StoppedAt, puts_in}
 use Rattle.dwz_run.specs.Reusing.{StoppedOver, puts_of_over}
 use Rattle.dwz_run.proofs.AllDone.{with_puts}
+use Rattle.dwz_run.proofs.BatchedAfter.{keeps_alone, kept_between, stops_alone}
 use Rattle.dwz_run.proofs.ChangedFiles.{changed_there}
 use Rattle.dwz_run.proofs.Outputs.{Came_to, outputs}
 use Rattle.dwz_run.proofs.ReusedAfter.{between_over, common_kept}
@@ -51,11 +53,13 @@ only_fails one (b ∷ before) p after e = absurd (none_fails before p after (tai
   tail_is same = cc
 
 module _ (words : List (List ℕ)) (old new : FilesSeen) (shown shown_new : ConsoleSeen) (store : Store) (told : old.held ≡ Some store) where
-  -- one of several puts failed, or the one, or one of those over a finished common file
+  -- one of several puts failed, or the one, or one of those over a finished common file, of files together or each as if it were alone with it
   abbrev IsStopped : List ℕ → Type 0
-  IsStopped text = StoppedAt words store old new text ⊎ (StoppedOne words store old new text ⊎ StoppedOver words store old new text)
+  IsStopped text =
+      StoppedAt words store old new text
+      ⊎ (StoppedOne words store old new text ⊎ (StoppedOver words store old new text ⊎ StoppedBatch words store old new text))
 
-  stopped_at : (out : Output) (came : Came demo_files Comes words old (writes out)) (name text : List ℕ)
+  stopped_at : (out : Output) (came : Came demo_files Yields words old (writes out)) (name text : List ℕ)
       → PutsStopped old new (puts_unless_demo came.options.demo out) name
       → text ≡ write_text name → IsStopped text
   stopped_at out came name text s is = by (outputs words old store told out came) where
@@ -95,7 +99,7 @@ module _ (words : List (List ℕ)) (old new : FilesSeen) (shown shown_new : Cons
         let puts_are : puts_of_over x.has ≡ s.before ++ s.failed ∷ s.after = sym x.puts_are ∙ s.puts_are in
         let k = length s.before in
         let first : s.before ≡ take k (puts_of_over x.has) = sym (ap (take k) puts_are ∙ take-append_seam s.before (s.failed ∷ s.after)) in
-        inr (inr (record {
+        inr (inr (inl (record {
           asks = x.asks;
           has = x.has;
           count = k;
@@ -107,8 +111,27 @@ module _ (words : List (List ℕ)) (old new : FilesSeen) (shown shown_new : Cons
           after = between_over o fit x.asks.common x.asks.reuses x.asks.contents x.has.files x.has.contents x.has.can store x.asks.got k;
           common = common_kept o fit x.asks.common x.asks.reuses x.asks.contents x.has.files x.has.contents x.has.can store x.asks.got k;
           text_is = is ∙ ap write_text s.name_is;
-        }))
-    by (inr (inr (inr (inr (inr c))))) = absurd (none_fails s.before s.failed s.after (sym c.puts_are ∙ s.puts_are))
+        })))
+    by (inr (inr (inr (inr (inr (inl b)))))) =
+        let all = b.has.all in
+        let puts_are : all.puts ≡ s.before ++ s.failed ∷ s.after = sym b.puts_are ∙ s.puts_are in
+        let k = length s.before in
+        let first : s.before ≡ take k all.puts = sym (ap (take k) puts_are ∙ take-append_seam s.before (s.failed ∷ s.after)) in
+        inr (inr (inr (record {
+          asks = b.asks;
+          has = b.has;
+          count = k;
+          failed = s.failed;
+          next = ap (λ (ps : List Put). slice_get ps k) puts_are ∙ next_is s.before s.failed s.after;
+          fault = subst (FailedWrite old new) s.name_is s.fault;
+          held = with_puts old new store s.before (take k all.puts) told first s.held;
+          stored = subst (λ (ps : List Put). StoredWith old new ps) first s.stored;
+          after = stops_alone b.asks all b.has.comes k;
+          keeps = keeps_alone b.asks all b.has.comes k;
+          common = kept_between b.asks all b.has.comes k;
+          text_is = is ∙ ap write_text s.name_is;
+        })))
+    by (inr (inr (inr (inr (inr (inr c)))))) = absurd (none_fails s.before s.failed s.after (sym c.puts_are ∙ s.puts_are))
 
   pub all_stopped : RunEnds words old new shown shown_new WriteFault
       → (text : List ℕ) × IsStopped text × Says shown shown_new WriteFault text

@@ -25,13 +25,14 @@ unread common files (Refused r) fail = let first = ((finished_agrees common file
 
 -- and of files that read comes the line on them
 pub compared : (common : Option (List ℕ)) (files : List (List ℕ)) (said : FinishedDocs) (same : Same) (text : Text) → finished_meaning common files ≡ Ok said → IsSameOf said same
-    → text ≡ check_text same → (out : Output) (parts : List TextPart) → out.puts ≡ [] → out.said ≡ Parts parts → out.differs ≡ tells_apart same
+    → text ≡ check_text same → (out : Output) (parts : List TextPart) → out.puts ≡ [] → out.said ≡ Parts parts → out.differs ≡ tells_apart same → out.partly ≡ false
     → parts ≡ record { text = text; is_summary = false } ∷ [] → IsAnswer (ComparesTwo common files) (Ok out)
-compared common files said same text means is line out parts puts saying differs one =
-    let by : List Put → Said → Bool → Output = λ p s d. record { puts = p; said = s; differs = d } in
+compared common files said same text means is line out parts puts saying differs whole one =
+    let by : List Put → Said → Bool → Bool → Output = λ p s d b. record { puts = p; said = s; differs = d; partly = b } in
     let part : Text → TextPart = λ t. record { text = t; is_summary = false } in
     let all : out.said ≡ Parts (part (check_text same) ∷ []) = saying ∙ ap (λ (ps : List TextPart). Parts ps) one ∙ ap (λ (t : Text). Parts (part t ∷ [])) line in
     let answers : out ≡ answer_on same =
-    ap (λ (p : List Put). by p out.said out.differs) puts ∙ ap (λ (s : Said). by [] s out.differs) all
-    ∙ ap (by [] (Parts (part (check_text same) ∷ []))) differs in
+    ap (λ (p : List Put). by p out.said out.differs out.partly) puts ∙ ap (λ (s : Said). by [] s out.differs out.partly) all
+    ∙ ap (λ (d : Bool). by [] (Parts (part (check_text same) ∷ [])) d out.partly) differs
+    ∙ ap (by [] (Parts (part (check_text same) ∷ [])) (tells_apart same)) whole in
     ((said, ((finished_agrees common files).ok said).0 means, same, is, answers), subst CanBeSaid (sym saying) tt)

@@ -1,5 +1,5 @@
 -- What follows of how a run ends. What a run asks for, gets, puts and says is that of its words and of what was held.
-use Rattle.std.specs.Prelude.{◌≡◌, ◌⊎◌, ℕ, Bool, true, false, List, [], ◌∷◌, Option, Some, None, take, slice_get, length, if◌then◌else◌}
+use Rattle.std.specs.Prelude.{◌≡◌, ◌⊎◌, ℕ, Bool, true, false, List, [], ◌∷◌, Option, Some, None, is_some, take, slice_get, length, if◌then◌else◌}
 use Rattle.dwz_model.specs.declared.fault.Refusal.{Refusal}
 use Rattle.dwz_def_reading.specs.Documents.{Doc}
 use Rattle.dwz_def_reading.specs.Files.{First, ReadAll, no_files_before}
@@ -25,7 +25,7 @@ use Rattle.dwz_words.specs.declared.options.Options.{Options}
 use Rattle.dwz_words.specs.Asked.{names_got}
 use Rattle.dwz_words.specs.Lawful.{Lawful}
 use Rattle.dwz_run_course.specs.declared.status.Status.{Status}
-use Rattle.dwz_run_course.specs.declared.status.Status.TheVariants.{Done, Refused, Usage, ReadFault, WriteFault, NoMemory, ConsoleFault, Differs}
+use Rattle.dwz_run_course.specs.declared.status.Status.TheVariants.{Done, Refused, Usage, ReadFault, WriteFault, NoMemory, ConsoleFault, Partly, Differs}
 use Rattle.dwz_run_course.specs.Demo.{demo_options, new_length, old_length}
 use Rattle.dwz_run_course.specs.Ends.{Complete, Ends, Refuses, Says, SaysAll, SaysNothing}
 use Rattle.dwz_run_course.specs.Gets.{gets}
@@ -39,13 +39,14 @@ use Rattle.dwz_def_run.specs.Compares.{common_in, tells_apart, two_in}
 use Rattle.dwz_def_run.specs.Expands.{IsOneRead, one_in}
 use Rattle.dwz_def_run.specs.Stops.{IsMade}
 use Rattle.dwz_def_run.specs.Tells.{IsTold, IsUntold}
-use Rattle.dwz_def_run_over.specs.Comes.{Comes}
+use Rattle.dwz_def_run_batch.specs.Yields.{Yields}
+use Rattle.dwz_run.specs.Batched.{AsksToBatch, DidBatch, IsFirstBatch, StoppedBatch}
 use Rattle.dwz_run.specs.Expanding.{AsksToExpand, DidExpand, StoppedOne}
 use Rattle.dwz_run.specs.Reusing.{AsksToReuse, DidReuse, IsFirstOver, StoppedOver}
 
 -- how a run ends, by its words, by what is told of the files and of the console before and after, and by its status
 abbrev pub RunEnds : List (List ℕ) → FilesSeen → FilesSeen → ConsoleSeen → ConsoleSeen → Status → Type 0
-RunEnds words old new shown shown_new status = Ends demo_files Comes words old new shown shown_new status
+RunEnds words old new shown shown_new status = Ends demo_files Yields words old new shown shown_new status
 
 -- ---- what is asked for
 
@@ -58,6 +59,7 @@ pub record AsksForFiles (words : List (List ℕ)) (store : Store) : Type 0 where
   pub no_check : options.check ≡ false
   pub no_expand : options.expand ≡ false
   pub no_reuse : options.reuse ≡ None
+  pub no_batch : options.batch ≡ None
   pub contents : List (List ℕ)
   pub got : gets store 0 options.files ≡ Some contents
 
@@ -92,6 +94,7 @@ pub data Asks (words : List (List ℕ)) (store : Store) : Type 0 where
   to_compare : AsksToCompare words store → Asks words store
   to_expand : AsksToExpand words store → Asks words store
   to_reuse : AsksToReuse words store → Asks words store
+  to_batch : AsksToBatch words store → Asks words store
 
 -- the options of the work: for a demonstration, those by which its two files are given a common one
 abbrev pub work_options : {words : List (List ℕ)} {store : Store} → Asks words store → Options
@@ -101,6 +104,7 @@ work_options (for_answer a) = a.options
 work_options (to_compare a) = a.options
 work_options (to_expand a) = a.options
 work_options (to_reuse a) = a.options
+work_options (to_batch a) = a.options
 
 -- the contents of the files that are worked on
 abbrev pub work_contents : {words : List (List ℕ)} {store : Store} → Asks words store → List (List ℕ)
@@ -110,6 +114,7 @@ work_contents (for_answer a) = a.contents
 work_contents (to_compare a) = a.contents
 work_contents (to_expand a) = a.contents
 work_contents (to_reuse a) = a.contents
+work_contents (to_batch a) = a.contents
 
 -- ---- what comes of it
 
@@ -201,14 +206,16 @@ abbrev pub Did : List (List ℕ) → Store → FilesSeen → FilesSeen → List 
 Did words store old new text =
     DidAll words store old new text
     ⊎ (DidDemo words store old new text ⊎ (DidTell words store old new text
-    ⊎ (DidExpand words store old new text ⊎ (DidReuse words store old new text ⊎ DidCompare words store old new text Yes))))
+    ⊎ (DidExpand words store old new text ⊎ (DidReuse words store old new text
+    ⊎ (DidBatch words store old new text false ⊎ DidCompare words store old new text Yes)))))
 
 -- two files were compared, and what is said of them is by what they differ
 abbrev pub FoundApart : List (List ℕ) → Store → FilesSeen → FilesSeen → List ℕ → Type 0
 FoundApart words store old new text = (same : Same) × (tells_apart same ≡ true) × DidCompare words store old new text same
 
 -- Where a run answers Done its FILEs were held and read; all is put, and reads back; and its text is written, once. Or it is a demonstration, or it
--- says why two entries aren't shared, or one FILE is put without its partial units, or FILEs over a finished common one, or two files mean the same.
+-- says why two entries aren't shared, or one FILE is put without its partial units, or FILEs over a finished common one, together or each as if it
+-- were alone with it, or two files mean the same.
 abbrev pub DoneLaw : Type 0
 DoneLaw =
     (words : List (List ℕ)) (old new : FilesSeen) (shown shown_new : ConsoleSeen) → RunEnds words old new shown shown_new Done
@@ -227,13 +234,14 @@ abbrev pub SilentLaw : Type 0
 SilentLaw =
     (words : List (List ℕ)) (old new : FilesSeen) (shown shown_new : ConsoleSeen) → RunEnds words old new shown shown_new ConsoleFault
     → (store : Store) → old.held ≡ Some store
-    → (text : List ℕ) × (Did words store old new text ⊎ FoundApart words store old new text) × SaysNothing shown shown_new text
+    → (text : List ℕ) × (Did words store old new text ⊎ (FoundApart words store old new text ⊎ DidBatch words store old new text true))
+    × SaysNothing shown shown_new text
 
 -- what comes of options and contents is the same for every number of workers
 abbrev pub WorkersLaw : Type 0
 WorkersLaw =
-    (o : Options) (n : ℕ) (contents : List (List ℕ)) (outcome : Outcome) → Comes o contents outcome
-    → Comes (record o { workers = n }) contents outcome
+    (o : Options) (n : ℕ) (contents : List (List ℕ)) (outcome : Outcome) → Yields o contents outcome
+    → Yields (record o { workers = n }) contents outcome
 
 -- ---- why something else is answered
 
@@ -271,8 +279,13 @@ abbrev pub IsFirstIn : Option (List ℕ) → Options → List (List ℕ) → Ref
 IsFirstIn None o = IsFirstOf o.explain o.check o.expand o
 IsFirstIn (Some common) o = IsFirstOver o
 
+-- or of many files over one, each as if it were alone, the first that refuses all
+abbrev pub IsFirstAmong : Option (List ℕ) → Options → List (List ℕ) → Refusal → Type 0
+IsFirstAmong None o = IsFirstIn o.reuse o
+IsFirstAmong (Some common) o = IsFirstBatch o
+
 abbrev pub IsFirstRefusal : Options → List (List ℕ) → Refusal → Type 0
-IsFirstRefusal o = IsFirstIn o.reuse o
+IsFirstRefusal o = IsFirstAmong o.batch o
 
 -- what is asked for is refused with its first fault, which is named, with its file
 pub record WasRefused (words : List (List ℕ)) (store : Store) (text : List ℕ) : Type 0 where
@@ -310,21 +323,23 @@ AnswerLaw =
     → RunEnds words old new shown shown_new status
     → NoneFailed old new shown shown_new → (o : Options) → Lawful words o
     → (status ≡ Done) ⊎ (status ≡ Refused) ⊎ (status ≡ NoMemory) ⊎ ((status ≡ Differs) × (o.check ≡ true))
+    ⊎ ((status ≡ Partly) × (is_some o.batch ≡ true))
 
--- Done, where there is no first refusal; of two files that are compared Done or Differs
+-- Done, where there is no first refusal; of two files that are compared Done or Differs, and of many files, each by itself, Done or Partly
 abbrev pub CompleteLaw : Type 0
 CompleteLaw =
     (words : List (List ℕ)) (old new : FilesSeen) (shown shown_new : ConsoleSeen) (status : Status)
-    → Complete demo_files Comes words old new shown shown_new status → NoneFailed old new shown shown_new
+    → Complete demo_files Yields words old new shown shown_new status → NoneFailed old new shown shown_new
     → (store : Store) → old.held ≡ Some store → (a : Asks words store)
     → ((r : Refusal) → ¬ IsFirstRefusal (work_options a) (work_contents a) r)
     → (status ≡ Done) ⊎ (status ≡ NoMemory) ⊎ ((status ≡ Differs) × ((work_options a).check ≡ true))
+    ⊎ ((status ≡ Partly) × (is_some (work_options a).batch ≡ true))
 
 -- Where two files that are compared read, it is Done exactly if they mean the same, imports expanded, and else Differs.
 abbrev pub CompareLaw : Type 0
 CompareLaw =
     (words : List (List ℕ)) (old new : FilesSeen) (shown shown_new : ConsoleSeen) (status : Status)
-    → Complete demo_files Comes words old new shown shown_new status → NoneFailed old new shown shown_new
+    → Complete demo_files Yields words old new shown shown_new status → NoneFailed old new shown shown_new
     → (store : Store) → old.held ≡ Some store → (a : AsksToCompare words store) (said : FinishedDocs) (first second : Doc Place)
     → ReadFinished (common_in a.options.sup a.contents) (two_in a.options.sup a.contents) said → said.docs ≡ first ∷ second ∷ []
     → (CrossSame (beside_common said first) (beside_common said second) → (status ≡ Done) ⊎ (status ≡ NoMemory))
@@ -333,7 +348,7 @@ CompareLaw =
 -- Refused, where there is a first refusal
 abbrev pub RefusesLaw : Type 0
 RefusesLaw =
-    (words : List (List ℕ)) (old new : FilesSeen) (status : Status) → Refuses demo_files Comes words old new status
+    (words : List (List ℕ)) (old new : FilesSeen) (status : Status) → Refuses demo_files Yields words old new status
     → ¬ (Rose old.read_faults new.read_faults)
     → (store : Store) → old.held ≡ Some store → (a : Asks words store) (r : Refusal) → IsFirstRefusal (work_options a) (work_contents a) r
     → (status ≡ Refused) ⊎ (status ≡ NoMemory)
@@ -371,29 +386,13 @@ abbrev pub StoppedLaw : Type 0
 StoppedLaw =
     (words : List (List ℕ)) (old new : FilesSeen) (shown shown_new : ConsoleSeen) → RunEnds words old new shown shown_new WriteFault
     → (store : Store) → old.held ≡ Some store
-    → (text : List ℕ) × (StoppedAt words store old new text ⊎ (StoppedOne words store old new text ⊎ StoppedOver words store old new text)) × Says shown shown_new WriteFault text
+    → (text : List ℕ)
+    × (StoppedAt words store old new text
+    ⊎ (StoppedOne words store old new text ⊎ (StoppedOver words store old new text ⊎ StoppedBatch words store old new text)))
+    × Says shown shown_new WriteFault text
 
 -- however many puts are done
 abbrev pub PrefixesLaw : Type 0
 PrefixesLaw =
     (words : List (List ℕ)) (store : Store) (a : AsksForFiles words store) (out : HasOutput a.options a.contents) (count : ℕ)
     → ReadOn out (done (take count (puts_in out)) store)
-
--- ---- a demonstration
-
--- What each status says of it: its text is of the two files with a common one, or of the first refusal of these.
-abbrev pub DemoEnds : {words : List (List ℕ)} → AsksForDemo words → ConsoleSeen → ConsoleSeen → Status → Type 0
-DemoEnds a shown shown_new Done = (text : List ℕ) × IsDemoText a text × SaysAll shown shown_new text
-DemoEnds a shown shown_new ConsoleFault = (text : List ℕ) × IsDemoText a text × SaysNothing shown shown_new text
-DemoEnds a shown shown_new Refused =
-    (r : Refusal) × IsFirstRefusal (demo_options a.options) (demo_files a.units) r
-    × Says shown shown_new Refused (refusal_text (name_of_file (demo_options a.options) r.file) r)
-DemoEnds a shown shown_new NoMemory = Unit {0}
-DemoEnds a shown shown_new _ = ⊥
-
--- Where words ask for a demonstration the run ends so, and nothing is held otherwise than before.
-abbrev pub DemoLaw : Type 0
-DemoLaw =
-    (words : List (List ℕ)) (old new : FilesSeen) (shown shown_new : ConsoleSeen) (status : Status)
-    → RunEnds words old new shown shown_new status → (a : AsksForDemo words)
-    → DemoEnds a shown shown_new status × ((store : Store) → old.held ≡ Some store → new.held ≡ Some store)

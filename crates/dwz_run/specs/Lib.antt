@@ -1,5 +1,9 @@
 pub mod NewBytes
 pub mod Expanding
 pub mod Reusing
+pub mod Batched
 pub mod Laws
+pub mod DemoLaws
+pub mod BatchLaws
 pub mod SecondCall
+pub mod Batching

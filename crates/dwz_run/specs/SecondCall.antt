@@ -3,7 +3,7 @@ use Rattle.std.specs.Prelude.{◌≡◌, ◌⊎◌, ◌||◌, ℕ, true, false, 
 use Rattle.dwz_def_reading.specs.Finished.{has_sup}
 use Rattle.dwz_def_tops.specs.Lists.{Nth}
 use Rattle.dwz_def_limits.specs.Within.{AreWithinLimits}
-use Rattle.dwz_def_run_over.specs.Comes.{Comes}
+use Rattle.dwz_def_run_batch.specs.Yields.{Yields}
 use Rattle.dwz_gen.specs.Demo.{demo_files}
 use Rattle.dwz_outside.specs.Store.{Store}
 use Rattle.dwz_outside.specs.Told.{ConsoleSeen, FilesSeen}
@@ -41,7 +41,7 @@ AgainLaw =
     (words : List (List ℕ)) (old new : FilesSeen) (shown shown_new : ConsoleSeen) → RunEnds words old new shown shown_new Done
     → (store now : Store) → old.held ≡ Some store → new.held ≡ Some now → (first : AsksForFiles words store)
     → (again : List (List ℕ)) (before after : FilesSeen) (printed printed_new : ConsoleSeen) (status : Status)
-    → Complete demo_files Comes again before after printed printed_new status → NoneFailed before after printed printed_new
+    → Complete demo_files Yields again before after printed printed_new status → NoneFailed before after printed printed_new
     → (held : Store) → before.held ≡ Some held → (second : AsksToCompare again held) → ComparesAgain first now second
     → AreWithinLimits second.contents
     → (status ≡ Done) ⊎ (status ≡ NoMemory)

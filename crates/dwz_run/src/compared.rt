@@ -65,6 +65,7 @@ fn answer_on<R: Threads + Sync, G: Gate>(
         puts: Puts::new(Vec::new(alloc)),
         said: Said::Parts(TextParts::new(parts)),
         differs: tells_apart(&same),
+        partly: false,
     })
 }
 

@@ -11,6 +11,7 @@ ghost use Rattle.dwz_run_course.specs.Answers.{CanBeSaid, IsAnswer};
 ghost use Rattle.dwz_run.specs.NewBytes.{AnswersNew};
 
 use crate::contents::{common_in, content_at, first_of};
+use crate::names::{copied, name_at};
 use dwz_expand::expand;
 use dwz_expand_file::expanded_file;
 use dwz_graph::Graph;
@@ -20,16 +21,6 @@ use dwz_report::{Summary, SummaryLines};
 use dwz_run_course::{Output, Puts, Said};
 use dwz_words::Options;
 use std::alloc::Global;
-
-// The first of these names, or none.
-fn first_name(names: &[Blob]) -> &[u8]
-    ensures { result.now ≡ get_or names.now 0 [] }
-{
-    match names.first() {
-        Some(name) => name.as_slice(),
-        None => &[],
-    }
-}
 
 // The name of the output, or none.
 fn out_name(out: &Option<Blob>) -> &[u8]
@@ -41,18 +32,12 @@ fn out_name(out: &Option<Blob>) -> &[u8]
     }
 }
 
-fn copied(alloc: Global, name: &[u8]) -> Result<Blob, NoMemory>
-    ensures { IfOk result (λ blob. blob ≡ name.now) }
-{
-    Ok(Blob::new(Vec::from_slice(alloc, name)?))
-}
-
 // What is said: the length of the file, and of the new one.
 fn said_with(alloc: Global, options: &Options, old: &[u8], new: &[u8]) -> Result<Said, NoMemory>
     ensures is { IfOk result (λ said. said ≡ (output_with options.now old.now new.now).said) }
     ensures said { IfOk result CanBeSaid }
 {
-    let name = copied(alloc, first_name(options.files.as_slice()))?;
+    let name = copied(alloc, name_at(options.files.as_slice(), 0))?;
     let mut lines = Vec::new(alloc);
     lines.push((name, old.len() as u64, Some(new.len() as u64)))?;
     Ok(Said::Slimmed {
@@ -85,6 +70,7 @@ fn output_with(
         puts: Puts::new(puts),
         said,
         differs: false,
+        partly: false,
     })
 }
 

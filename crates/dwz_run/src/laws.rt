@@ -3,7 +3,9 @@
 //! They are laws over how a run ended, and not more clauses of `run`: so they are proved without a look at code, and use nothing but
 //! `ends`, `complete` and `refuses`.
 
-ghost use Rattle.dwz_run.specs.Laws.{AnswerLaw, ApartLaw, CompareLaw, CompleteLaw, DemoLaw, DoneLaw, NothingLaw, PrefixesLaw, RefusedLaw, RefusesLaw, SilentLaw};
+ghost use Rattle.dwz_run.specs.BatchLaws.{BatchLaw, PartlyLaw, ReuseAloneLaw};
+ghost use Rattle.dwz_run.specs.DemoLaws.{DemoLaw};
+ghost use Rattle.dwz_run.specs.Laws.{AnswerLaw, ApartLaw, CompareLaw, CompleteLaw, DoneLaw, NothingLaw, PrefixesLaw, RefusedLaw, RefusesLaw, SilentLaw};
 ghost use Rattle.dwz_run.specs.Laws.{StoppedLaw, UsageLaw, WorkersLaw};
 ghost use Rattle.dwz_run.specs.SecondCall.{AgainLaw};
 
@@ -18,11 +20,16 @@ ghost use Rattle.dwz_run.specs.SecondCall.{AgainLaw};
 /// units imported, reads as a file by itself, but for limits, and means the same, where spaces of partial units fit those of units; and
 /// nothing else is put. Or they ask with `--reuse` for FILEs over a finished common file: this was held and read, and the FILEs beside it; what
 /// is put of these is put, in order, and nothing else, the common file keeps its bytes, and with it what is written says the same as what was
-/// read, along images, where entries that it has more than once count as one. Where it answers Differs two files that are compared don't mean the same, and the text says where they part.
+/// read, along images, where entries that it has more than once count as one. Or they ask with `--batch` for many FILEs over one, and so it is
+/// of each as if it were alone with it; where it answers Partly some of them are refused, and so it is of the others. What comes of each is
+/// what a call with `--reuse` for it alone asks for, with the same name of the common file.
+/// Where it answers Differs two files that are compared don't mean the same, and the text says where they part.
 /// Where it answers ConsoleFault one of all these is so too, but for the text, which isn't written. What is put and said is the same for
 /// every number of workers.
 pub fn done_laws()
     ensures done { DoneLaw }
+    ensures partly { PartlyLaw }
+    ensures alone { ReuseAloneLaw }
     ensures apart { ApartLaw }
     ensures silent { SilentLaw }
     ensures workers { WorkersLaw }
@@ -39,10 +46,12 @@ pub fn cause_laws()
 
 /// Where no get, no put and no writing of the text failed, lawful words get Done, Refused or NoMemory, or with `--check` Differs: of
 /// files that are held, Refused where there is a first refusal, and else Done, with `--explain` and `--expand` as well; with `--check`
-/// Done where the two files mean the same, and Differs where they don't. Memory may always run out.
+/// Done where the two files mean the same, and Differs where they don't; with `--batch`, where nothing refuses all, Partly exactly if a FILE
+/// is refused alone, and else Done. Memory may always run out.
 pub fn answer_laws()
     ensures answer { AnswerLaw }
     ensures complete { CompleteLaw }
+    ensures batch { BatchLaw }
     ensures compare { CompareLaw }
     ensures refuses { RefusesLaw }
 {}
@@ -56,7 +65,7 @@ pub fn second_call_laws()
 
 /// Where a run answers WriteFault, the first puts are done, and the next one failed, whose name is told. Each FILE is as it was, or as it
 /// is made, and then the common file stands; it reads as before. So it is after the first puts, however many. With `--expand` there is one
-/// put: where it failed, nothing is held otherwise than before. With `--reuse` the common file keeps its bytes.
+/// put: where it failed, nothing is held otherwise than before. With `--reuse` and `--batch` the common file keeps its bytes.
 pub fn stop_laws()
     ensures stopped { StoppedLaw }
     ensures prefixes { PrefixesLaw }

@@ -36,8 +36,8 @@ fn say_alone(graph: &Graph<'_>)
     graph.common();
 }
 
-// What comes of files that are read beside that common file.
-fn written_over<R: Threads + Sync, G: Gate>(
+/// What comes of files that are read beside that common file.
+pub(crate) fn written_over<R: Threads + Sync, G: Gate>(
     rt: &R,
     alloc: Global,
     options: &Options,

@@ -2,7 +2,7 @@
 
 ghost use Rattle.dwz_run_course.specs.Ends.{Complete, Ends, KeepsLastRead, LeavesFiles, Refuses};
 ghost use Rattle.dwz_gen.specs.Demo.{demo_files};
-ghost use Rattle.dwz_def_run_over.specs.Comes.{Comes};
+ghost use Rattle.dwz_def_run_batch.specs.Yields.{Yields};
 ghost use Rattle.dwz_words.specs.Lawful.{word_bytes};
 
 use crate::work::FileWork;
@@ -33,6 +33,10 @@ use std::thread::Threads;
 /// With `--reuse` it gets a finished common file and then FILEs, and puts these over it: what it has is imported from it (DWARF 5, 7.3.6), and
 /// what else a FILE repeats stands once in that. The common file is never put.
 ///
+/// With `--batch` it gets that one and then FILEs as with `--reuse`, and does with each what `--reuse` does with it alone, as many at once as
+/// there are workers. A FILE that is refused keeps its bytes, and the text says so; the others are put. It answers Partly where one is
+/// refused, and Done where none is. What is wrong with the common file refuses all, and so do too many bytes together.
+///
 /// What follows of how a run ends is said by laws: where all is done, the FILEs that are put read back as what was read (`done_laws`);
 /// why each other status is answered, and what it leaves (`cause_laws`); which status comes where nothing outside fails
 /// (`answer_laws`); what is held where the puts stop (`stop_laws`); and what a demonstration says (`demo_laws`).
@@ -44,11 +48,11 @@ pub fn run<Rt: Threads + Sync, F: Files, C: Console, G: Gate>(
     console: &mut C,
     gate: &G,
 ) -> Status
-    ensures ends { Ends demo_files Comes (word_bytes words.now) (F.told files.old) (F.told files.new) (C.shown console.old)
+    ensures ends { Ends demo_files Yields (word_bytes words.now) (F.told files.old) (F.told files.new) (C.shown console.old)
         (C.shown console.new) result }
-    ensures complete { Complete demo_files Comes (word_bytes words.now) (F.told files.old) (F.told files.new) (C.shown console.old)
+    ensures complete { Complete demo_files Yields (word_bytes words.now) (F.told files.old) (F.told files.new) (C.shown console.old)
         (C.shown console.new) result }
-    ensures refuses { Refuses demo_files Comes (word_bytes words.now) (F.told files.old) (F.told files.new) result }
+    ensures refuses { Refuses demo_files Yields (word_bytes words.now) (F.told files.old) (F.told files.new) result }
     ensures demo { LeavesFiles (word_bytes words.now) (F.told files.old) (F.told files.new) }
     ensures reads { KeepsLastRead result (F.told files.old) (F.told files.new) }
 {

@@ -4,8 +4,8 @@
 //! That at most one thing comes is a law of the trait, from which completeness follows.
 
 ghost use Rattle.dwz_gen.specs.Demo.{demo_files};
-ghost use Rattle.dwz_def_run_over.specs.Comes.{Comes};
-ghost use Rattle.dwz_def_run_over.proofs.OneComes.{one_comes};
+ghost use Rattle.dwz_def_run_batch.specs.Yields.{Yields};
+ghost use Rattle.dwz_def_run_batch.proofs.OneYields.{one_yields};
 
 use dwz_gen::{Two, make};
 use dwz_model::NoMemory;
@@ -19,7 +19,7 @@ pub(crate) struct FileWork;
 impl Work for FileWork {
     ghost makes = { demo_files };
 
-    ghost gives = { Comes };
+    ghost gives = { Yields };
 
     fn make(&self, alloc: Global, n: u32) -> Result<Vec<Vec<u8>>, NoMemory> {
         let Two { one, two } = make(alloc, n)?;
@@ -29,5 +29,5 @@ impl Work for FileWork {
         Ok(files)
     }
 
-    ghost one = { one_comes };
+    ghost one = { one_yields };
 }

@@ -8,11 +8,12 @@ ghost use Rattle.std.specs.Option.{is_some};
 ghost use Rattle.dwz_run_course.specs.Answers.{IsAnswer};
 ghost use Rattle.dwz_def_reading.specs.Files.{ReadAll, no_files_before};
 ghost use Rattle.dwz_def_run.specs.Out.{Slims, top_scope_of};
-ghost use Rattle.dwz_def_run_over.specs.Comes.{Comes};
+ghost use Rattle.dwz_def_run_batch.specs.Yields.{Yields};
 ghost use Rattle.dwz_def_run.specs.Tells.{TellsWhy};
 ghost use Rattle.dwz_graph.specs.Files.{docs_of};
 ghost use Rattle.dwz_run_files.specs.Rules.{alike_scope};
 
+use crate::batched::batched_files;
 use crate::compared::compared_files;
 use crate::expanded::expanded_files;
 use crate::reused::reused_files;
@@ -60,6 +61,13 @@ fn reuses(options: &Options) -> bool
     ensures { result ≡ is_some options.now.reuse }
 {
     options.reuse.is_some()
+}
+
+// Whether that is done with each of many as if it were alone.
+fn batches(options: &Options) -> bool
+    ensures { result ≡ is_some options.now.batch }
+{
+    options.batch.is_some()
 }
 
 // Which files share: all of them where a common file is asked for, and else each by itself.
@@ -126,6 +134,7 @@ fn told_places<R: Threads + Sync>(
         puts: Puts::new(Vec::new(alloc)),
         said: Said::Parts(TextParts::new(parts)),
         differs: false,
+        partly: false,
     })
 }
 
@@ -137,12 +146,15 @@ pub(crate) fn written_files<R: Threads + Sync, G: Gate>(
     contents: &[Vec<u8>],
     gate: &G,
 ) -> Result<Output, GraphErr>
-    ensures { IsAnswer (Comes options.now (map (λ c. c.items) contents.now)) result }
+    ensures { IsAnswer (Yields options.now (map (λ c. c.items) contents.now)) result }
 {
     if contents.len() >= MANY_FILES {
         return Err(GraphErr::NoMemory);
     }
     let workers = workers_of(options);
+    if batches(options) {
+        return batched_files(rt, alloc, options, contents, workers, gate);
+    }
     if reuses(options) {
         return reused_files(rt, alloc, options, contents, workers, gate);
     }

@@ -1,5 +1,5 @@
 -- How a run ends whose contents are there.
-use Rattle.std.proofs.Common.{◌≡◌, ◌⊎◌, ℕ, Bool, true, false, List, [], ◌∷◌, ◌++◌, map, Option, Some, None, refl, sym, ap, subst, ◌∙◌, inl, inr}
+use Rattle.std.proofs.Common.{◌≡◌, ◌⊎◌, ◌^◌, ℕ, Bool, true, false, List, [], ◌∷◌, ◌++◌, map, Option, Some, None, refl, sym, ap, subst, ◌∙◌, inl, inr}
 use Rattle.std.specs.Prelude.{IfSome}
 use Rattle.std.specs.Borrow.{Bor}
 use Rattle.std.proofs.lemmas.List.{append-nil}
@@ -12,14 +12,14 @@ use Rattle.dwz_report.specs.Texts.{refusal_text, write_text}
 use Rattle.std.specs.Global.{Vec}
 use Rattle.dwz_words.specs.Asked.{names_got}
 use Rattle.dwz_words.specs.Lawful.{Lawful}
-use Rattle.dwz_run_course.specs.Gets.{AreOfBytes, gets}
+use Rattle.dwz_run_course.specs.Gets.{AreOfBytes, gets_by, longest_behind}
 use Rattle.dwz_words.specs.declared.options.Options.{Options}
 use Rattle.dwz_run_course.specs.declared.output.Output.{Output}
 use Rattle.dwz_run_course.specs.declared.putting.Ready.{Ready}
 use Rattle.dwz_run_course.specs.declared.saying.Ended.{Ended}
-use Rattle.dwz_run_course.specs.declared.saying.Ended.TheVariants.{AllPut, Differed, WasRefused, NotLawful, NotGot, NotPut, OutOfMemory}
+use Rattle.dwz_run_course.specs.declared.saying.Ended.TheVariants.{AllPut, Differed, PartlyPut, WasRefused, NotLawful, NotGot, NotPut, OutOfMemory}
 use Rattle.dwz_run_course.specs.declared.status.Status.{Status}
-use Rattle.dwz_run_course.specs.declared.status.Status.TheVariants.{Done, Refused, Usage, ReadFault, WriteFault, NoMemory, ConsoleFault, Differs}
+use Rattle.dwz_run_course.specs.declared.status.Status.TheVariants.{Done, Refused, Usage, ReadFault, WriteFault, NoMemory, ConsoleFault, Partly, Differs}
 use Rattle.dwz_run_course.specs.Ended.{IsSaid, status_of, text_of, unsaid}
 use Rattle.dwz_run_course.specs.Demo.{asked, asked_by, demo_options}
 use Rattle.dwz_run_course.specs.Ends.{AreContents, Came, EndsFor, KeepsLastRead, done_text, finished, puts_unless_demo}
@@ -41,6 +41,7 @@ refused : (makes : ℕ → List (List ℕ)) (gives : Giving) (words : List (List
     → IsSaid e Refused (refusal_text (name_of_file (asked came.options) r.file) r) → EndsFor makes gives words old new (status_of e) (text_of e)
 refused makes gives words old new (AllPut text) r came nothing said = absurd (is_refused Done (sym said.0) tt)
 refused makes gives words old new (Differed text) r came nothing said = absurd (is_refused Differs (sym said.0) tt)
+refused makes gives words old new (PartlyPut text) r came nothing said = absurd (is_refused Partly (sym said.0) tt)
 refused makes gives words old new (WasRefused text) r came nothing said = (r, came, nothing, said.1)
 refused makes gives words old new NotLawful r came nothing said = absurd (is_refused Usage (sym said.0) tt)
 refused makes gives words old new (NotGot text) r came nothing said = absurd (is_refused ReadFault (sym said.0) tt)
@@ -70,13 +71,14 @@ all_put old mid new all puts leaves d is =
 
 -- a run that did all ends as its output says
 pub all_said : (makes : ℕ → List (List ℕ)) (gives : Giving) (words : List (List ℕ)) (old new : FilesSeen) (e : Ended) (text : List ℕ) (out : Output) (came : Came makes gives words old (writes out))
-    → PutsDone old new (puts_unless_demo came.options.demo out) → text ≡ done_text came.options out → status_of e ≡ finished out.differs → text_of e ≡ text
+    → PutsDone old new (puts_unless_demo came.options.demo out) → text ≡ done_text came.options out → status_of e ≡ finished out.differs out.partly → text_of e ≡ text
     → EndsFor makes gives words old new (status_of e) (text_of e)
 all_said makes gives words old new e text out came done is status same =
-    subst (λ (s : Status). EndsFor makes gives words old new s (text_of e)) (sym status) (by out.differs refl) where
-      by : (differs : Bool) → out.differs ≡ differs → EndsFor makes gives words old new (finished differs) (text_of e)
-      by false is_same = (out, came, done, same ∙ is, is_same)
-      by true differ = (out, came, done, same ∙ is, differ)
+    subst (λ (s : Status). EndsFor makes gives words old new s (text_of e)) (sym status) (by out.differs out.partly refl refl) where
+      by : (differs partly : Bool) → out.differs ≡ differs → out.partly ≡ partly → EndsFor makes gives words old new (finished differs partly) (text_of e)
+      by false false is_same whole = (out, came, done, same ∙ is, is_same, whole)
+      by false true is_same some = (out, came, done, same ∙ is, is_same, some)
+      by true partly differ whole = (out, came, done, same ∙ is, differ)
 
 -- ---- one put failed
 
@@ -120,17 +122,18 @@ pub of_bytes : (contents seen : List (Vec ℕ)) → seen ≡ contents → AreOfB
 of_bytes contents seen same bytes = subst (λ (v : List (Vec ℕ)). AreOfBytes (map (λ c. c.items) v)) same bytes
 
 abbrev pub came_of : (makes : ℕ → List (List ℕ)) (gives : Giving) (words : List (List ℕ)) (old : FilesSeen) (outcome : Outcome) (o : Options) (names seen : List (Bor (List ℕ)))
-    (contents given : List (Vec ℕ)) → o.demo ≡ None → Lawful words o → seen ≡ names → map (λ name. name.now) names ≡ names_got o → given ≡ contents
-    → IfSome old.held (λ store. gets store 0 (map (λ name. name.now) seen) ≡ Some (map (λ c. c.items) contents)) → AreOfBytes (map (λ c. c.items) contents)
+    (contents given : List (Vec ℕ)) (behind : ℕ) → o.demo ≡ None → Lawful words o → seen ≡ names → map (λ name. name.now) names ≡ names_got o → given ≡ contents → behind ≡ longest_behind o
+    → IfSome old.held (λ store. gets_by (2 ^ 28) behind store 0 (map (λ name. name.now) seen) ≡ Some (map (λ c. c.items) contents)) → AreOfBytes (map (λ c. c.items) contents)
     → gives o (map (λ c. c.items) given) outcome → Came makes gives words old outcome
-came_of makes gives words old outcome o names seen contents given none lawful seen_is is same got bytes what = record {
+came_of makes gives words old outcome o names seen contents given behind none lawful seen_is is same behind_is got bytes what = record {
   options = o;
   lawful = lawful;
   contents = map (λ c. c.items) given;
-  are = subst (λ (d : Option ℕ). AreContents makes d old (names_got o) (map (λ c. c.items) given)) (sym none)
-      (subst (λ (v : List (Vec ℕ)). IfSome old.held (λ store. gets store 0 (names_got o) ≡ Some (map (λ c. c.items) v))) (sym same)
-      (subst (λ (ns : List (List ℕ)). IfSome old.held (λ store. gets store 0 ns ≡ Some (map (λ c. c.items) contents)))
-      (ap (λ (ns : List (Bor (List ℕ))). map (λ name. name.now) ns) seen_is ∙ is) got));
+  are = subst (λ (d : Option ℕ). AreContents makes d (longest_behind o) old (names_got o) (map (λ c. c.items) given)) (sym none)
+      (subst (λ (n : ℕ). IfSome old.held (λ store. gets_by (2 ^ 28) n store 0 (names_got o) ≡ Some (map (λ c. c.items) given))) behind_is
+      (subst (λ (v : List (Vec ℕ)). IfSome old.held (λ store. gets_by (2 ^ 28) behind store 0 (names_got o) ≡ Some (map (λ c. c.items) v))) (sym same)
+      (subst (λ (ns : List (List ℕ)). IfSome old.held (λ store. gets_by (2 ^ 28) behind store 0 ns ≡ Some (map (λ c. c.items) contents)))
+      (ap (λ (ns : List (Bor (List ℕ))). map (λ name. name.now) ns) seen_is ∙ is) got)));
   bytes = subst (λ (v : List (Vec ℕ)). AreOfBytes (map (λ c. c.items) v)) (sym same) bytes;
   given = subst (λ (d : Option ℕ). gives (asked_by d o) (map (λ c. c.items) given) outcome) (sym none) what;
 }
@@ -143,7 +146,7 @@ made_of makes gives words old outcome o work n contents given demo lawful is sam
   options = o;
   lawful = lawful;
   contents = map (λ c. c.items) given;
-  are = subst (λ (d : Option ℕ). AreContents makes d old (names_got o) (map (λ c. c.items) given)) (sym demo) (ap (λ (v : List (Vec ℕ)). map (λ c. c.items) v) same ∙ made);
+  are = subst (λ (d : Option ℕ). AreContents makes d (longest_behind o) old (names_got o) (map (λ c. c.items) given)) (sym demo) (ap (λ (v : List (Vec ℕ)). map (λ c. c.items) v) same ∙ made);
   bytes = subst (λ (v : List (Vec ℕ)). AreOfBytes (map (λ c. c.items) v)) (sym same) bytes;
   given = subst (λ (d : Option ℕ). gives (asked_by d o) (map (λ c. c.items) given) outcome) (sym demo)
       (subst (λ (x : Options). gives x (map (λ c. c.items) given) outcome) is what);
@@ -196,6 +199,7 @@ kept_by ReadFault old new same = tt
 kept_by WriteFault old new same = same
 kept_by NoMemory old new same = tt
 kept_by ConsoleFault old new same = same
+kept_by Partly old new same = same
 kept_by Differs old new same = same
 
 -- the text changes nothing of that
@@ -207,6 +211,7 @@ unsaid_kept ReadFault old new kept = kept
 unsaid_kept WriteFault old new kept = kept
 unsaid_kept NoMemory old new kept = kept
 unsaid_kept ConsoleFault old new kept = kept
+unsaid_kept Partly old new kept = kept
 unsaid_kept Differs old new kept = kept
 
 pub kept_after : (status first : Status) (old new : FilesSeen) → (status ≡ first) ⊎ (status ≡ unsaid first) → KeepsLastRead first old new → KeepsLastRead status old new

@@ -19,6 +19,7 @@ demo_options o = record {
   check = false;
   expand = false;
   reuse = None;
+  batch = None;
   sup = None;
 }
 

@@ -1,14 +1,15 @@
 -- Inner: the status and the text of each end.
 use Rattle.std.specs.Prelude.{◌≡◌, ℕ, List}
 use Rattle.dwz_run_course.specs.declared.saying.Ended.{Ended}
-use Rattle.dwz_run_course.specs.declared.saying.Ended.TheVariants.{AllPut, Differed, WasRefused, NotLawful, NotGot, NotPut, OutOfMemory}
+use Rattle.dwz_run_course.specs.declared.saying.Ended.TheVariants.{AllPut, Differed, PartlyPut, WasRefused, NotLawful, NotGot, NotPut, OutOfMemory}
 use Rattle.dwz_run_course.specs.declared.status.Status.{Status}
-use Rattle.dwz_run_course.specs.declared.status.Status.TheVariants.{Done, Refused, Usage, ReadFault, WriteFault, NoMemory, ConsoleFault, Differs}
+use Rattle.dwz_run_course.specs.declared.status.Status.TheVariants.{Done, Refused, Usage, ReadFault, WriteFault, NoMemory, ConsoleFault, Partly, Differs}
 use Rattle.dwz_report.specs.Texts.{memory_text, usage_text}
 
 abbrev pub status_of : Ended → Status
 status_of (AllPut text) = Done
 status_of (Differed text) = Differs
+status_of (PartlyPut text) = Partly
 status_of (WasRefused text) = Refused
 status_of NotLawful = Usage
 status_of (NotGot text) = ReadFault
@@ -18,6 +19,7 @@ status_of OutOfMemory = NoMemory
 abbrev pub text_of : Ended → List ℕ
 text_of (AllPut text) = text
 text_of (Differed text) = text
+text_of (PartlyPut text) = text
 text_of (WasRefused text) = text
 text_of NotLawful = usage_text
 text_of (NotGot text) = text
@@ -28,6 +30,7 @@ text_of OutOfMemory = memory_text
 abbrev pub unsaid : Status → Status
 unsaid Done = ConsoleFault
 unsaid Differs = ConsoleFault
+unsaid Partly = ConsoleFault
 unsaid status = status
 
 -- it ends with this status, and says this, unless memory ran out

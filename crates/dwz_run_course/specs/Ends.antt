@@ -1,5 +1,5 @@
 -- How a run ends, and what it leaves.
-use Rattle.std.specs.Prelude.{◌≡◌, ◌⊎◌, ℕ, Bool, true, false, List, [], ◌∷◌, ◌++◌, Option, Some, None, IfSome, IsSome, Contains, ◌&&◌, if◌then◌else◌}
+use Rattle.std.specs.Prelude.{◌≡◌, ◌⊎◌, ℕ, Bool, true, false, List, [], ◌∷◌, ◌++◌, ◌^◌, Option, Some, None, IfSome, IsSome, Contains, ◌&&◌, if◌then◌else◌}
 use Rattle.dwz_outside.specs.declared.puts.Put.{Put}
 use Rattle.dwz_outside.specs.Counts.{Rose}
 use Rattle.dwz_outside.specs.Store.{Store}
@@ -15,25 +15,26 @@ use Rattle.dwz_run_course.specs.declared.output.Said.{Said}
 use Rattle.dwz_run_course.specs.declared.output.Said.TheVariants.{Parts, Slimmed}
 use Rattle.dwz_run_course.specs.declared.output.TextPart.{TextPart}
 use Rattle.dwz_run_course.specs.declared.status.Status.{Status}
-use Rattle.dwz_run_course.specs.declared.status.Status.TheVariants.{Done, Refused, Usage, ReadFault, WriteFault, NoMemory, ConsoleFault, Differs}
+use Rattle.dwz_run_course.specs.declared.status.Status.TheVariants.{Done, Refused, Usage, ReadFault, WriteFault, NoMemory, ConsoleFault, Partly, Differs}
 use Rattle.dwz_run_course.specs.Demo.{asked, new_length, old_length}
-use Rattle.dwz_run_course.specs.Gets.{AreOfBytes, gets}
+use Rattle.dwz_run_course.specs.Gets.{AreOfBytes, gets_by, longest_behind}
 use Rattle.dwz_run_course.specs.Outcome.{Giving, Outcome, name_of_file, refuses, writes}
 use Rattle.dwz_run_course.specs.Puts.{PutsDone, PutsStopped}
 
 -- ---- what is worked on, and what comes of it
 
--- the contents of these names as they were got, or those that are made for a demonstration
-abbrev pub AreContents : (ℕ → List (List ℕ)) → Option ℕ → FilesSeen → List (List ℕ) → List (List ℕ) → Type 0
-AreContents makes None old names contents = IfSome old.held (λ store. gets store 0 names ≡ Some contents)
-AreContents makes (Some n) old names contents = contents ≡ makes n
+-- The contents of these names as they were got, or those that are made for a demonstration. A file behind the first may be so long by itself
+-- without an end of the gets.
+abbrev pub AreContents : (ℕ → List (List ℕ)) → Option ℕ → ℕ → FilesSeen → List (List ℕ) → List (List ℕ) → Type 0
+AreContents makes None behind old names contents = IfSome old.held (λ store. gets_by (2 ^ 28) behind store 0 names ≡ Some contents)
+AreContents makes (Some n) behind old names contents = contents ≡ makes n
 
 -- the words are lawful, the contents that they ask for are there, each of bytes, and this is what the work gives for them
 pub record Came (makes : ℕ → List (List ℕ)) (gives : Giving) (words : List (List ℕ)) (old : FilesSeen) (outcome : Outcome) : Type 0 where
   pub options : Options
   pub lawful : Lawful words options
   pub contents : List (List ℕ)
-  pub are : AreContents makes options.demo old (names_got options) contents
+  pub are : AreContents makes options.demo (longest_behind options) old (names_got options) contents
   pub bytes : AreOfBytes contents
   pub given : gives (asked options) contents outcome
 
@@ -63,20 +64,24 @@ said_text o (Parts parts) = parts_text o.quiet parts
 abbrev pub done_text : Options → Output → List ℕ
 done_text o out = said_text o out.said
 
--- the status of a run that did all: whether two files that were compared differ
-abbrev pub finished : Bool → Status
-finished false = Done
-finished true = Differs
+-- the status of a run that did all: whether two files that were compared differ, and whether some files are refused, each by itself
+abbrev pub finished : (differs partly : Bool) → Status
+finished true partly = Differs
+finished false true = Partly
+finished false false = Done
 
 -- what each status says of the words, of the files before and after, and of the text; that of a run whose text isn't written, of the text that
 -- isn't
 abbrev pub EndsFor : (ℕ → List (List ℕ)) → Giving → List (List ℕ) → FilesSeen → FilesSeen → Status → List ℕ → Type 0
 EndsFor makes gives words old new Done text =
     (out : Output) × (came : Came makes gives words old (writes out)) × PutsDone old new (puts_unless_demo came.options.demo out)
-    × (text ≡ done_text came.options out) × (out.differs ≡ false)
+    × (text ≡ done_text came.options out) × (out.differs ≡ false) × (out.partly ≡ false)
 EndsFor makes gives words old new Differs text =
     (out : Output) × (came : Came makes gives words old (writes out)) × PutsDone old new (puts_unless_demo came.options.demo out)
     × (text ≡ done_text came.options out) × (out.differs ≡ true)
+EndsFor makes gives words old new Partly text =
+    (out : Output) × (came : Came makes gives words old (writes out)) × PutsDone old new (puts_unless_demo came.options.demo out)
+    × (text ≡ done_text came.options out) × (out.differs ≡ false) × (out.partly ≡ true)
 EndsFor makes gives words old new Refused text =
     (r : Refusal) × (came : Came makes gives words old (refuses r)) × LeavesPuts old new
     × (text ≡ refusal_text (name_of_file (asked came.options) r.file) r)
@@ -117,6 +122,7 @@ SaysNothing old new (byte ∷ text) = Unwritten old new
 abbrev pub Says : ConsoleSeen → ConsoleSeen → Status → List ℕ → Type 0
 Says old new Done text = SaysAll old new text
 Says old new Differs text = SaysAll old new text
+Says old new Partly text = SaysAll old new text
 Says old new ConsoleFault text = SaysNothing old new text
 Says old new _ text = SaysAll old new text ⊎ SaysNothing old new text
 
@@ -140,16 +146,17 @@ KeepsLastRead _ old new = new.last_read ≡ old.last_read
 -- ---- the other way round
 
 -- all of these names are held, and have these contents; those that are made count as held
-abbrev pub AreHeld : (ℕ → List (List ℕ)) → Option ℕ → FilesSeen → List (List ℕ) → List (List ℕ) → Type 0
-AreHeld makes None old names contents = (store : Store) × (old.held ≡ Some store) × (gets store 0 names ≡ Some contents)
-AreHeld makes (Some n) old names contents = contents ≡ makes n
+abbrev pub AreHeld : (ℕ → List (List ℕ)) → Option ℕ → ℕ → FilesSeen → List (List ℕ) → List (List ℕ) → Type 0
+AreHeld makes None behind old names contents =
+    (store : Store) × (old.held ≡ Some store) × (gets_by (2 ^ 28) behind store 0 names ≡ Some contents)
+AreHeld makes (Some n) behind old names contents = contents ≡ makes n
 
 -- the words are lawful, all that they ask for is held, and this is what the work gives for it
 pub record AsksFor (makes : ℕ → List (List ℕ)) (gives : Giving) (words : List (List ℕ)) (old : FilesSeen) (outcome : Outcome) : Type 0 where
   pub options : Options
   pub lawful : Lawful words options
   pub contents : List (List ℕ)
-  pub held : AreHeld makes options.demo old (names_got options) contents
+  pub held : AreHeld makes options.demo (longest_behind options) old (names_got options) contents
   pub given : gives (asked options) contents outcome
 
 -- what is asked for is done, unless memory ran out or something failed
@@ -157,7 +164,7 @@ abbrev pub Complete : (ℕ → List (List ℕ)) → Giving → List (List ℕ) �
 Complete makes gives words old new shown shown_new status =
     (out : Output) → AsksFor makes gives words old (writes out)
     → ¬ (Rose old.read_faults new.read_faults) → ¬ (Rose old.write_faults new.write_faults) → ¬ (Rose shown.faults shown_new.faults)
-    → (status ≡ finished out.differs) ⊎ (status ≡ NoMemory)
+    → (status ≡ finished out.differs out.partly) ⊎ (status ≡ NoMemory)
 
 -- and it is refused where the work refuses it, unless memory ran out or a get failed
 abbrev pub Refuses : (ℕ → List (List ℕ)) → Giving → List (List ℕ) → FilesSeen → FilesSeen → Status → Type 0

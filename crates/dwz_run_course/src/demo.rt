@@ -35,6 +35,7 @@ pub(crate) fn demo_options(alloc: Global, options: &Options) -> Result<Options, 
         check: false,
         expand: false,
         reuse: None,
+        batch: None,
         sup: None,
     })
 }

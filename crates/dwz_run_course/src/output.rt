@@ -16,6 +16,8 @@ pub struct Output {
     pub said: Said,
     /// Whether it is an answer on two files by which they differ.
     pub differs: bool,
+    /// Whether it is of many files, each by itself, of which some are refused.
+    pub partly: bool,
 }
 
 /// What a run says of what it did.

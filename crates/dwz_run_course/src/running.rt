@@ -13,7 +13,7 @@ ghost use Rattle.dwz_words.specs.Asked.{names_numbered};
 ghost use Rattle.dwz_words.specs.Lawful.{Lawful, word_bytes};
 
 use crate::demo::demo_options;
-use crate::getting::{GetStop, got_all};
+use crate::getting::{GetStop, got_all, longest_behind};
 use crate::looking::look_at_all;
 use crate::outcome::Work;
 use crate::output::Output;
@@ -103,7 +103,7 @@ where
     let Ok(names) = names_got(alloc, options) else {
         return Ended::OutOfMemory;
     };
-    let contents = match got_all(alloc, files, &names) {
+    let contents = match got_all(alloc, files, &names, longest_behind(options)) {
         Ok(contents) => contents,
         Err(GetStop::Failed(i)) => return not_got(alloc, &names, i),
         Err(GetStop::NoMemory) => return Ended::OutOfMemory,
@@ -118,11 +118,12 @@ where
         return Ended::OutOfMemory;
     };
     let differs = output.differs;
+    let partly = output.partly;
     let Ok(all) = made_ready(alloc, output.puts.into_vec()) else {
         return Ended::OutOfMemory;
     };
     match put_all(files, all) {
-        Ok(()) => all_put(differs, text),
+        Ok(()) => all_put(differs, partly, text),
         Err(text) => Ended::NotPut(text),
     }
 }
@@ -151,18 +152,20 @@ where
         Err(GraphErr::NoMemory) => return Ended::OutOfMemory,
     };
     match done_text(alloc, options, &output) {
-        Ok(text) => all_put(output.differs, text),
+        Ok(text) => all_put(output.differs, output.partly, text),
         Err(_) => Ended::OutOfMemory,
     }
 }
 
 // All is put, and this is said of it.
-fn all_put(differs: bool, text: Blob) -> Ended
-    ensures status { status_of result ≡ finished differs }
+fn all_put(differs: bool, partly: bool, text: Blob) -> Ended
+    ensures status { status_of result ≡ finished differs partly }
     ensures text { text_of result ≡ text }
 {
     if differs {
         Ended::Differed(text)
+    } else if partly {
+        Ended::PartlyPut(text)
     } else {
         Ended::AllPut(text)
     }

@@ -14,6 +14,7 @@ use dwz_report::{memory_text, usage_text};
 pub(crate) enum Ended {
     AllPut(Blob),
     Differed(Blob),
+    PartlyPut(Blob),
     WasRefused(Blob),
     NotLawful,
     NotGot(Blob),
@@ -28,6 +29,7 @@ fn text_of<'a>(ended: &'a Ended) -> &'a [u8]
     match ended {
         Ended::AllPut(text)
         | Ended::Differed(text)
+        | Ended::PartlyPut(text)
         | Ended::WasRefused(text)
         | Ended::NotGot(text)
         | Ended::NotPut(text) => text.as_slice(),
@@ -42,6 +44,7 @@ fn status_of(ended: &Ended) -> Status
     match ended {
         Ended::AllPut(_) => Status::Done,
         Ended::Differed(_) => Status::Differs,
+        Ended::PartlyPut(_) => Status::Partly,
         Ended::WasRefused(_) => Status::Refused,
         Ended::NotLawful => Status::Usage,
         Ended::NotGot(_) => Status::ReadFault,
@@ -55,7 +58,7 @@ fn unsaid_status(status: Status) -> Status
     ensures { result ≡ unsaid status }
 {
     match status {
-        Status::Done | Status::Differs => Status::ConsoleFault,
+        Status::Done | Status::Differs | Status::Partly => Status::ConsoleFault,
         other => other,
     }
 }

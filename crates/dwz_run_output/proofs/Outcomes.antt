@@ -62,18 +62,19 @@ module _ (k : CommonFile) (name : List ℕ) (r : Run) where
 
 -- an output is what it is, part by part
 pub output_is : (out : Output) (puts : List Put) (common : Option (List ℕ × ℕ)) (lines : List (List ℕ × ℕ × Option ℕ)) (parts : ℕ) (summary : Summary) (partials : ℕ)
-    → out.said ≡ Slimmed summary partials → out.differs ≡ false → out.puts ≡ puts → summary.common ≡ common → summary.files ≡ lines → partials ≡ parts
+    → out.said ≡ Slimmed summary partials → out.differs ≡ false → out.partly ≡ false → out.puts ≡ puts → summary.common ≡ common → summary.files ≡ lines → partials ≡ parts
     → (out.said ≡ Slimmed (record { common = common; files = lines }) parts)
-    × (out ≡ record { puts = puts; said = Slimmed (record { common = common; files = lines }) parts; differs = false })
-output_is out puts common lines parts summary partials said same puts_are common_is files_are parts_are =
-    let by : List Put → Said → Bool → Output = λ p s d. record { puts = p; said = s; differs = d } in
+    × (out ≡ record { puts = puts; said = Slimmed (record { common = common; files = lines }) parts; differs = false; partly = false })
+output_is out puts common lines parts summary partials said same whole puts_are common_is files_are parts_are =
+    let by : List Put → Said → Bool → Bool → Output = λ p s d b. record { puts = p; said = s; differs = d; partly = b } in
     let line : Option (List ℕ × ℕ) → List (List ℕ × ℕ × Option ℕ) → Summary = λ c f. record { common = c; files = f } in
     let all : summary ≡ line common lines = ap (λ (c : Option (List ℕ × ℕ)). line c summary.files) common_is ∙ ap (line common) files_are in
     let is_said : out.said ≡ Slimmed (line common lines) parts =
     said ∙ (ap (λ (s : Summary). Slimmed s partials) all ∙ ap (λ (n : ℕ). Slimmed (line common lines) n) parts_are) in (
       is_said,
-      ap (λ (p : List Put). by p out.said out.differs) puts_are
-          ∙ (ap (λ (s : Said). by puts s out.differs) is_said ∙ ap (by puts (Slimmed (line common lines) parts)) same),
+      ap (λ (p : List Put). by p out.said out.differs out.partly) puts_are
+          ∙ (ap (λ (s : Said). by puts s out.differs out.partly) is_said
+          ∙ (ap (λ (d : Bool). by puts (Slimmed (line common lines) parts) d out.partly) same ∙ ap (by puts (Slimmed (line common lines) parts) false) whole)),
     )
 
 -- ---- with one that is made
@@ -114,11 +115,11 @@ module _ (o : Options) (contents : List (List ℕ)) (docs : List (Doc ℕ)) (pru
     is_written : IsWritten o contents docs prunes
     is_written = record { read = read; free = free }
 
-    pub all_written : (out : Output) (summary : Summary) (partials : ℕ) → out.said ≡ Slimmed summary partials → out.differs ≡ false → out.puts ≡ all_puts o r
+    pub all_written : (out : Output) (summary : Summary) (partials : ℕ) → out.said ≡ Slimmed summary partials → out.differs ≡ false → out.partly ≡ false → out.puts ≡ all_puts o r
         → summary.common ≡ common_length_after o.common r → summary.files ≡ summary_lines o r 0 o.files → partials ≡ length r.move.parts
         → Each AreBytes contents → length contents < 2 ^ 32 → IsAnswer (Slims o contents) (Ok out)
-    all_written out summary partials said same puts common files parts bytes few =
-        let is = output_is out (all_puts o r) (common_length_after o.common r) (summary_lines o r 0 o.files) (length r.move.parts) summary partials said same puts common files parts in (
+    all_written out summary partials said same whole puts common files parts bytes few =
+        let is = output_is out (all_puts o r) (common_length_after o.common r) (summary_lines o r 0 o.files) (length r.move.parts) summary partials said same whole puts common files parts in (
           (docs, prunes, is_written, is.1),
           subst CanBeSaid (sym is.0) (lengths_fit o contents docs prunes bytes is_written few),
         )

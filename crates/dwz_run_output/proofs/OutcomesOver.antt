@@ -88,11 +88,11 @@ module _ (o : Options) (common : List ℕ) (contents : List (List ℕ)) (x : Ove
       is_written : CanBeWrittenOver (sup_name o) x
       is_written = record { read = is; free = free }
 
-      pub all_written : (out : Output) (summary : Summary) (partials : ℕ) → out.said ≡ Slimmed summary partials → out.differs ≡ false → out.puts ≡ puts_over o x
+      pub all_written : (out : Output) (summary : Summary) (partials : ℕ) → out.said ≡ Slimmed summary partials → out.differs ≡ false → out.partly ≡ false → out.puts ≡ puts_over o x
           → summary.common ≡ None → summary.files ≡ summary_lines_by k o r 0 o.files → partials ≡ length r.move.parts
           → length contents < 2 ^ 32 → IsAnswer (ReusesOf o common contents) (Ok out)
-      all_written out summary partials said same puts none files parts few =
-          let all = output_is out (puts_over o x) None (summary_lines_by k o r 0 o.files) (length r.move.parts) summary partials said same puts none files parts in (
+      all_written out summary partials said same whole puts none files parts few =
+          let all = output_is out (puts_over o x) None (summary_lines_by k o r 0 o.files) (length r.move.parts) summary partials said same whole puts none files parts in (
             (x, has, is_written, all.1),
             subst CanBeSaid (sym all.0)
                 (lengths_by k o r (length x.contents) (reads_short (limits_over x) x.contents x.said.docs is.files) (made_small o x own_bytes is_written)

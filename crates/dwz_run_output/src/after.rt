@@ -68,5 +68,6 @@ pub fn outcome(
         puts: Puts::new(puts),
         said: Said::Slimmed { summary, partials },
         differs: false,
+        partly: false,
     })
 }

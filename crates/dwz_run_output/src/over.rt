@@ -104,5 +104,6 @@ pub fn outcome_over(
         puts: Puts::new(puts),
         said: Said::Slimmed { summary, partials },
         differs: false,
+        partly: false,
     })
 }

@@ -1,7 +1,7 @@
 //! Many jobs at once: their outcomes come in order, for several numbers of jobs and workers, and two workers are at work at once. What
 //! comes of a job is its number, in one byte. And what is said of each kind of outcome, as the texts of the program are documented.
 
-ghost use Rattle.std.specs.Prelude.{◌≡◌, ◌≤◌, ℕ, [], ◌∷◌};
+ghost use Rattle.std.specs.Prelude.{◌≡◌, ◌≤◌, ⊤, ℕ, [], ◌∷◌};
 ghost use Rattle.dwz_batch.specs.declared.job.Outcome.{Outcome as Came};
 ghost use Rattle.dwz_batch.specs.declared.job.Outcome.TheVariants.{Bytes as BytesOf};
 
@@ -20,6 +20,8 @@ struct Numbered {
 
 impl Job for Numbered {
     ghost many = { λ job. job.count };
+
+    ghost ready = { λ job. ⊤ };
 
     ghost gives = { λ job i outcome. (b : ℕ) × (outcome ≡ BytesOf (b ∷ [])) };
 

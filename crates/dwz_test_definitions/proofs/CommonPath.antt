@@ -15,7 +15,7 @@ use Rattle.dwz_test_definitions.proofs.Comes.{come, said}
 
 -- the words `-m common one two`
 abbrev options : Options
-options = record { quiet = false; common = Some (codes "common"); name = None; out = None; workers = 4; files = codes "one" ∷ codes "two" ∷ []; demo = None; explain = false; check = false; expand = false; reuse = None; sup = None }
+options = record { quiet = false; common = Some (codes "common"); name = None; out = None; workers = 4; files = codes "one" ∷ codes "two" ∷ []; demo = None; explain = false; check = false; expand = false; reuse = None; batch = None; sup = None }
 
 abbrev put : List ℕ → List ℕ → Put
 put name bytes = record { name = name; bytes = bytes }

@@ -12,7 +12,7 @@ use Rattle.dwz_test_definitions.proofs.Comes.{come, said}
 
 -- the words `-o out a`
 abbrev options : Options
-options = record { quiet = false; common = None; name = None; out = Some (codes "out"); workers = 4; files = codes "a" ∷ []; demo = None; explain = false; check = false; expand = false; reuse = None; sup = None }
+options = record { quiet = false; common = None; name = None; out = Some (codes "out"); workers = 4; files = codes "a" ∷ []; demo = None; explain = false; check = false; expand = false; reuse = None; batch = None; sup = None }
 
 abbrev come_of : List ℕ → Doc ℕ → Run
 come_of bytes doc = come options (bytes ∷ []) (doc ∷ []) (true ∷ [])

@@ -13,7 +13,7 @@ use Rattle.dwz_test_definitions.proofs.Comes.{come, said}
 
 -- the words `-o out a`
 abbrev options : Options
-options = record { quiet = false; common = None; name = None; out = Some (codes "out"); workers = 4; files = codes "a" ∷ []; demo = None; explain = false; check = false; expand = false; reuse = None; sup = None }
+options = record { quiet = false; common = None; name = None; out = Some (codes "out"); workers = 4; files = codes "a" ∷ []; demo = None; explain = false; check = false; expand = false; reuse = None; batch = None; sup = None }
 
 abbrev come_of : List ℕ → Doc ℕ → Run
 come_of bytes doc = come options (bytes ∷ []) (doc ∷ []) (true ∷ [])
@@ -62,7 +62,7 @@ unfolding said
 empty_said = refl
 
 abbrev in_place : Options
-in_place = record { quiet = false; common = None; name = None; out = None; workers = 4; files = codes "a" ∷ []; demo = None; explain = false; check = false; expand = false; reuse = None; sup = None }
+in_place = record { quiet = false; common = None; name = None; out = None; workers = 4; files = codes "a" ∷ []; demo = None; explain = false; check = false; expand = false; reuse = None; batch = None; sup = None }
 
 empty_put : all_puts in_place (come in_place (empty_file ∷ []) (empty_doc ∷ []) (true ∷ [])) ≡ []
 unfolding come
@@ -96,7 +96,7 @@ two_file = plain_file 62 0 (
     ∷ [])
 
 abbrev together : Options
-together = record { quiet = false; common = Some (codes "common"); name = None; out = None; workers = 4; files = codes "one" ∷ codes "two" ∷ []; demo = None; explain = false; check = false; expand = false; reuse = None; sup = None }
+together = record { quiet = false; common = Some (codes "common"); name = None; out = None; workers = 4; files = codes "one" ∷ codes "two" ∷ []; demo = None; explain = false; check = false; expand = false; reuse = None; batch = None; sup = None }
 
 abbrev both : Run
 both = come together (one_file ∷ two_file ∷ []) (short_doc ∷ unspecified_doc ∷ []) (true ∷ true ∷ [])

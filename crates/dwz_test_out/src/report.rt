@@ -33,7 +33,7 @@ fn texts_read_as_documented(rt: HostRuntime) {
     let told = b"dwz: cannot write \n";
     holds(&rt, "an empty name", text.as_slice() == told.as_slice());
     let told =
-        b"usage: dwz [-q] [--dwarf-5] [-m COMMON [-M NAME]] [-o OUT] [-j N] FILE... | --demo N | --reuse COMMON [-M NAME] [-o OUT] [-j N] FILE... | --explain FILE OFFSET FILE OFFSET | --expand FILE [--sup COMMON] -o OUT | --check OLD NEW [--sup COMMON]\n";
+        b"usage: dwz [-q] [--dwarf-5] [-m COMMON [-M NAME]] [-o OUT] [-j N] FILE... | --demo N | --reuse COMMON [-M NAME] [-o OUT] [-j N] FILE... | --batch COMMON [-M NAME] [-j N] FILE... | --explain FILE OFFSET FILE OFFSET | --expand FILE [--sup COMMON] -o OUT | --check OLD NEW [--sup COMMON]\n";
     holds(&rt, "the usage", usage_text() == told.as_slice());
     let told = b"dwz: out of memory\n";
     holds(&rt, "no memory", memory_text() == told.as_slice());

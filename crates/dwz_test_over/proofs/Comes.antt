@@ -30,6 +30,7 @@ asked = record {
   check = false;
   expand = false;
   reuse = Some (codes "common");
+  batch = None;
   sup = None;
 }
 

@@ -231,7 +231,7 @@ free q (inr (none, inr (neither, x))) =
     (subst (λ (files : List ℕ). OfFirst (InFile (FileFaultBy (stands over) (sup_name options) run)) files q) files_are x)
 
 abbrev out : Output
-out = record { puts = []; said = Slimmed (record { common = None; files = (codes "three", 424, None) ∷ [] }) 1; differs = false }
+out = record { puts = []; said = Slimmed (record { common = None; files = (codes "three", 424, None) ∷ [] }) 1; differs = false; partly = false }
 
 output_is : output_over options over ≡ out
 unfolding come then_entries all_below all_attrs row_map common_parts

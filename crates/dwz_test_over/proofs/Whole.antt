@@ -122,6 +122,7 @@ out = record {
   puts = record { name = codes "three"; bytes = three_new } ∷ [];
   said = Slimmed (record { common = None; files = (codes "three", 424, Some 512) ∷ [] }) 1;
   differs = false;
+  partly = false;
 }
 
 output_is : output_over options over ≡ out

@@ -31,7 +31,7 @@ some_given (Some x) e = refl
 some_given None e = cc
 
 module _ (o : Options) (fit : FitTogether o) where
-  count_is : task_count o ≡ weight (is_some o.common) + weight (is_some o.reuse) + weight o.explain + weight o.check + weight o.expand + weight (is_some o.demo)
+  count_is : task_count o ≡ weight (is_some o.common) + weight (is_some o.reuse) + weight (is_some o.batch) + weight o.explain + weight o.check + weight o.expand + weight (is_some o.demo)
   count_is = omega arith
 
   at_most_one : task_count o ≤ 1
@@ -127,6 +127,50 @@ module _ (o : Options) (fit : FitTogether o) where
   no_reuse_with_demo n e =
       let one = given o.demo n e in
       not_given o.reuse (omega (arith, count_is, at_most_one))
+
+  -- with `--batch` no other task is asked for
+  pub with_batch : (common : Word) → o.batch ≡ Some common
+      → (o.common ≡ None) × (o.reuse ≡ None) × (o.explain ≡ false) × (o.demo ≡ None) × (o.check ≡ false) × (o.expand ≡ false)
+  with_batch common e =
+      let one = given o.batch common e in (
+        not_given o.common (omega (arith, count_is, at_most_one)),
+        not_given o.reuse (omega (arith, count_is, at_most_one)),
+        adds_none o.explain (omega (arith, count_is, at_most_one)),
+        not_given o.demo (omega (arith, count_is, at_most_one)),
+        adds_none o.check (omega (arith, count_is, at_most_one)),
+        adds_none o.expand (omega (arith, count_is, at_most_one)),
+      )
+
+  -- nor is it with any other
+  pub no_batch_with_common : (common : Word) → o.common ≡ Some common → o.batch ≡ None
+  no_batch_with_common common e =
+      let one = given o.common common e in
+      not_given o.batch (omega (arith, count_is, at_most_one))
+
+  pub no_batch_with_reuse : (common : Word) → o.reuse ≡ Some common → o.batch ≡ None
+  no_batch_with_reuse common e =
+      let one = given o.reuse common e in
+      not_given o.batch (omega (arith, count_is, at_most_one))
+
+  pub no_batch_with_demo : (n : ℕ) → o.demo ≡ Some n → o.batch ≡ None
+  no_batch_with_demo n e =
+      let one = given o.demo n e in
+      not_given o.batch (omega (arith, count_is, at_most_one))
+
+  pub no_batch_with_explain : o.explain ≡ true → o.batch ≡ None
+  no_batch_with_explain e =
+      let one : weight o.explain ≡ 1 = ap weight e in
+      not_given o.batch (omega (arith, count_is, at_most_one))
+
+  pub no_batch_with_check : o.check ≡ true → o.batch ≡ None
+  no_batch_with_check e =
+      let one : weight o.check ≡ 1 = ap weight e in
+      not_given o.batch (omega (arith, count_is, at_most_one))
+
+  pub no_batch_with_expand : o.expand ≡ true → o.batch ≡ None
+  no_batch_with_expand e =
+      let one : weight o.expand ≡ 1 = ap weight e in
+      not_given o.batch (omega (arith, count_is, at_most_one))
 
   -- with `--expand` there are one FILE and OUT; no common file is made, and nothing is explained, demonstrated or compared
   pub with_expand : o.expand ≡ true

@@ -4,6 +4,7 @@ pub mod MatchLemmas
 pub mod Offsets
 pub mod PlainLemmas
 pub mod PlainRows
+pub mod PlainStands
 pub mod PlainValues
 pub mod PlainWalk
 pub mod PlainArguments

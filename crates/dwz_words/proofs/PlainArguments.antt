@@ -15,9 +15,10 @@ use Rattle.clap.proofs.ValueTestLemmas.{Accepts-accepts}
 use Rattle.clap.specs.Walk.{Waiting, has_row}
 use Rattle.clap.specs.declared.builder.value_parser.ValueParser.TheVariants as vp
 use Rattle.clap.proofs.WalkLemmas.{both}
-use Rattle.dwz_words.specs.Plain.{Argument, begins_with_dash, check, common, demo, dwarf, expand, explain, file, is_plain_number, is_plain, name, out, quiet, reuse, sup, workers}
-use Rattle.dwz_words.proofs.PlainWalk.{IsNoFlag, Pending, Reaches, Stands, after_file, after_flag, after_option, between, check_leads, common_value, common_word, demo_value, demo_word, dwarf_leads, expand_leads, explain_leads, full_rows}
-use Rattle.dwz_words.proofs.PlainWalk.{is_new, leads_on, name_value, name_word, no_dash_no_flag, out_value, out_word, quiet_leads, reuse_value, reuse_word, sup_value, sup_word, workers_value, workers_word}
+use Rattle.dwz_words.specs.Plain.{Argument, batch, begins_with_dash, check, common, demo, dwarf, expand, explain, file, is_plain_number, is_plain, name, out, quiet, reuse, sup, workers}
+use Rattle.dwz_words.proofs.PlainStands.{Reaches, Stands, after_file, after_flag, after_option, is_new}
+use Rattle.dwz_words.proofs.PlainWalk.{IsNoFlag, Pending, batch_value, batch_word, between, check_leads, common_value, common_word, demo_value, demo_word, dwarf_leads, expand_leads, explain_leads, full_rows, leads_on, name_value, name_word, no_dash_no_flag, out_value, out_word}
+use Rattle.dwz_words.proofs.PlainWalk.{quiet_leads, reuse_value, reuse_word, sup_value, sup_word, workers_value, workers_word}
 
 -- ---- any argument
 
@@ -105,6 +106,11 @@ after_argument n (reuse text) rows pending waiting s few plain new =
     let fresh : has_row (codes "reuse") (full_rows rows pending) ≡ false = not-true _ new in
     after_option n rows pending (reuse text) (codes "reuse") text waiting
     (leads_on _ _ _ _ _ (reuse_word rows pending s.settles waiting s.ready) (reuse_value (full_rows rows pending) text (plain_no_flag text plain)))
+    (rw fresh refl) refl refl
+after_argument n (batch text) rows pending waiting s few plain new =
+    let fresh : has_row (codes "batch") (full_rows rows pending) ≡ false = not-true _ new in
+    after_option n rows pending (batch text) (codes "batch") text waiting
+    (leads_on _ _ _ _ _ (batch_word rows pending s.settles waiting s.ready) (batch_value (full_rows rows pending) text (plain_no_flag text plain)))
     (rw fresh refl) refl refl
 after_argument n (sup text) rows pending waiting s few plain new =
     let fresh : has_row (codes "sup") (full_rows rows pending) ≡ false = not-true _ new in

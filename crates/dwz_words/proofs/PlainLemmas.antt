@@ -13,7 +13,8 @@ use Rattle.clap.specs.Faults.{check_fault, default_fault, defaults_fault, entere
 use Rattle.clap.proofs.OnLiterals.{clap_on_literals}
 use Rattle.clap.proofs.WalkLemmas.{both}
 use Rattle.dwz_words.specs.Command.{dwz_command}
-use Rattle.dwz_words.proofs.PlainWalk.{Pending, Stands, all_after, between, full_rows, held, is_new, row_after, rules, top}
+use Rattle.dwz_words.proofs.PlainStands.{Stands, is_new}
+use Rattle.dwz_words.proofs.PlainWalk.{Pending, all_after, between, full_rows, held, row_after, rules, top}
 use Rattle.dwz_words.proofs.PlainArguments.{after_argument}
 use Rattle.dwz_words.proofs.PlainRows.{kept_has_row, name_differs, option_or_file}
 use Rattle.dwz_words.specs.Plain.{ArePlain, Argument, are_once, same_option, is_plain, option_name, words_of}

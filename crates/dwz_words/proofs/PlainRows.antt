@@ -13,7 +13,7 @@ use Rattle.clap.specs.Walk.{has_row, more_values, reading_by, with_values, witho
 use Rattle.clap.specs.declared.builder.value_parser.Reading.{Reading}
 use Rattle.clap.specs.declared.parser.matches.ValueSource.TheVariants.{CommandLine}
 use Rattle.clap.proofs.WalkLemmas.{both}
-use Rattle.dwz_words.specs.Plain.{Argument, are_once, check, common, demo, dwarf, expand, explain, file, is_file, is_option, name, option_name, out, quiet, reuse, same_option, sup, value_of, words_of, workers}
+use Rattle.dwz_words.specs.Plain.{Argument, are_once, batch, check, common, demo, dwarf, expand, explain, file, is_file, is_option, name, option_name, out, quiet, reuse, same_option, sup, value_of, words_of, workers}
 use Rattle.dwz_words.proofs.PlainWalk.{all_after, row_after, rule_for}
 use Rattle.dwz_words.proofs.RowLemmas.{has_row-is_some, new_row, other_way, row_at, row_at-set, row_at-with_values, row_at-without, text_of_same}
 
@@ -42,6 +42,7 @@ option_or_file explain = inl (record { named = refl; sets = λ rows. refl; no_fi
 option_or_file check = inl (record { named = refl; sets = λ rows. refl; no_file = refl; some_words = omega arith })
 option_or_file expand = inl (record { named = refl; sets = λ rows. refl; no_file = refl; some_words = omega arith })
 option_or_file (reuse text) = inl (record { named = refl; sets = λ rows. refl; no_file = refl; some_words = omega arith })
+option_or_file (batch text) = inl (record { named = refl; sets = λ rows. refl; no_file = refl; some_words = omega arith })
 option_or_file (sup text) = inl (record { named = refl; sets = λ rows. refl; no_file = refl; some_words = omega arith })
 option_or_file (file text) = inr (text, refl)
 

@@ -18,7 +18,7 @@ use Rattle.clap.proofs.ValueTestLemmas.{Accepts-accepts}
 use Rattle.clap.proofs.WalkLemmas.{both}
 use Rattle.dwz_words.specs.Command.{dwz_command}
 use Rattle.dwz_words.specs.Lawful.{is_set, number_of_text, option_number, options_of}
-use Rattle.dwz_words.specs.Plain.{ArePlain, Argument, are_once, check, common, demo, dwarf, expand, explain, file, is_file, is_option, is_plain, is_plain_number, name, options_said, out, quiet, reuse, sup, value_at, value_of, workers}
+use Rattle.dwz_words.specs.Plain.{ArePlain, Argument, are_once, batch, check, common, demo, dwarf, expand, explain, file, is_file, is_option, is_plain, is_plain_number, name, options_said, out, quiet, reuse, sup, value_at, value_of, workers}
 use Rattle.dwz_words.proofs.PlainLemmas.{plain_matches}
 use Rattle.dwz_words.proofs.PlainRows.{files_at-all_after, row_at-all_after, row_of, values_in}
 use Rattle.dwz_words.proofs.PlainWalk.{all_after, rule_for, rules}
@@ -105,6 +105,7 @@ workers_value (explain ∷ ps) plain = workers_value ps (both (is_plain explain)
 workers_value (check ∷ ps) plain = workers_value ps (both (is_plain check) _ plain).1
 workers_value (expand ∷ ps) plain = workers_value ps (both (is_plain expand) _ plain).1
 workers_value (reuse text ∷ ps) plain = workers_value ps (both (is_plain (reuse text)) _ plain).1
+workers_value (batch text ∷ ps) plain = workers_value ps (both (is_plain (batch text)) _ plain).1
 workers_value (sup text ∷ ps) plain = workers_value ps (both (is_plain (sup text)) _ plain).1
 workers_value (file text ∷ ps) plain = workers_value ps (both (is_plain (file text)) _ plain).1
 
@@ -123,6 +124,7 @@ demo_value (explain ∷ ps) plain = demo_value ps (both (is_plain explain) _ pla
 demo_value (check ∷ ps) plain = demo_value ps (both (is_plain check) _ plain).1
 demo_value (expand ∷ ps) plain = demo_value ps (both (is_plain expand) _ plain).1
 demo_value (reuse text ∷ ps) plain = demo_value ps (both (is_plain (reuse text)) _ plain).1
+demo_value (batch text ∷ ps) plain = demo_value ps (both (is_plain (batch text)) _ plain).1
 demo_value (sup text ∷ ps) plain = demo_value ps (both (is_plain (sup text)) _ plain).1
 demo_value (file text ∷ ps) plain = demo_value ps (both (is_plain (file text)) _ plain).1
 
@@ -214,5 +216,6 @@ plain_said words few ps h =
       check_is ps h.plain h.once,
       expand_is ps h.plain h.once,
       first_is ps h.plain h.once (codes "reuse") refl refl,
+      first_is ps h.plain h.once (codes "batch") refl refl,
       first_is ps h.plain h.once (codes "sup") refl refl,
     ) refl

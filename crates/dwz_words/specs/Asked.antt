@@ -24,9 +24,9 @@ abbrev pub first_given : Option Word → Option Word → Option Word
 first_given None other = other
 first_given (Some word) other = Some word
 
--- the common file that is read: that of `--sup`, or that of `--reuse`
+-- the common file that is read: that of `--sup`, or that of `--reuse`, or that of `--batch`
 abbrev pub common_read : Options → Option Word
-common_read o = first_given o.sup o.reuse
+common_read o = first_given o.sup (first_given o.reuse o.batch)
 
 -- these names, and before them that of a common file, if there is one
 abbrev pub behind : Option Word → List Word → List Word

@@ -79,10 +79,14 @@ expand_rule = long_flag_rule (codes "expand")
 abbrev pub reuse_rule : Rule
 reuse_rule = long_rule (codes "reuse")
 
+-- `--batch COMMON`
+abbrev pub batch_rule : Rule
+batch_rule = long_rule (codes "batch")
+
 -- all rules, FILE the only one without a letter or a name
 abbrev pub command_rules : List Rule
 command_rules = quiet_rule ∷ dwarf_rule ∷ common_rule ∷ name_rule ∷ out_rule ∷ workers_rule ∷ demo_rule
-    ∷ file_rule ∷ explain_rule ∷ check_rule ∷ sup_rule ∷ expand_rule ∷ reuse_rule ∷ []
+    ∷ file_rule ∷ explain_rule ∷ check_rule ∷ sup_rule ∷ expand_rule ∷ reuse_rule ∷ batch_rule ∷ []
 
 -- the command: no name of the program before the words, and no words for help and version
 abbrev pub dwz_command : App

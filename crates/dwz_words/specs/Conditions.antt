@@ -14,9 +14,10 @@ Word = List ℕ
 
 -- ---- which stand together
 
--- the tasks that may be asked for: to make a common file, to write over one that is finished, to explain, to compare, to expand, to demonstrate
+-- the tasks that may be asked for: to make a common file, to write over one that is finished, to do so with each FILE by itself,
+-- to explain, to compare, to expand, to demonstrate
 abbrev pub tasks : Options → List Bool
-tasks o = is_some o.common ∷ is_some o.reuse ∷ o.explain ∷ o.check ∷ o.expand ∷ is_some o.demo ∷ []
+tasks o = is_some o.common ∷ is_some o.reuse ∷ is_some o.batch ∷ o.explain ∷ o.check ∷ o.expand ∷ is_some o.demo ∷ []
 
 -- how many of them are asked for; where none is, each FILE is worked on by itself
 abbrev pub task_count : Options → ℕ
@@ -34,9 +35,9 @@ has_file_count o = if is_some o.demo then length o.files == 0
     else (if o.expand then length o.files == 1
     else (nat_lt 0 (length o.files) && nat_le (length o.files) 256))))
 
--- NAME only with COMMON, of `-m` or of `--reuse`
+-- NAME only with COMMON, of `-m`, of `--reuse` or of `--batch`
 abbrev pub has_name_only_with_common : Options → Bool
-has_name_only_with_common o = is_none o.name || (is_some o.common || is_some o.reuse)
+has_name_only_with_common o = is_none o.name || (is_some o.common || (is_some o.reuse || is_some o.batch))
 
 -- no task but `--reuse` and `--expand` goes with OUT
 abbrev pub may_have_out : Options → Bool
@@ -73,12 +74,15 @@ has_distinct_files o = o.explain || are_distinct o.files
 abbrev pub is_apart : List Word → Option Word → Bool
 is_apart files common = option_map_or (λ common. not (is_among files common)) common true
 
--- so it is with that of `-m`, with that of `--reuse`, and with that of `--sup`
+-- so it is with that of `-m`, with that of `--reuse`, with that of `--batch`, and with that of `--sup`
 abbrev pub has_common_apart : Options → Bool
 has_common_apart o = is_apart o.files o.common
 
 abbrev pub has_reuse_apart : Options → Bool
 has_reuse_apart o = is_apart o.files o.reuse
+
+abbrev pub has_batch_apart : Options → Bool
+has_batch_apart o = is_apart o.files o.batch
 
 abbrev pub has_sup_apart : Options → Bool
 has_sup_apart o = is_apart o.files o.sup
@@ -105,7 +109,8 @@ has_file_names o = list_all is_file_name o.files
     && (option_map_or is_file_name o.common true
     && (option_map_or is_file_name o.name true
     && (option_map_or is_file_name o.out true
-    && (option_map_or is_file_name o.reuse true && option_map_or is_file_name o.sup true))))
+    && (option_map_or is_file_name o.reuse true
+    && (option_map_or is_file_name o.batch true && option_map_or is_file_name o.sup true)))))
 
 -- ---- places in files
 
@@ -139,6 +144,7 @@ pub record FitTogether (o : Options) : Type 0 where
   pub common_apart : IsTrue (has_common_apart o)
   pub reuse_apart : IsTrue (has_reuse_apart o)
   pub reuse_apart_from_out : IsTrue (has_reuse_apart_from_out o)
+  pub batch_apart : IsTrue (has_batch_apart o)
   pub sup_apart : IsTrue (has_sup_apart o)
   pub sup_apart_from_out : IsTrue (has_sup_apart_from_out o)
   pub file_names : IsTrue (has_file_names o)

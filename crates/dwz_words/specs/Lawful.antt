@@ -44,6 +44,7 @@ options_of rows = record {
   check = is_set (codes "check") rows;
   expand = is_set (codes "expand") rows;
   reuse = first_of (codes "reuse") rows;
+  batch = first_of (codes "batch") rows;
   sup = first_of (codes "sup") rows;
 }
 

@@ -23,6 +23,7 @@ pub data Argument : Type 0 where
   check : Argument
   expand : Argument
   reuse : Word → Argument
+  batch : Word → Argument
   sup : Word → Argument
   file : Word → Argument
 
@@ -39,6 +40,7 @@ words_of explain = codes "--explain" ∷ []
 words_of check = codes "--check" ∷ []
 words_of expand = codes "--expand" ∷ []
 words_of (reuse word) = codes "--reuse" ∷ word ∷ []
+words_of (batch word) = codes "--batch" ∷ word ∷ []
 words_of (sup word) = codes "--sup" ∷ word ∷ []
 words_of (file word) = word ∷ []
 
@@ -66,6 +68,7 @@ is_plain explain = true
 is_plain check = true
 is_plain expand = true
 is_plain (reuse word) = not (begins_with_dash word)
+is_plain (batch word) = not (begins_with_dash word)
 is_plain (sup word) = not (begins_with_dash word)
 is_plain (file word) = not (begins_with_dash word)
 
@@ -82,6 +85,7 @@ option_name explain = Some (codes "explain")
 option_name check = Some (codes "check")
 option_name expand = Some (codes "expand")
 option_name (reuse word) = Some (codes "reuse")
+option_name (batch word) = Some (codes "batch")
 option_name (sup word) = Some (codes "sup")
 option_name (file word) = None
 
@@ -119,6 +123,7 @@ value_of explain = codes "true"
 value_of check = codes "true"
 value_of expand = codes "true"
 value_of (reuse word) = word
+value_of (batch word) = word
 value_of (sup word) = word
 value_of (file word) = word
 
@@ -144,5 +149,6 @@ options_said arguments = record {
   check = is_some (value_at (codes "check") arguments);
   expand = is_some (value_at (codes "expand") arguments);
   reuse = value_at (codes "reuse") arguments;
+  batch = value_at (codes "batch") arguments;
   sup = value_at (codes "sup") arguments;
 }

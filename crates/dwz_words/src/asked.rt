@@ -1,7 +1,7 @@
 //! What options ask for: which files are got, and of which two places something is said.
 
 ghost use Rattle.std.specs.Prelude.{◌≡◌, IfOk, map};
-ghost use Rattle.dwz_words.specs.Asked.{common_read, names_got, names_numbered, offset_value, places_asked};
+ghost use Rattle.dwz_words.specs.Asked.{common_read, first_given, names_got, names_numbered, offset_value, places_asked};
 
 use crate::conditions::is_offset;
 use crate::options::Options;
@@ -38,17 +38,25 @@ pub fn names_numbered<'a>(alloc: Global, options: &'a Options) -> Result<Vec<&'a
     }
 }
 
-/// The common file that is read, with `--sup` or `--reuse`.
-pub fn common_read(options: &Options) -> &Option<Blob>
-    ensures { result.now ≡ common_read options.now }
+/// The first of two that is given.
+fn first_given<'a>(one: &'a Option<Blob>, other: &'a Option<Blob>) -> &'a Option<Blob>
+    ensures { result.now ≡ first_given one.now other.now }
 {
-    match &options.sup {
-        Some(_) => &options.sup,
-        None => &options.reuse,
+    match one {
+        Some(_) => one,
+        None => other,
     }
 }
 
-/// The names of the files that are got, in order: with `--sup` or `--reuse` first the common file, and then those that have numbers.
+/// The common file that is read, with `--sup`, `--reuse` or `--batch`.
+pub fn common_read(options: &Options) -> &Option<Blob>
+    ensures { result.now ≡ common_read options.now }
+{
+    first_given(&options.sup, first_given(&options.reuse, &options.batch))
+}
+
+/// The names of the files that are got, in order: with `--sup`, `--reuse` or `--batch` first the common file, and then those that have
+/// numbers.
 pub fn names_got<'a>(alloc: Global, options: &'a Options) -> Result<Vec<&'a [u8]>, NoMemory>
     ensures { IfOk result (λ v. map (λ n. n.now) v.items ≡ names_got options.now) }
 {

@@ -67,7 +67,8 @@ fn file_words<'a>(alloc: Global) -> Arg<'a>
 }
 
 /// `[-q] [--dwarf-5] [-m COMMON [-M NAME]] [-o OUT] [-j N] FILE...`, `--demo N`, `--reuse COMMON [-M NAME] [-o OUT] [-j N] FILE...`,
-/// `--explain FILE OFFSET FILE OFFSET`, `--expand FILE [--sup COMMON] -o OUT`, and `--check OLD NEW [--sup COMMON]`.
+/// `--batch COMMON [-M NAME] [-j N] FILE...`, `--explain FILE OFFSET FILE OFFSET`, `--expand FILE [--sup COMMON] -o OUT`, and
+/// `--check OLD NEW [--sup COMMON]`.
 pub(crate) fn make_command<'a>(alloc: Global) -> Result<Command<'a>, NoMemory>
     ensures { IfOk result (λ command. app_of command ≡ dwz_command) }
 {
@@ -89,5 +90,6 @@ pub(crate) fn make_command<'a>(alloc: Global) -> Result<Command<'a>, NoMemory>
         .arg(long_flag(alloc, "check"))?;
     let beside = asked.arg(long_option(alloc, "sup"))?;
     let expanding = beside.arg(long_flag(alloc, "expand"))?;
-    expanding.arg(long_option(alloc, "reuse"))
+    let reusing = expanding.arg(long_option(alloc, "reuse"))?;
+    reusing.arg(long_option(alloc, "batch"))
 }

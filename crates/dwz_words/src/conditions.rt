@@ -6,7 +6,7 @@
 ghost use Rattle.std.specs.Prelude.{◌≡◌, ◌↔◌, IsTrue, true};
 ghost use Rattle.std.specs.List.{list_all};
 ghost use Rattle.std.specs.Option.{option_map_or};
-ghost use Rattle.dwz_words.specs.Conditions.{FitTogether, are_distinct, are_other, are_places, has_common_apart};
+ghost use Rattle.dwz_words.specs.Conditions.{FitTogether, are_distinct, are_other, are_places, has_batch_apart, has_common_apart};
 ghost use Rattle.dwz_words.specs.Conditions.{has_distinct_files, has_file_count, has_file_names};
 ghost use Rattle.dwz_words.specs.Conditions.{has_name_only_with_common, has_offsets, has_one_task};
 ghost use Rattle.dwz_words.specs.Conditions.{has_out_only_for_one, has_out_with_expand, has_sup_apart};
@@ -30,6 +30,7 @@ fn task_count(options: &Options) -> usize
     let tasks = [
         options.common.is_some(),
         options.reuse.is_some(),
+        options.batch.is_some(),
         options.explain,
         options.check,
         options.expand,
@@ -64,7 +65,10 @@ fn has_file_count(options: &Options) -> bool
 fn has_name_only_with_common(options: &Options) -> bool
     ensures { result ≡ has_name_only_with_common options.now }
 {
-    options.name.is_none() || options.common.is_some() || options.reuse.is_some()
+    options.name.is_none()
+        || options.common.is_some()
+        || options.reuse.is_some()
+        || options.batch.is_some()
 }
 
 fn may_have_out(options: &Options) -> bool
@@ -140,6 +144,12 @@ fn has_reuse_apart(options: &Options) -> bool
     is_apart(options.files.as_slice(), &options.reuse)
 }
 
+fn has_batch_apart(options: &Options) -> bool
+    ensures { result ≡ has_batch_apart options.now }
+{
+    is_apart(options.files.as_slice(), &options.batch)
+}
+
 fn are_other(one: &Option<Blob>, two: &Option<Blob>) -> bool
     ensures { result ≡ are_other one.now two.now }
 {
@@ -190,6 +200,7 @@ fn has_file_names(options: &Options) -> bool
         && is_file_name_or_none(&options.name)
         && is_file_name_or_none(&options.out)
         && is_file_name_or_none(&options.reuse)
+        && is_file_name_or_none(&options.batch)
         && is_file_name_or_none(&options.sup)
 }
 
@@ -246,6 +257,7 @@ pub(crate) fn fit_together(options: &Options) -> bool
         && has_common_apart(options)
         && has_reuse_apart(options)
         && has_reuse_apart_from_out(options)
+        && has_batch_apart(options)
         && has_sup_apart(options)
         && has_sup_apart_from_out(options)
         && has_file_names(options)

@@ -31,6 +31,8 @@ pub struct Options {
     pub expand: bool,
     /// `--reuse COMMON`: the name of the finished common file over which FILEs are written.
     pub reuse: Option<Blob>,
+    /// `--batch COMMON`: the name of the finished common file over which FILEs are written, each as if it were alone with it.
+    pub batch: Option<Blob>,
     /// `--sup COMMON`: the name of the finished common file beside which the files of `--check` and `--expand` are read.
     pub sup: Option<Blob>,
 }

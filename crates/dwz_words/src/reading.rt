@@ -78,6 +78,7 @@ fn options_of(alloc: Global, matches: &ArgMatches<'_>) -> Result<Options, NoMemo
         check: matches.get_one::<bool>("check").unwrap_or(false),
         expand: matches.get_one::<bool>("expand").unwrap_or(false),
         reuse: blob_if_some(alloc, matches.get_str("reuse"))?,
+        batch: blob_if_some(alloc, matches.get_str("batch"))?,
         sup: blob_if_some(alloc, matches.get_str("sup"))?,
     })
 }

@@ -1,6 +1,6 @@
 use Rattle.dwz_def_run_batch.proofs.OneBatch.{one_batch, some_batch}
 use Rattle.dwz_def_run_batch.proofs.SameWorkers.{workers_law}
-use Rattle.dwz_def_run_batch.proofs.Stopping.{alone_law, keeps_law, not_put_law, stops_law}
+use Rattle.dwz_def_run_batch.proofs.Stopping.{alone_law, held_law, keeps_law, not_put_law, stops_law}
 use Rattle.dwz_def_run_batch.proofs.batches.batches_laws.Goals as goal
 
 pub returns-clause-one : goal.returns-clause-one
@@ -14,6 +14,9 @@ returns-clause-some c = some_batch
 
 pub returns-clause-alone : goal.returns-clause-alone
 returns-clause-alone c = alone_law
+
+pub returns-clause-held : goal.returns-clause-held
+returns-clause-held c = held_law
 
 pub returns-clause-not_put : goal.returns-clause-not_put
 returns-clause-not_put c = not_put_law

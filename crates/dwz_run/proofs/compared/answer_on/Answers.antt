@@ -17,5 +17,5 @@ pub returns : goal.returns
 returns g c =
     let part : TextPart = record { text = c.in_ok-text.text; is_summary = false } in
     compared (option_map (λ (b : Bor (List ℕ)). b.now) c.args.common) (map (λ (v : Vec ℕ Global). v.items) c.args.files.now) (said_finished c.in_ok-graph.graph)
-    c.in_ok-same.same c.in_ok-text.text c.in_ok-graph.ensures.answers c.in_ok-same.ensures c.in_ok-text.ensures _ _ (c.new-2.ensures ∙ c.new.ensures.items) refl c.tells_apart.ensures
+    c.in_ok-same.same c.in_ok-text.text c.in_ok-graph.ensures.answers c.in_ok-same.ensures c.in_ok-text.ensures _ _ (c.new-2.ensures ∙ c.new.ensures.items) refl c.tells_apart.ensures refl
     (one_part c.new-3.result c.push.new.self.items c.new-parts.result.items part c.new-3.ensures c.in_ok-push.ensures.items c.new-parts.ensures.items)

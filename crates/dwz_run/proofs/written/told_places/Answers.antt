@@ -17,5 +17,5 @@ returns g c =
     let graph = c.args.graph.now.given in
     let part : TextPart = record { text = c.in_ok-text.text; is_summary = false } in
     told c.args.options.now graph (docs_of graph) c.requires.reads c.places_asked.result c.places_asked.ensures c.in_ok-text.text c.in_ok-text.ensures _ _
-    (c.new-2.ensures ∙ c.new.ensures.items) refl refl
+    (c.new-2.ensures ∙ c.new.ensures.items) refl refl refl
     (one_part c.new-3.result c.push.new.self.items c.new-parts.result.items part c.new-3.ensures c.in_ok-push.ensures.items c.new-parts.ensures.items)

@@ -9,7 +9,7 @@ pub returns-in-Err-Refused-clause-ends : goal.returns-in-Err-Refused-clause-ends
 returns-in-Err-Refused-clause-ends g c words lawful =
     let given = rw c.in-Err-Refused.field-0-is at c.in-Err-Refused.ensures in
     let why = c.requires.answers _ _ _ _ given in
-    let came = came_of _ _ words _ _ c.args.options.now c.in-Ok.names.items c.deref.result.now c.in-Ok-got_all.contents.items c.deref-3.result.now c.requires.files lawful c.deref.ensures.value c.in-Ok.ensures c.deref-3.ensures.value
+    let came = came_of _ _ words _ _ c.args.options.now c.in-Ok.names.items c.deref.result.now c.in-Ok-got_all.contents.items c.deref-3.result.now _ c.requires.files lawful c.deref.ensures.value c.in-Ok.ensures c.deref-3.ensures.value c.longest_behind.ensures
     c.in-Ok-got_all.ensures.got (of_bytes c.in-Ok-got_all.contents.items _ c.deref-2.ensures.value c.look_at_all.ensures) why.0 in
     refused_by _ _ words _ _ c.was_refused.result c.in-Err-Refused.refusal c.args.options.now None came c.requires.files refl c.got_all.ensures.leaves c.was_refused.ensures
 
@@ -18,7 +18,7 @@ returns-in-Err-Refused-clause-reads g c = kept_by (status_of c.was_refused.resul
 
 pub returns-in-Ok-put_all-clause-ends : goal.returns-in-Ok-put_all-clause-ends
 returns-in-Ok-put_all-clause-ends g c words lawful =
-    let came = came_of _ _ words _ _ c.args.options.now c.in-Ok.names.items c.deref.result.now c.in-Ok-got_all.contents.items c.deref-3.result.now c.requires.files lawful c.deref.ensures.value c.in-Ok.ensures c.deref-3.ensures.value c.in-Ok-got_all.ensures.got
+    let came = came_of _ _ words _ _ c.args.options.now c.in-Ok.names.items c.deref.result.now c.in-Ok-got_all.contents.items c.deref-3.result.now _ c.requires.files lawful c.deref.ensures.value c.in-Ok.ensures c.deref-3.ensures.value c.longest_behind.ensures c.in-Ok-got_all.ensures.got
     (of_bytes c.in-Ok-got_all.contents.items _ c.deref-2.ensures.value c.look_at_all.ensures) (c.requires.answers _ _ _ _ c.in-Ok-answer.ensures).0 in
     let put = with_puts _ _ _ _ c.requires.files (all_put _ _ _ c.in-Ok-made_ready.all.items _ c.got_all.ensures.leaves c.in-Ok-put_all.ensures.done
     (c.in-Ok-made_ready.ensures ∙ ap (λ (puts : List Put). map ready_of puts) c.into_vec.ensures)) in
@@ -32,7 +32,7 @@ returns-clause-ends g c words lawful =
     let s = stopped _ _ _ c.in-Ok-made_ready.all.items _ c.in-Err.text c.got_all.ensures.leaves c.in-Err.ensures.stopped
     (c.in-Ok-made_ready.ensures ∙ ap (λ (puts : List Put). map ready_of puts) c.into_vec.ensures) in (
       c.in-Ok-answer.output,
-      came_of _ _ words _ _ c.args.options.now c.in-Ok.names.items c.deref.result.now c.in-Ok-got_all.contents.items c.deref-3.result.now c.requires.files lawful c.deref.ensures.value c.in-Ok.ensures c.deref-3.ensures.value c.in-Ok-got_all.ensures.got
+      came_of _ _ words _ _ c.args.options.now c.in-Ok.names.items c.deref.result.now c.in-Ok-got_all.contents.items c.deref-3.result.now _ c.requires.files lawful c.deref.ensures.value c.in-Ok.ensures c.deref-3.ensures.value c.longest_behind.ensures c.in-Ok-got_all.ensures.got
           (of_bytes c.in-Ok-got_all.contents.items _ c.deref-2.ensures.value c.look_at_all.ensures) (c.requires.answers _ _ _ _ c.in-Ok-answer.ensures).0,
       s.0,
       stopped_by _ _ _ _ _ c.requires.files s.1,

@@ -90,5 +90,5 @@ returns c docs prunes read are new =
     let Puts : List (List ℕ) → Type 0 = λ ns. c.add_files.new.puts.items ≡ c.add_common.new.puts.items ++ files_puts o r 0 ns in
     let of_common = c.in_ok-add_common.ensures o r common ∙ ap (λ (ps : List Put). ps ++ common_puts o.common r) c.new-puts.ensures.items in
     let puts = subst Puts names (c.in_ok-add_files.ensures Made o r refl before all) ∙ ap (λ (ps : List Put). ps ++ files_puts o r 0 o.files) of_common in
-    all_written o contents docs prunes read first none files _ _ _ refl refl (c.new-2.ensures ∙ puts) (c.in_ok-line.ensures o r common)
+    all_written o contents docs prunes read first none files _ _ _ refl refl refl (c.new-2.ensures ∙ puts) (c.in_ok-line.ensures o r common)
     (c.new.ensures ∙ subst Lines names lines) are.parts bytes (omega (arith, count, c.requires.few))

@@ -71,5 +71,5 @@ returns c x has is are =
     let Lines : List (List ℕ) → Type 0 = λ ns. c.in_ok-lines.lines.items ≡ summary_lines_by k o r 0 ns in
     let Puts : List (List ℕ) → Type 0 = λ ns. c.add_files.new.puts.items ≡ c.new-puts.result.items ++ files_puts_by k o r 0 ns in
     let puts = subst Puts names (c.in_ok-add_files.ensures k o r refl before all) ∙ ap (λ (ps : List Put). ps ++ files_puts_by k o r 0 o.files) c.new-puts.ensures.items in
-    all_written o common contents x has is bytes none files _ _ _ refl refl (c.new-2.ensures ∙ puts) refl
+    all_written o common contents x has is bytes none files _ _ _ refl refl refl (c.new-2.ensures ∙ puts) refl
     (c.new.ensures ∙ subst Lines names lines) are.parts (omega (arith, count, c.requires.few))

@@ -18,4 +18,5 @@ returns c =
     let check = added _ _ _ _ _ c.in_ok-asked.ensures c.long_flag-3.ensures.local explain c.long_flag-3.ensures.rule in
     let sup = added _ _ _ _ _ c.in_ok-beside.ensures c.long_option.ensures.local check c.long_option.ensures.rule in
     let expand = added _ _ _ _ _ c.in_ok-expanding.ensures c.long_flag-4.ensures.local sup c.long_flag-4.ensures.rule in
-    IfOk-weaker c.arg-13.result _ _ (λ r h. added _ r _ _ _ h c.long_option-2.ensures.local expand c.long_option-2.ensures.rule) c.arg-13.ensures
+    let reuse = added _ _ _ _ _ c.in_ok-reusing.ensures c.long_option-2.ensures.local expand c.long_option-2.ensures.rule in
+    IfOk-weaker c.arg-14.result _ _ (λ r h. added _ r _ _ _ h c.long_option-3.ensures.local reuse c.long_option-3.ensures.rule) c.arg-14.ensures

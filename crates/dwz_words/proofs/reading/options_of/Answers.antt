@@ -47,6 +47,8 @@ returns c =
     (λ t e. c.get_one-6.ensures.value t (one_text-rows found (codes "expand") ∙ e)) in
     let reuse : c.in_ok-blob_if_some-4.field-0 ≡ first_of (codes "reuse") (rows_of found) =
     c.in_ok-blob_if_some-4.ensures ∙ (c.get_str-4.ensures ∙ first_value-rows found (codes "reuse")) in
-    let sup : c.in_ok-blob_if_some-5.field-0 ≡ first_of (codes "sup") (rows_of found) =
-    c.in_ok-blob_if_some-5.ensures ∙ (c.get_str-5.ensures ∙ first_value-rows found (codes "sup")) in
-    rw (quiet, common, name, out, workers, files, demo, explain, check, expand, reuse, sup) refl
+    let batch : c.in_ok-blob_if_some-5.field-0 ≡ first_of (codes "batch") (rows_of found) =
+    c.in_ok-blob_if_some-5.ensures ∙ (c.get_str-5.ensures ∙ first_value-rows found (codes "batch")) in
+    let sup : c.in_ok-blob_if_some-6.field-0 ≡ first_of (codes "sup") (rows_of found) =
+    c.in_ok-blob_if_some-6.ensures ∙ (c.get_str-6.ensures ∙ first_value-rows found (codes "sup")) in
+    rw (quiet, common, name, out, workers, files, demo, explain, check, expand, reuse, batch, sup) refl

@@ -30,8 +30,8 @@ ROOTS = [
     ("dwz_def_expand", "src/laws.rt", ["expand_laws", "refusal_laws"]),
     ("dwz_def_taken", "src/taken.rt", ["taken_laws", "over_laws"]),
     ("dwz_def_over", "src/over.rt", ["read_laws", "refused_laws", "over_laws"]),
-    ("dwz_def_run_over", "src/reuses.rt", ["reuses_laws"]),
-    ("dwz_def_run_batch", "src/batches.rt", ["alone_laws", "batches_laws", "yields_laws"]),
+    ("dwz_def_run", "src/reuses.rt", ["reuses_laws"]),
+    ("dwz_def_run", "src/batches.rt", ["alone_laws", "batches_laws", "yields_laws"]),
 ]
 BELIEVED = ["model", "bytes", "codes", "outside", "words", "text", "report", "gen", "run_course", "run"]
 MARK = "-- Inner:"

@@ -8,7 +8,7 @@ mkdir -p "$copy/crates"
 cp "$top/HANDLES" "$copy/"
 (cd "$top/crates" && tar cf - --exclude=out --exclude=must-fail --exclude='dwz_test_*' .) | tar xf - -C "$copy/crates"
 grep -v '^dwz_test_' "$top/crates.txt" > "$copy/crates.txt"
-echo "show_classes: dwz_model dwz_def_reading dwz_def_tops dwz_label dwz_gate dwz_groups dwz_graph dwz_move_files dwz_label_files dwz_plan dwz_plan_files anyhow" >> "$copy/crates.txt"
+echo "show_classes: dwz_model dwz_def_reading dwz_def_tops dwz_label dwz_gate dwz_groups dwz_graph dwz_move_files dwz_label_files dwz_plan dwz_layout_input anyhow" >> "$copy/crates.txt"
 show=$copy/crates/show_classes
 mkdir -p "$show/src" "$show/specs" "$show/proofs/looking/look"
 for file in main looking showing; do

@@ -10,7 +10,7 @@ use Rattle.dwz_def_cross.specs.Tops.{units_with_common}
 use Rattle.dwz_def_check.specs.CrossLists.{AreImported, NumberedUnit}
 use Rattle.dwz_def_check.specs.CrossNames.{IsWellRead, Side}
 use Rattle.dwz_def_expand.specs.Source.{imported_in, once}
-use Rattle.dwz_graph.proofs.RowLemmas.{found_in_map}
+use Rattle.dwz_unit.proofs.RowsFound.{found_in_map}
 use Rattle.dwz_imports.specs.Imports.{AreUnits, same}
 use Rattle.dwz_imports.proofs.ImportRelations.{imported}
 use Rattle.dwz_check_columns.proofs.NumberedUnits.{all_numbered, all_units, one_numbered, unit_of}

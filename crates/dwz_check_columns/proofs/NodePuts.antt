@@ -9,7 +9,7 @@ use Rattle.dwz_def_reading.specs.Trees.{End, Entry}
 use Rattle.dwz_def_cross.specs.Tops.{CrossTop}
 use Rattle.dwz_def_check.specs.CrossNames.{cross_names_from, cross_tops}
 use Rattle.dwz_def_check.specs.CrossNodes.{lone_entries}
-use Rattle.dwz_graph.proofs.RowLemmas.{found_in_map, rows-length}
+use Rattle.dwz_unit.proofs.RowsFound.{found_in_map, rows-length}
 use Rattle.dwz_graph.specs.Rows.{nodes}
 use Rattle.dwz_unit.specs.Rows.{rows_of, units_of}
 use Rattle.dwz_imports.specs.Imports.{imports_any, unit_nodes}

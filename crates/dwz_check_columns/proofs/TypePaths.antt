@@ -17,7 +17,8 @@ use Rattle.dwz_graph.proofs.ListMeans.{means_size}
 use Rattle.dwz_graph.proofs.PlaceLemmas.{among_none}
 use Rattle.dwz_graph.proofs.TopLemmas.{get_cases}
 use Rattle.dwz_graph.proofs.UnitBuilding.{unit_list}
-use Rattle.dwz_graph.proofs.UnitThere.{own_places, unit_ends, unit_there}
+use Rattle.dwz_graph.proofs.UnitThere.{own_places}
+use Rattle.dwz_unit.proofs.UnitThere.{unit_ends, unit_there}
 use Rattle.dwz_graph.specs.Resolved.{place_at, places}
 use Rattle.dwz_unit.specs.declared.rows.RawEntry.{RawEntry as EntryOfCode}
 use Rattle.dwz_unit.specs.declared.rows.RawUnit.{RawUnit as UnitOfCode}

@@ -5,7 +5,7 @@ use Rattle.dwz_model.proofs.ListFacts.{got_below}
 use Rattle.dwz_def_reading.specs.Documents.{DwUnit}
 use Rattle.dwz_def_cross.specs.CrossSame.{EachTwo}
 use Rattle.dwz_groups.specs.declared.groups.Edge.{Edge}
-use Rattle.dwz_graph.proofs.RowLemmas.{take_here}
+use Rattle.dwz_unit.proofs.RowsFound.{take_here}
 use Rattle.dwz_imports.specs.Stored.{edge, edges_of}
 use Rattle.dwz_check_columns.specs.Drawn.{IsPathOf}
 use Rattle.dwz_check_columns.specs.Paths.{PutsPath, PutsPaths}

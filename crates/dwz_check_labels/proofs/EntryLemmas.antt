@@ -12,7 +12,7 @@ use Rattle.dwz_def_reading.specs.Units.{RawUnit, entries_in, entry_count}
 use Rattle.dwz_def_reading.proofs.ListFacts.{drop_first, got_below}
 use Rattle.dwz_graph.proofs.RowUnits.{unit_within}
 use Rattle.dwz_graph.proofs.TopLemmas.{get_cases}
-use Rattle.dwz_graph.proofs.RowLemmas.{entry_row, row_is}
+use Rattle.dwz_unit.proofs.RowsFound.{entry_row, row_is}
 use Rattle.dwz_unit.specs.declared.rows.RawEntry.{RawEntry as EntryOfCode}
 use Rattle.dwz_graph.proofs.TreeLemmas.{parts, same_size}
 use Rattle.dwz_unit.specs.Rows.{EntryRow, rows_below, rows_from, rows_in, rows_of, shown_entries}

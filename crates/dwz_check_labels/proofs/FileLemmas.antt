@@ -5,7 +5,7 @@ use Rattle.std.specs.Prelude.{All}
 use Rattle.dwz_model.proofs.ListFacts.{all_more, got_in}
 use Rattle.dwz_model.proofs.Members.{each_append, each_in}
 use Rattle.dwz_def_reading.specs.Lists.{Each}
-use Rattle.dwz_graph.proofs.RowLemmas.{take_here}
+use Rattle.dwz_unit.proofs.RowsFound.{take_here}
 use Rattle.dwz_groups.specs.declared.groups.Edge.{Edge}
 use Rattle.dwz_check_labels.specs.Rows.{Adds, AreKeysBelow, edge, edges_from}
 

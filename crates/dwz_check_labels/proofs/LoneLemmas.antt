@@ -7,7 +7,7 @@ use Rattle.dwz_def_reading.specs.Trees.{size}
 use Rattle.dwz_def_reading.specs.Units.{RawUnit}
 use Rattle.dwz_def_reading.proofs.ListFacts.{drop_first}
 use Rattle.dwz_graph.proofs.TreeLemmas.{node_attrs}
-use Rattle.dwz_graph.proofs.RowLemmas.{row_is}
+use Rattle.dwz_unit.proofs.RowsFound.{row_is}
 use Rattle.dwz_unit.specs.declared.rows.RawEntry.{RawEntry as EntryOfCode}
 use Rattle.dwz_unit.specs.Rows.{EntryRow, shown_entries}
 use Rattle.dwz_label.specs.Labels.{counted, each_counted, number}

@@ -13,7 +13,7 @@ use Rattle.dwz_graph.proofs.ListMeans.{means_size}
 use Rattle.dwz_graph.proofs.SpaceMeans.{HasName, has_name}
 use Rattle.dwz_graph.specs.Here.{Here}
 use Rattle.dwz_graph.specs.Resolved.{IsHere, IsUnitHere}
-use Rattle.dwz_graph.proofs.RowLemmas.{row_is}
+use Rattle.dwz_unit.proofs.RowsFound.{row_is}
 use Rattle.dwz_unit.specs.declared.rows.RawEntry.{RawEntry as EntryOfCode}
 use Rattle.dwz_unit.specs.declared.rows.RawUnit.{RawUnit as UnitOfCode}
 use Rattle.dwz_unit.specs.Rows.{EntryRow, rows_below, rows_of, shown_entries, units_of}

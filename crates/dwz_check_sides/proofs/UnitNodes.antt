@@ -11,7 +11,7 @@ use Rattle.dwz_def_reading.proofs.MeaningUnits.{units_agree}
 use Rattle.dwz_def_check.specs.CrossLists.{NumberedUnit, numbered_units}
 use Rattle.dwz_def_check.specs.CrossNames.{cross_tops, unit_tops}
 use Rattle.dwz_def_check.specs.CrossNodes.{lone_entries, lone_of}
-use Rattle.dwz_graph.proofs.RowLemmas.{found_in_map, take_here, unit_there}
+use Rattle.dwz_unit.proofs.RowsFound.{found_in_map, take_here, unit_there}
 use Rattle.dwz_check_index.specs.Index.{start_of}
 use Rattle.dwz_check_index.specs.declared.index.CrossStarts.{CrossStarts}
 use Rattle.dwz_check_index.specs.declared.index.UnitStart.{UnitStart}

@@ -2,9 +2,9 @@
 use Rattle.std.proofs.Common.{◌≡◌, ℕ, suc, ◌+◌, ◌<◌, List, [], ◌∷◌, ◌++◌, length, map, Option, Some, None, refl, sym, ap, subst, ◌∙◌, arith, inl, inr}
 use Rattle.std.specs.Prelude.{◌⊎◌}
 use Rattle.std.proofs.lemmas.List.{append-nil}
-use Rattle.dwz_model.specs.Lists.{In, NoneTwice}
-use Rattle.dwz_model.proofs.Members.{in_map_from}
-use Rattle.dwz_model.proofs.OnceLemmas.{none_append, none_map}
+use Rattle.dwz_def_reading.specs.Lists.{In, NoneTwice}
+use Rattle.dwz_def_reading.proofs.Members.{in_map_from}
+use Rattle.dwz_def_reading.proofs.OnceLemmas.{none_append, none_map}
 use Rattle.dwz_def_reading.specs.Documents.{Doc, DwUnit}
 use Rattle.dwz_def_reading.specs.Files.{Limits, ReadsBy, debug_abbrev, debug_info, limits_after, no_files_before}
 use Rattle.dwz_def_reading.specs.Finished.{FinishedDocs, GivenCommon, ReadAllBy, ReadFinished, common_read, given_by, rule_of_back, rule_of_common}

@@ -1,8 +1,7 @@
 -- Lists in one strict order have the same members exactly if they are equal.
 use Rattle.std.proofs.Common.{◌≡◌, Bool, true, false, List, [], ◌∷◌, refl, sym, subst, ◌∙◌, inl, inr}
 use Rattle.std.proofs.lemmas.Bool.{false≢true}
-use Rattle.dwz_model.specs.Lists.{Each, EachPair}
-use Rattle.dwz_def_reading.specs.Lists.{In}
+use Rattle.dwz_def_reading.specs.Lists.{Each, EachPair, In}
 use Rattle.dwz_def_tops.proofs.Members.{each_in}
 use Rattle.dwz_def_check.specs.CrossRows.{SameMembers}
 

@@ -1,10 +1,9 @@
 -- Inner: nodes tell what looks across files tell, and rows of units what `CrossSame` asks.
 use Rattle.std.specs.Prelude.{◌≡◌, ◌↔◌, ℕ, Bool, true, false, List, length, reverse, Option}
-use Rattle.dwz_model.specs.Lists.{EachPair}
+use Rattle.dwz_def_reading.specs.Lists.{EachPair, In}
 use Rattle.dwz_def_reading.specs.Documents.{Doc, DwUnit, Node as EntryNode, OfType, node_map}
 use Rattle.dwz_def_reading.specs.Finished.{FinishedDocs, ReadFinished}
 use Rattle.dwz_def_reading.specs.Places.{Place}
-use Rattle.dwz_def_reading.specs.Lists.{In}
 use Rattle.dwz_def_tops.specs.Seen.{Seen, all_seen}
 use Rattle.dwz_def_cross.specs.Tops.{CrossTop, StandsAlong, WithCommon, units_with_common, whole_units}
 use Rattle.dwz_def_cross.specs.CrossLook.{CrossAlike, CrossEqual, CrossLook, CrossNode}

@@ -3,19 +3,17 @@ use Rattle.std.proofs.Common.{◌≡◌, ◌≢◌, ℕ, ℤ, pos, ◌<◌, ◌�
 use Rattle.std.specs.Prelude.{MatchBool}
 use Rattle.std.proofs.lemmas.List.{length-map}
 use Rattle.std.proofs.Math.Logic.{inl, inr}
-use Rattle.dwz_model.specs.declared.place.Pair.{Pair}
-use Rattle.dwz_def_reading.specs.Spelling.{SpellsSleb, fits_i64, reach}
+use Rattle.dwz_def_reading.specs.Pair.{Pair}
+use Rattle.dwz_def_reading.specs.Spelling.{SpellsSleb, fits_i64, reach, le_bytes}
 use Rattle.dwz_def_reading.specs.Forms.{form_rows}
 use Rattle.dwz_def_reading.specs.Abbrevs.{SpellsPair}
 use Rattle.dwz_def_reading.specs.Documents.{Attr, Expr, Plain, Sec, Text, Value, only, ref, value_map}
 use Rattle.dwz_def_reading.specs.Entries.{RawAttr}
-use Rattle.dwz_def_reading.specs.Meanings.{IsExpression, IsFileBy, MeansAs}
+use Rattle.dwz_def_reading.specs.Meanings.{IsExpression, IsFileBy, MeansAs, MeaningContext, block_begins, bytes_of, expr_context, number_of, path_by, stmt_list, target_of, targets, text_sections_of}
 use Rattle.dwz_def_reading.specs.Classes.{OfAddress, OfBlock, OfCommonEntry, OfCommonText, OfConstant, OfExpression, OfFlag, OfIndex, OfInfoEntry, OfListIndex}
 use Rattle.dwz_def_reading.specs.Classes.{Class}
-use Rattle.dwz_def_reading.specs.Meanings.{MeaningContext, block_begins, bytes_of}
 use Rattle.dwz_def_reading.specs.Classes.{OfOffset, OfSignature, OfText, OfTextBySlot, OfTextInLineStr, OfTextInStr, OfUnitEntry, Unread}
 use Rattle.dwz_def_reading.specs.Classes.{class_in, class_of, class_rows}
-use Rattle.dwz_def_reading.specs.Meanings.{expr_context, number_of, path_by, stmt_list, target_of, targets, text_sections_of}
 use Rattle.dwz_def_reading.specs.Classes.{names_file, names_list}
 use Rattle.dwz_def_reading.specs.declared.exprs.Operand.{Operand}
 use Rattle.dwz_def_reading.specs.Exprs.{ExprContext, Expression, SpellsExpr, parts_of}
@@ -31,9 +29,7 @@ use Rattle.dwz_def_encoding.specs.Sound.{HasBytes, SoundAttr, StoresAs}
 use Rattle.dwz_def_encoding.specs.Writing.{block_in, expr_bytes, pair_of, text_or_empty}
 use Rattle.dwz_def_encoding.proofs.ValuesMean.{plain_is, so_not}
 use Rattle.dwz_def_reading.proofs.FixedLemmas.{fixed_written}
-use Rattle.dwz_def_reading.specs.Spelling.{le_bytes}
 use Rattle.dwz_def_reading.specs.Rows.{has}
-use Rattle.dwz_def_reading.specs.Forms.{form_rows}
 use Rattle.dwz_def_encoding.proofs.PoolLemmas.{le_are}
 use Rattle.dwz_def_encoding.proofs.StoredClasses.{class_agrees, expression_form, exprloc_block, is_bytes, is_number, offset_class, rows_agree, stores_bytes}
 use Rattle.dwz_def_encoding.proofs.FilledParts.{expr_as_long}

@@ -6,14 +6,13 @@ use Rattle.dwz_def_reading.specs.Entries.{RawAttr}
 use Rattle.dwz_def_reading.specs.Lists.{Each, In}
 use Rattle.dwz_def_reading.specs.Rows.{has}
 use Rattle.dwz_def_reading.proofs.ListFacts.{in_map}
-use Rattle.dwz_model.specs.declared.place.Base.{Base}
-use Rattle.dwz_model.specs.declared.place.Base.TheVariants.{Unit as FromUnit, Info as FromInfo}
+use Rattle.dwz_def_reading.specs.Base.{Base}
+use Rattle.dwz_def_reading.specs.Base.TheVariants.{Unit as FromUnit, Info as FromInfo}
 use Rattle.dwz_def_reading.specs.declared.exprs.Operand.{Operand}
 use Rattle.dwz_def_reading.specs.Documents.{Attr, Loc, Part, Plain, value_map}
 use Rattle.dwz_def_reading.specs.Exprs.{AreNamed, Expression, parts_from, parts_of}
 use Rattle.dwz_def_reading.specs.Meanings.{MeaningContext, MeansValue, any_with_address, entries_for, expr_context, leads_to, number_of, targets}
-use Rattle.dwz_def_reading.specs.Classes.{OfListIndex, OfOffset}
-use Rattle.dwz_def_reading.specs.Classes.{Class, class_of}
+use Rattle.dwz_def_reading.specs.Classes.{OfListIndex, OfOffset, Class, class_of}
 use Rattle.dwz_def_reading.specs.NamedLists.{NamesAs, NamesList}
 use Rattle.dwz_def_reading.specs.Patching.{AllFit, FitsIn}
 use Rattle.dwz_def_reading.specs.PatchedLists.{CanHave, IsPatched, NamesAlike, list_value, named_with, with_number}

@@ -5,12 +5,11 @@ use Rattle.dwz_def_reading.specs.Lists.{Each, In}
 use Rattle.dwz_def_reading.specs.Texts.{slot}
 use Rattle.dwz_def_reading.specs.Trees.{End, Entry}
 use Rattle.dwz_def_reading.proofs.ListFacts.{in_cases, in_left, in_map, in_right}
-use Rattle.dwz_model.specs.declared.fault.Fault.{Fault}
+use Rattle.dwz_def_reading.specs.Fault.{Fault}
 use Rattle.dwz_def_reading.specs.Documents.{Attr, DwUnit, Entries}
 use Rattle.dwz_def_reading.specs.LocLists.{LocList}
 use Rattle.dwz_def_reading.specs.Meanings.{Around, MeaningContext, loclists_base, number_of, offset_of, scope_of, without_siblings}
-use Rattle.dwz_def_reading.specs.Classes.{OfListIndex, OfOffset}
-use Rattle.dwz_def_reading.specs.Classes.{Class, class_of, names_list}
+use Rattle.dwz_def_reading.specs.Classes.{OfListIndex, OfOffset, Class, class_of, names_list}
 use Rattle.dwz_def_reading.specs.Meant.{list_read}
 use Rattle.dwz_def_reading.specs.NamedLists.{AnyEntryNames, AnyNames, AnyUnitNames, NamesAs, NamesList, by_base, by_offset, list_of_attr, lists_as, lists_of_units, named_at, named_by}
 use Rattle.dwz_def_reading.specs.PatchedLists.{named_with}

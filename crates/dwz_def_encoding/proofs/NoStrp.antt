@@ -1,13 +1,12 @@
 -- A line table none of whose formats has the form strp is the same whatever stands in `.debug_str`.
 use Rattle.std.proofs.Common.{◌≡◌, ℕ, Bool, true, false, List, [], ◌∷◌, cond, eqb, refl, sym, ap, subst, ◌∙◌, inl, inr}
 use Rattle.std.proofs.lemmas.Bool.{or_parts}
-use Rattle.dwz_model.specs.declared.place.Pair.{Pair}
+use Rattle.dwz_def_reading.specs.Pair.{Pair}
 use Rattle.dwz_def_reading.specs.Spelling.{reach}
 use Rattle.dwz_def_reading.specs.Lists.{In}
 use Rattle.dwz_def_reading.specs.Texts.{IsTextAt}
 use Rattle.dwz_def_reading.specs.Values.{Bytes, Number, Raw}
-use Rattle.dwz_def_reading.specs.LineTables.{FileTable, HaveTheirTexts, IsFileTable, IsValueText, PathRow, SayRows, SaysRow, SaysTable, Tables, TextSections, names_strs}
-use Rattle.dwz_def_reading.specs.LineTables.{with_content}
+use Rattle.dwz_def_reading.specs.LineTables.{FileTable, HaveTheirTexts, IsFileTable, IsValueText, PathRow, SayRows, SaysRow, SaysTable, Tables, TextSections, names_strs, with_content}
 
 -- a value has one of the formats
 has_format : (content : ℕ) (formats : List Pair) (raws : List Raw) (x : Pair × Raw) → names_strs formats ≡ false → In x (with_content content formats raws) → eqb x.0.form 0x0e ≡ false

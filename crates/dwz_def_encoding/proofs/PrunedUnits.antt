@@ -1,8 +1,8 @@
 -- Units of a file of whose texts only those stay that are used are sound, and say the same.
 use Rattle.std.proofs.Common.{◌≡◌, ℕ, pos, suc, ◌<◌, ◌^◌, Bool, true, false, List, [], ◌∷◌, ◌++◌, length, map, Option, Some, None, refl, sym, ap, subst, ◌∙◌, arith, cond, eqb, eqb-true, is_some}
 use Rattle.std.proofs.Common.{Contains, inl, inr}
-use Rattle.dwz_model.specs.declared.place.Base.{Base}
-use Rattle.dwz_model.specs.declared.place.Base.TheVariants.{Unit as FromUnit, Info as FromInfo}
+use Rattle.dwz_def_reading.specs.Base.{Base}
+use Rattle.dwz_def_reading.specs.Base.TheVariants.{Unit as FromUnit, Info as FromInfo}
 use Rattle.dwz_def_reading.specs.Spelling.{SpellsFixed, reach}
 use Rattle.dwz_def_reading.specs.Lists.{Each, In}
 use Rattle.dwz_def_reading.specs.Parts.{StandsAt}
@@ -17,8 +17,7 @@ use Rattle.dwz_def_reading.specs.Documents as document
 use Rattle.dwz_def_reading.specs.Exprs.{parts_of}
 use Rattle.dwz_def_tops.specs.Alike.{joined_parts}
 use Rattle.dwz_def_reading.specs.Meanings.{IfSo}
-use Rattle.dwz_def_reading.specs.Classes.{OfConstant, OfExpression, OfListIndex, OfOffset, OfTextBySlot, OfTextInStr}
-use Rattle.dwz_def_reading.specs.Classes.{Class, class_of, names_file, names_list}
+use Rattle.dwz_def_reading.specs.Classes.{OfConstant, OfExpression, OfListIndex, OfOffset, OfTextBySlot, OfTextInStr, Class, class_of, names_file, names_list}
 use Rattle.dwz_def_tops.proofs.Members.{in_filter}
 use Rattle.dwz_def_encoding.specs.Fitting.{EachAttr}
 use Rattle.dwz_def_encoding.specs.Meant.{AttrSays, EntriesSay, ExprSays, FileSays, KindSays, ListSays, NodeSays, OperandIn, OperandsIn, Own, SaysAs, SlotSays, Tells, UnitSays, UnitsSay, WasRead, own_of}

@@ -4,7 +4,7 @@ use Rattle.std.proofs.Common.{cond, eqb, eqb-true}
 use Rattle.std.proofs.lemmas.Bool.{eqb-false}
 use Rattle.std.proofs.Math.Logic.{inl}
 use Rattle.std.proofs.lemmas.List.{length-drop, length-take, map-append}
-use Rattle.dwz_model.specs.declared.place.Pair.{Pair}
+use Rattle.dwz_def_reading.specs.Pair.{Pair}
 use Rattle.dwz_def_reading.specs.Spelling.{le_value, reach}
 use Rattle.std.specs.Prelude.{◌==◌}
 use Rattle.dwz_def_reading.specs.Forms.{form_rows}

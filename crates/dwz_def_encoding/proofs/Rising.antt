@@ -7,12 +7,11 @@ use Rattle.dwz_def_reading.specs.Spelling.{reach}
 use Rattle.dwz_def_reading.specs.Patching.{FitsIn}
 use Rattle.dwz_def_tops.specs.Alike.{joined_parts}
 use Rattle.dwz_def_reading.specs.Exprs.{parts_of}
-use Rattle.dwz_model.specs.declared.place.Base.{Base}
-use Rattle.dwz_model.specs.declared.place.Base.TheVariants.{Unit as FromUnit, Info as FromInfo}
+use Rattle.dwz_def_reading.specs.Base.{Base}
+use Rattle.dwz_def_reading.specs.Base.TheVariants.{Unit as FromUnit, Info as FromInfo}
 use Rattle.dwz_def_reading.specs.Lists.{Each, In}
 use Rattle.dwz_def_reading.specs.Meanings.{IfSo}
-use Rattle.dwz_def_reading.specs.Classes.{OfCommonEntry, OfExpression, OfInfoEntry, OfListIndex, OfOffset, OfUnitEntry}
-use Rattle.dwz_def_reading.specs.Classes.{Class, class_of, names_list}
+use Rattle.dwz_def_reading.specs.Classes.{OfCommonEntry, OfExpression, OfInfoEntry, OfListIndex, OfOffset, OfUnitEntry, Class, class_of, names_list}
 use Rattle.dwz_def_reading.specs.Trees.{End, Entry}
 use Rattle.dwz_def_reading.proofs.ListFacts.{in_cases, in_left, in_right}
 use Rattle.dwz_def_encoding.specs.Fitting.{AttrFits, EachAttr, EntriesFit, ExprFits, FitsAs, FitsInfo, FitsUnit, FitsWidth, HasRoom, HasRoomAs, KindFits, ListFits, OperandsFit, OperandsHaveRoom}

@@ -1,6 +1,6 @@
 -- Tests that decide equality.
 use Rattle.std.proofs.Common.{◌≡◌, ℕ, ℤ, pos, negsuc, Bool, true, false, List, [], ◌∷◌, refl, ap, ◌∙◌, eqb, eqb-true}
-use Rattle.dwz_model.specs.declared.place.Pair.{Pair}
+use Rattle.dwz_def_reading.specs.Pair.{Pair}
 use Rattle.dwz_def_reading.specs.Abbrevs.{children_byte}
 use Rattle.dwz_def_tops.specs.Deciding.{same_by, same_int}
 use Rattle.dwz_def_tops.specs.Spots.{same_spot}

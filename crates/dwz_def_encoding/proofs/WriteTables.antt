@@ -5,7 +5,7 @@ use Rattle.std.specs.Prelude.{MatchBool}
 use Rattle.std.proofs.Math.Logic.{inl, inr}
 use Rattle.std.proofs.lemmas.Bool.{ltb-true}
 use Rattle.std.proofs.lemmas.List.{length-append}
-use Rattle.dwz_model.specs.declared.place.Pair.{Pair}
+use Rattle.dwz_def_reading.specs.Pair.{Pair}
 use Rattle.dwz_def_reading.specs.Spelling.{SpellsSleb, SpellsUleb, fits_i64, sleb, uleb}
 use Rattle.dwz_def_reading.proofs.PaddedLemmas.{uleb_spells}
 use Rattle.dwz_def_reading.proofs.SignedLemmas.{sleb_spells}
@@ -15,8 +15,7 @@ use Rattle.dwz_def_reading.specs.Documents.{Attr, DwUnit, Entries, Node}
 use Rattle.dwz_def_reading.specs.Lists.{Each}
 use Rattle.dwz_def_reading.specs.Items.{SpellsItems}
 use Rattle.dwz_def_reading.proofs.FindLemmas.{found_behind}
-use Rattle.dwz_def_reading.specs.Classes.{Unread}
-use Rattle.dwz_def_reading.specs.Classes.{ClassRow, class_in, class_of, class_rows}
+use Rattle.dwz_def_reading.specs.Classes.{Unread, ClassRow, class_in, class_of, class_rows}
 use Rattle.dwz_def_reading.specs.Parts.{StandsAt}
 use Rattle.dwz_def_reading.specs.Trees.{End, Entry, size}
 use Rattle.dwz_def_encoding.specs.Sound.{SoundAttr, SoundEntries, SoundNode, SoundUnit}

@@ -1,18 +1,16 @@
 -- What the units that are written mean: the same units, with places for keys.
 use Rattle.std.specs.Prelude.{◌≡◌, ℕ, ◌+◌, ◌-◌, pos, List, [], ◌∷◌, ◌++◌, map, Option, Some, None}
-use Rattle.dwz_def_reading.specs.Documents.{Attr, Compile, DwUnit, Entries, Expr, File, Kind, Loc, Node, OfType, Part, Partial, Same, Sec}
-use Rattle.dwz_def_reading.specs.Documents.{Text, attr_map, kind_map, only, value_map}
+use Rattle.dwz_def_reading.specs.Documents.{Attr, Compile, DwUnit, Entries, Expr, File, Kind, Loc, Node, OfType, Part, Partial, Same, Sec, Text, attr_map, kind_map, only, value_map}
 use Rattle.dwz_def_reading.specs.Entries.{Mode, RawAttr}
 use Rattle.dwz_def_reading.specs.Lists.{Each, In}
-use Rattle.dwz_def_reading.specs.Meanings.{Around, Common, IfSo, MeanUnits, MeansAttr}
+use Rattle.dwz_def_reading.specs.Meanings.{Around, Common, IfSo, MeanUnits, MeansAttr, MeaningContext, all_places, any_with_address, loclists_base, number_of, path_by}
 use Rattle.dwz_def_reading.specs.Classes.{OfCommonEntry, OfCommonText, OfConstant}
 use Rattle.dwz_def_reading.specs.Classes.{Class}
 use Rattle.dwz_def_reading.specs.Classes.{OfExpression, OfInfoEntry, OfListIndex, OfOffset, OfTextBySlot, OfTextInLineStr, OfTextInStr}
-use Rattle.dwz_def_reading.specs.Meanings.{MeaningContext, all_places, any_with_address, loclists_base, number_of, path_by}
 use Rattle.dwz_def_reading.specs.Classes.{OfUnitEntry}
 use Rattle.dwz_def_reading.specs.Classes.{class_of, names_file, names_list}
-use Rattle.dwz_model.specs.declared.place.Base.{Base}
-use Rattle.dwz_model.specs.declared.place.Base.TheVariants.{Unit as FromUnit, Info as FromInfo}
+use Rattle.dwz_def_reading.specs.Base.{Base}
+use Rattle.dwz_def_reading.specs.Base.TheVariants.{Unit as FromUnit, Info as FromInfo}
 use Rattle.dwz_def_reading.specs.Documents as document
 use Rattle.dwz_def_reading.specs.declared.exprs.Operand.{Operand}
 use Rattle.dwz_def_reading.specs.NamedLists.{NamesList}

@@ -1,15 +1,13 @@
 -- The bytes of units whose places are keys, under numbers for the keys (DWARF 5, 7.5).
 use Rattle.std.specs.Prelude.{ℕ, pos, suc, ◌+◌, ◌-◌, Bool, true, false, List, [], ◌∷◌, ◌++◌, length, map, Option, Some, None, ◌==◌}
 use Rattle.std.specs.Prelude.{if◌then◌else◌}
-use Rattle.dwz_model.specs.declared.place.Base.{Base}
-use Rattle.dwz_model.specs.declared.place.Base.TheVariants.{Unit as FromUnit, Info as FromInfo}
-use Rattle.dwz_model.specs.declared.place.Pair.{Pair}
+use Rattle.dwz_def_reading.specs.Base.{Base}
+use Rattle.dwz_def_reading.specs.Base.TheVariants.{Unit as FromUnit, Info as FromInfo}
+use Rattle.dwz_def_reading.specs.Pair.{Pair}
 use Rattle.dwz_def_reading.specs.Spelling.{le_bytes, uleb}
 use Rattle.dwz_def_reading.specs.Abbrevs.{Declaration, children_byte, table_bytes}
-use Rattle.dwz_def_reading.specs.Documents.{Attr, Block, Compile, DwUnit, Entries, Expr, Kind, Node, OfType, Operand, Part, Partial, Plain}
-use Rattle.dwz_def_reading.specs.Documents.{Same, Text}
-use Rattle.dwz_def_reading.specs.Classes.{OfBlock, OfCommonEntry, OfExpression, OfInfoEntry, OfText, OfUnitEntry}
-use Rattle.dwz_def_reading.specs.Classes.{Class, class_of}
+use Rattle.dwz_def_reading.specs.Documents.{Attr, Block, Compile, DwUnit, Entries, Expr, Kind, Node, OfType, Operand, Part, Partial, Plain, Same, Text}
+use Rattle.dwz_def_reading.specs.Classes.{OfBlock, OfCommonEntry, OfExpression, OfInfoEntry, OfText, OfUnitEntry, Class, class_of}
 use Rattle.dwz_def_reading.specs.Patching.{number_in_width}
 use Rattle.dwz_def_reading.specs.Trees.{End, Entry}
 use Rattle.dwz_def_reading.specs.Values.{Bytes, Number, Raw, value_bytes}

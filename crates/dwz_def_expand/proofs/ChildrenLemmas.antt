@@ -5,11 +5,10 @@ use Rattle.std.specs.List.{list_any}
 use Rattle.std.proofs.lemmas.Bool.{and_parts, eqb-true}
 use Rattle.dwz_def_reading.specs.Documents.{Attr, Compile, DwUnit, Entries, Kind, Node, OfType, Partial, Plain, Ref, Value, attr_map, entries_map, kind_map, node_map, ref, unit_map, value_map}
 use Rattle.dwz_def_reading.specs.Documents as document
-use Rattle.dwz_def_reading.specs.Lists.{In}
+use Rattle.dwz_def_reading.specs.Lists.{In, NoneTwice}
 use Rattle.dwz_def_reading.specs.Trees.{End, Entry}
-use Rattle.dwz_model.proofs.ListFacts.{in_cases, in_left, in_map, in_right}
-use Rattle.dwz_model.proofs.Members.{any_from, any_true, in_filter, in_filter_from, in_map_from}
-use Rattle.dwz_model.specs.Lists.{NoneTwice}
+use Rattle.dwz_def_reading.proofs.ListFacts.{in_cases, in_left, in_map, in_right}
+use Rattle.dwz_def_reading.proofs.Members.{any_from, any_true, in_filter, in_filter_from, in_map_from}
 use Rattle.dwz_def_tops.specs.Seen.{IsChild, IsImport, IsPartial, Named, named_value}
 use Rattle.dwz_def_tops.specs.Shown.{unit_keys, units_keys}
 use Rattle.dwz_def_cross.specs.Tops.{WithCommon}

@@ -2,10 +2,10 @@
 use Rattle.std.proofs.Common.{◌≡◌, ℕ, ◌+◌, List, [], ◌∷◌, ◌++◌, ◌==◌, length, map, Option, Some, None, refl, sym, ap, subst, ◌∙◌, arith}
 use Rattle.std.proofs.lemmas.Bool.{and_parts, eq-eqb, eqb-true}
 use Rattle.std.proofs.lemmas.List.{map-append}
-use Rattle.dwz_model.specs.Lists.{In, NoneTwice}
-use Rattle.dwz_model.specs.declared.fault.Refusal.{Refusal}
-use Rattle.dwz_model.proofs.Members.{in_map_from}
-use Rattle.dwz_model.proofs.OnceLemmas.{none_append, none_map}
+use Rattle.dwz_def_reading.specs.Lists.{In, NoneTwice}
+use Rattle.dwz_def_reading.specs.Refusal.{Refusal}
+use Rattle.dwz_def_reading.proofs.Members.{in_map_from}
+use Rattle.dwz_def_reading.proofs.OnceLemmas.{none_append, none_map}
 use Rattle.dwz_def_reading.specs.Documents.{Doc, DwUnit}
 use Rattle.dwz_def_reading.specs.Files.{Limits, ReadsBy, debug_abbrev, debug_info}
 use Rattle.dwz_def_reading.specs.Meanings.{Around, MeanUnits, places_in, scope_of}
@@ -20,7 +20,7 @@ use Rattle.dwz_def_expand.specs.Output.{ExpandRefusal, forms}
 use Rattle.dwz_def_expand.proofs.ChosenLemmas.{expanded_kinds}
 use Rattle.dwz_def_expand.proofs.RefusalLemmas.{all_copied}
 use Rattle.dwz_def_expand.proofs.WholeLemmas.{names_apart, names_closed}
-use Rattle.dwz_def_images.proofs.ApartOwn.{keys_joined}
+use Rattle.dwz_def_tops.proofs.UnitKeys.{keys_joined}
 use Rattle.dwz_def_encoding.proofs.ReadAgain.{keys_read}
 
 -- ---- a test of places

@@ -10,3 +10,6 @@ pub mod FileLemmas
 pub mod WorkedCommon
 pub mod ChildrenLemmas
 pub mod StoredLemmas
+pub mod OneRefusal
+pub mod EitherOne
+pub mod OfSections

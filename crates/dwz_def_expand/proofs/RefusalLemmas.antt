@@ -1,10 +1,10 @@
 -- At most one refusal is the first, and where there is none each value can be copied.
 use Rattle.std.proofs.Common.{◌≡◌, ℕ, Bool, List, [], ◌∷◌, None, refl, sym, ap, ◌∙◌, inl, inr, arith}
-use Rattle.dwz_model.specs.declared.fault.Fault.{Fault}
-use Rattle.dwz_model.specs.declared.fault.Refusal.{Refusal}
+use Rattle.dwz_def_reading.specs.Fault.{Fault}
+use Rattle.dwz_def_reading.specs.Refusal.{Refusal}
 use Rattle.dwz_def_reading.specs.FirstOf.{OfFirst}
 use Rattle.dwz_def_reading.specs.Lists.{Each}
-use Rattle.dwz_model.proofs.Members.{each_more}
+use Rattle.dwz_def_reading.proofs.Members.{each_more}
 use Rattle.dwz_def_output.specs.Changed.{changes_by}
 use Rattle.dwz_def_output.specs.Refusals.{InFile, IsLargeSection, narrow_at}
 use Rattle.dwz_def_output.proofs.OneRefusal.{AtMostOne, of_first_one, or_else_one}

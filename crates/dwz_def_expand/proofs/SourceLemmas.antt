@@ -4,12 +4,11 @@ use Rattle.std.specs.Prelude.{not}
 use Rattle.std.specs.List.{filter}
 use Rattle.std.proofs.lemmas.Bool.{and_parts}
 use Rattle.dwz_def_reading.specs.Documents.{Compile, DwUnit, Entries, Kind, Node, OfType, Partial}
-use Rattle.dwz_def_reading.specs.Lists.{Each, In}
+use Rattle.dwz_def_reading.specs.Lists.{Each, In, EachPair, NoneTwice}
 use Rattle.dwz_def_reading.specs.Trees.{End, Entry}
-use Rattle.dwz_model.proofs.ListFacts.{in_cases, in_left, in_right}
-use Rattle.dwz_model.proofs.Members.{each_append, each_filter, each_in, each_of, in_filter_from, pair_filter}
-use Rattle.dwz_model.proofs.OnceLemmas.{none_append, none_both, none_left, none_right}
-use Rattle.dwz_model.specs.Lists.{EachPair, NoneTwice}
+use Rattle.dwz_def_reading.proofs.ListFacts.{in_cases, in_left, in_right}
+use Rattle.dwz_def_reading.proofs.Members.{each_append, each_filter, each_in, each_of, in_filter_from, pair_filter}
+use Rattle.dwz_def_reading.proofs.OnceLemmas.{none_append, none_both, none_left, none_right}
 use Rattle.dwz_def_tops.specs.Shown.{keys, unit_keys, units_keys}
 use Rattle.dwz_def_tops.proofs.ShownLemmas.{unit_key}
 use Rattle.dwz_def_encoding.specs.Meant.{entry_keys}

@@ -2,9 +2,9 @@
 use Rattle.std.proofs.Common.{◌≡◌, ◌≢◌, ℕ, ◌+◌, Bool, true, false, List, [], ◌∷◌, ◌++◌, ◌==◌, length, Option, Some, None, refl, sym, ap, subst, ◌∙◌, inl, inr, eq-eqb}
 use Rattle.std.specs.Prelude.{if◌then◌else◌, unwrap_or}
 use Rattle.std.proofs.lemmas.Bool.{eqb-true}
-use Rattle.dwz_model.specs.Lists.{In, NoneTwice}
-use Rattle.dwz_model.proofs.ListFacts.{in_left, in_right}
-use Rattle.dwz_model.proofs.OnceLemmas.{none_both, none_left, none_right}
+use Rattle.dwz_def_reading.specs.Lists.{In, NoneTwice}
+use Rattle.dwz_def_reading.proofs.ListFacts.{in_left, in_right}
+use Rattle.dwz_def_reading.proofs.OnceLemmas.{none_both, none_left, none_right}
 use Rattle.dwz_def_reading.specs.Entries.{RawEntry}
 use Rattle.dwz_def_reading.specs.Files.{Limits, ReadsBy, debug_abbrev, debug_info, no_files_before}
 use Rattle.dwz_def_reading.specs.Finished.{rule_of_common}

@@ -2,12 +2,11 @@
 use Rattle.std.proofs.Common.{◌≡◌, ℕ, zero, suc, ◌≤◌, ◌+◌, Bool, true, false, List, [], ◌∷◌, ◌++◌, if◌then◌else◌, Option, Some, None, map, get_or, refl, sym, ap, subst, ◌∙◌, arith, inl, inr}
 use Rattle.std.specs.Prelude.{unwrap_or}
 use Rattle.dwz_def_reading.specs.Documents.{DwUnit, Entries, Node, Attr, entries_map, unit_map}
-use Rattle.dwz_def_reading.specs.Lists.{Each, In}
+use Rattle.dwz_def_reading.specs.Lists.{Each, In, NoneTwice, Nth}
 use Rattle.dwz_def_reading.specs.Trees.{End, Entry}
-use Rattle.dwz_model.proofs.ListFacts.{in_cases, in_left, in_map, in_right}
-use Rattle.dwz_model.proofs.Members.{each_append, each_in, each_split, in_map_from, nth_in}
-use Rattle.dwz_model.proofs.OnceLemmas.{none_append, none_map}
-use Rattle.dwz_model.specs.Lists.{NoneTwice, Nth}
+use Rattle.dwz_def_reading.proofs.ListFacts.{in_cases, in_left, in_map, in_right}
+use Rattle.dwz_def_reading.proofs.Members.{each_append, each_in, each_split, in_map_from, nth_in}
+use Rattle.dwz_def_reading.proofs.OnceLemmas.{none_append, none_map}
 use Rattle.dwz_def_tops.specs.Seen.{Closed, Named, Seen, all_seen, named_map, named_value, see, seen, seen_below, seen_map, seen_roots}
 use Rattle.dwz_def_tops.specs.Shown.{keys, unit_keys, units_keys}
 use Rattle.dwz_def_tops.proofs.MainLemmas.{keys_map}

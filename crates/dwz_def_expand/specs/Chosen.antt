@@ -2,11 +2,10 @@
 -- its unit.
 use Rattle.std.specs.Prelude.{ℕ, pos, suc, Bool, true, false, List, [], ◌∷◌, map, unwrap_or, Option, Some, None, Result, Ok, Err, ◌==◌}
 use Rattle.std.specs.Prelude.{if◌then◌else◌, slice_get}
-use Rattle.dwz_model.specs.declared.fault.Fault.{Fault}
+use Rattle.dwz_def_reading.specs.Fault.{Fault}
 use Rattle.dwz_def_reading.specs.Spelling.{reach}
 use Rattle.dwz_def_reading.specs.Documents.{Attr, DwUnit, Entries, File, Node, Plain}
-use Rattle.dwz_def_reading.specs.Classes.{OfCommonEntry, OfCommonText, OfConstant, OfInfoEntry, OfTextBySlot, OfTextInLineStr, OfTextInStr}
-use Rattle.dwz_def_reading.specs.Classes.{Class, OfUnitEntry, class_of, names_file}
+use Rattle.dwz_def_reading.specs.Classes.{OfCommonEntry, OfCommonText, OfConstant, OfInfoEntry, OfTextBySlot, OfTextInLineStr, OfTextInStr, Class, OfUnitEntry, class_of, names_file}
 use Rattle.dwz_def_reading.specs.FirstOf.{of_first}
 use Rattle.dwz_def_reading.specs.LineTables.{FileTable, file_table_at}
 use Rattle.dwz_def_reading.specs.Meanings.{Sources, text_sections_of}
@@ -14,8 +13,7 @@ use Rattle.dwz_def_reading.specs.Trees.{End, Entry}
 use Rattle.dwz_def_tops.specs.Spots.{same_numbers}
 use Rattle.dwz_def_encoding.specs.Bases.{bases_in}
 use Rattle.dwz_def_encoding.specs.Meant.{entry_keys}
-use Rattle.dwz_def_encoding.specs.Placing.{Chosen, CommonUnit, NewUnit, OldUnit, UnitRole, as_read, has_key, holder_of, slot_number}
-use Rattle.dwz_def_encoding.specs.Placing.{with_form}
+use Rattle.dwz_def_encoding.specs.Placing.{Chosen, CommonUnit, NewUnit, OldUnit, UnitRole, as_read, has_key, holder_of, slot_number, with_form}
 use Rattle.dwz_def_cross.specs.Tops.{WithCommon, whole_units}
 use Rattle.dwz_def_expand.specs.Source.{Copy}
 

@@ -1,6 +1,6 @@
 -- Laws on what is written of a file without its partial units.
 use Rattle.std.specs.Prelude.{◌≡◌, ◌↔◌, ◌⊎◌, ℕ, List, map, Bool, true, Some}
-use Rattle.dwz_model.specs.declared.fault.Refusal.{Refusal}
+use Rattle.dwz_def_reading.specs.Refusal.{Refusal}
 use Rattle.dwz_def_reading.specs.Documents.{Compile, DwUnit, Node, unit_map}
 use Rattle.dwz_def_reading.specs.Entries.{RawEntry}
 use Rattle.dwz_def_reading.specs.FirstOf.{OfFirst}

@@ -7,3 +7,6 @@ pub mod Output
 pub mod Dropped
 pub mod ExpandLaws
 pub mod Alone
+pub mod NewFile
+pub mod After
+pub mod Laws

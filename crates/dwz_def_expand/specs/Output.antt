@@ -1,8 +1,8 @@
 -- The sections that are written of a file without its partial units, and their first refusal.
 use Rattle.std.specs.Prelude.{◌≡◌, ℕ, suc, ◌-◌, ◌≤◌, List, [], ◌∷◌, ◌++◌, get_or, map, Option, Some, None, ◌==◌, if◌then◌else◌}
-use Rattle.dwz_model.specs.declared.fault.Fault.{Fault}
-use Rattle.dwz_model.specs.declared.fault.Refusal.{Refusal}
-use Rattle.dwz_model.specs.declared.sections.Sections.{Sections}
+use Rattle.dwz_def_reading.specs.Fault.{Fault}
+use Rattle.dwz_def_reading.specs.Refusal.{Refusal}
+use Rattle.dwz_def_reading.specs.Sections.{Sections}
 use Rattle.dwz_def_reading.specs.Documents.{DwUnit}
 use Rattle.dwz_def_reading.specs.declared.exprs.Operand.{Operand}
 use Rattle.dwz_def_reading.specs.Files.{debug_aranges, sets_said, sources_of}

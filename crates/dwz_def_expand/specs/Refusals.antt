@@ -1,8 +1,8 @@
 -- Why a file isn't written without its partial units: what a value names stands in no unit after, or the line table of a unit has no row
 -- for a file.
 use Rattle.std.specs.Prelude.{◌≡◌, ℕ, suc, Bool, true, false, List, [], ◌∷◌, ◌++◌, None}
-use Rattle.dwz_model.specs.declared.fault.Fault.{Fault}
-use Rattle.dwz_model.specs.declared.fault.Reason.TheVariants.{NoRow, NotImported}
+use Rattle.dwz_def_reading.specs.Fault.{Fault}
+use Rattle.dwz_def_reading.specs.Reason.TheVariants.{NoRow, NotImported}
 use Rattle.dwz_def_reading.specs.Documents.{Attr, DwUnit, Entries, Node}
 use Rattle.dwz_def_reading.specs.Classes.{OfConstant, class_of, names_file}
 use Rattle.dwz_def_reading.specs.FirstOf.{OfFirst, OrElse}

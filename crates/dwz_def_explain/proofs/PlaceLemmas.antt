@@ -10,7 +10,8 @@ use Rattle.dwz_def_tops.specs.Deciding.{is_movable, top_in}
 use Rattle.dwz_def_tops.specs.Spots.{EntryName, Top, Within, tops_of, units_of}
 use Rattle.dwz_def_tops.proofs.AlikeBound.{movable_decides}
 use Rattle.dwz_def_tops.proofs.TopNumbers.{finds, found, one_top, tops_numbers}
-use Rattle.dwz_def_images.specs.After.{Place, name_of_place}
+use Rattle.dwz_def_tops.specs.UnitNames.{name_of_place}
+use Rattle.dwz_def_reading.specs.Places.{Place}
 use Rattle.dwz_text.specs.Lines.{Text}
 use Rattle.dwz_def_explain.specs.Explained.{IsExplained}
 use Rattle.dwz_def_explain.specs.Places.{Explains, IsMovableAt, IsTextOf, NoneMovableAt, not_movable}

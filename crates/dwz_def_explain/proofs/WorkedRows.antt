@@ -4,8 +4,8 @@ use Rattle.std.proofs.Common.{◌≡◌, ℕ, zero, suc, ◌+◌, List, [], ◌�
 use Rattle.std.specs.Prelude.{codes, replicate}
 use Rattle.std.specs.List.{concat}
 use Rattle.std.specs.Fmt.{digits}
-use Rattle.dwz_codes.specs.Attributes.{attribute_rows}
-use Rattle.dwz_codes.specs.Tags.{tag_rows}
+use Rattle.dwz_def_reading.specs.Attributes.{attribute_rows}
+use Rattle.dwz_def_reading.specs.Tags.{tag_rows}
 use Rattle.dwz_def_reading.specs.Documents.{Doc, Entries, entries_map, first_named}
 use Rattle.dwz_def_reading.specs.Trees.{End}
 use Rattle.dwz_def_tops.specs.Spaces.{space_text, tops_under}

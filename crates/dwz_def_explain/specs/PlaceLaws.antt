@@ -2,7 +2,7 @@
 use Rattle.std.specs.Prelude.{◌≡◌, ℕ, List, Result}
 use Rattle.dwz_model.specs.declared.fault.Refusal.{Refusal}
 use Rattle.dwz_def_reading.specs.Documents.{Doc}
-use Rattle.dwz_def_images.specs.After.{Place}
+use Rattle.dwz_def_reading.specs.Places.{Place}
 use Rattle.dwz_text.specs.Lines.{Text}
 use Rattle.dwz_def_explain.specs.Places.{Explains}
 

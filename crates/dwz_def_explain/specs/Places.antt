@@ -6,7 +6,8 @@ use Rattle.dwz_model.specs.declared.fault.Refusal.{Refusal}
 use Rattle.dwz_def_reading.specs.Documents.{Doc}
 use Rattle.dwz_def_tops.specs.Alike.{Movable}
 use Rattle.dwz_def_tops.specs.Spots.{Top, Within, tops_of, units_of}
-use Rattle.dwz_def_images.specs.After.{Place, name_of_place}
+use Rattle.dwz_def_tops.specs.UnitNames.{name_of_place}
+use Rattle.dwz_def_reading.specs.Places.{Place}
 use Rattle.dwz_text.specs.Lines.{Text}
 use Rattle.dwz_def_explain.specs.Explained.{IsExplained}
 use Rattle.dwz_def_explain.specs.Texts.{explained_text}

@@ -1,8 +1,8 @@
 -- What is printed of two tops: whether they are alike, or the least chain, and what differs at its end.
 use Rattle.std.specs.Prelude.{ℕ, zero, suc, ◌+◌, List, [], ◌∷◌, ◌++◌, length, Option, Some, None, codes, decimal, slice_get, true, false}
-use Rattle.dwz_codes.specs.Attributes.{attribute_rows}
-use Rattle.dwz_codes.specs.Rows.{RowView, row_of}
-use Rattle.dwz_codes.specs.Tags.{tag_rows}
+use Rattle.dwz_def_reading.specs.Attributes.{attribute_rows}
+use Rattle.dwz_def_reading.specs.Rows.{RowView, row_of}
+use Rattle.dwz_def_reading.specs.Tags.{tag_rows}
 use Rattle.dwz_def_reading.specs.Documents.{Attr, Doc, Entries, Node}
 use Rattle.dwz_def_reading.specs.Trees.{End, Entry}
 use Rattle.dwz_def_tops.specs.Deciding.{top_in}

@@ -1,10 +1,10 @@
 -- Each name is of one unit, and stands there once.
-use Rattle.std.proofs.Common.{◌≡◌, ℕ, ◌<◌, Bool, true, false, List, [], ◌∷◌, ◌++◌, refl, sym, ap, subst, ◌∙◌, inl, inr, append_assoc}
+use Rattle.std.proofs.Common.{◌≡◌, ℕ, ◌<◌, Bool, true, false, List, [], ◌∷◌, refl, sym, ap, subst, ◌∙◌, inl, inr}
 use Rattle.dwz_def_reading.specs.Documents.{Compile, DwUnit, Entries, Kind, Node, OfType, Partial, entries_map, language}
 use Rattle.dwz_def_reading.specs.Lists.{Each, In}
 use Rattle.dwz_def_reading.specs.Trees.{End}
 use Rattle.dwz_def_tops.specs.Lists.{EachPair, NoneTwice, Nth, Rising}
-use Rattle.dwz_def_tops.specs.Shown.{keys, unit_keys, units_keys}
+use Rattle.dwz_def_tops.specs.Shown.{keys, unit_keys}
 use Rattle.dwz_def_tops.proofs.Members.{each_in, nth_in}
 use Rattle.dwz_def_tops.specs.Spots.{EntryName, FileUnit, Import, InChain, InType, LabelledSpaces, PartialOf, PartialRoot, RootOf, Row, SpaceAt, Top, UnitOf, Within, rows_of_root, tops_of}
 use Rattle.dwz_def_tops.proofs.RowLemmas.{row_unit, unit_row}
@@ -20,7 +20,8 @@ use Rattle.dwz_def_plan.proofs.PlanLemmas.{are_parts, one_place}
 use Rattle.dwz_def_plan.proofs.RowParts.{kept_is}
 use Rattle.dwz_def_plan.proofs.PartRows.{part_is}
 use Rattle.dwz_def_plan.proofs.UserLemmas.{move_stand, stay_fixed}
-use Rattle.dwz_def_images.specs.After.{AreOld, IsNamedBelow}
+use Rattle.dwz_def_images.specs.After.{AreOld}
+use Rattle.dwz_def_tops.specs.UnitNames.{IsNamedBelow}
 use Rattle.dwz_def_images.proofs.ApartKept.{pinned_none, row_none, staying_none}
 use Rattle.dwz_def_images.proofs.ApartParts.{import_key, imports_none, part_none}
 use Rattle.dwz_def_images.proofs.ApartTrees.{Fixed, Good, IsImportSpot, IsSpaceSpot, IsWithin, behind, good_of, labelled_map, none_below, row_keys, tree_none, type_path}
@@ -33,11 +34,6 @@ use Rattle.dwz_def_images.proofs.KeyLemmas.{FromSpaceKey, FromTopKey, LastKey, T
 pub data UnitNumber : Type 0 where
   New : ℕ → UnitNumber
   Old : ℕ → UnitNumber
-
-pub keys_joined : {K : Type 0} (xs ys : List (DwUnit K)) → units_keys (xs ++ ys) ≡ units_keys xs ++ units_keys ys
-unfolding units_keys
-keys_joined [] ys = refl
-keys_joined {K} (u ∷ xs) ys = ap (λ (w : List K). unit_keys u ++ w) (keys_joined xs ys) ∙ sym (append_assoc (unit_keys u) (units_keys xs) (units_keys ys))
 
 no_end : (k : EntryName) → In k (keys End) → ⊥
 unfolding keys

@@ -17,7 +17,8 @@ use Rattle.dwz_def_plan.specs.Moves.{Move, image_in, seen_top}
 use Rattle.dwz_def_plan.specs.Plan.{PartialUnit, import_of, imports, kept_row}
 use Rattle.dwz_def_plan.proofs.KeptLemmas.{are_imports}
 use Rattle.dwz_def_plan.proofs.RowParts.{kept_is}
-use Rattle.dwz_def_images.specs.After.{AreAfter, AreOld, IsNamedBelow}
+use Rattle.dwz_def_images.specs.After.{AreAfter, AreOld}
+use Rattle.dwz_def_tops.specs.UnitNames.{IsNamedBelow}
 use Rattle.dwz_def_images.specs.Held.{IsHeld, NameNone}
 use Rattle.dwz_def_images.specs.Images.{units_in}
 use Rattle.dwz_def_images.specs.Units.{changes, kept_unit, partial_unit, tree}

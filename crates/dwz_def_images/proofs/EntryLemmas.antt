@@ -18,7 +18,8 @@ use Rattle.dwz_def_plan.specs.Moves.{Move, image_in, seen_top}
 use Rattle.dwz_def_images.specs.Held.{Serves}
 use Rattle.dwz_def_images.specs.Units.{changes, kept_below, kept_unit, partial_unit, tree}
 use Rattle.dwz_def_plan.proofs.RowParts.{kept_is}
-use Rattle.dwz_def_images.specs.After.{AreAfter, AreAfterOf, AreOld, IsNamedBelow}
+use Rattle.dwz_def_images.specs.After.{AreAfter, AreAfterOf, AreOld}
+use Rattle.dwz_def_tops.specs.UnitNames.{IsNamedBelow}
 use Rattle.dwz_def_images.specs.Images.{units_in}
 use Rattle.dwz_def_images.proofs.OldLemmas.{unit_at}
 use Rattle.dwz_def_images.proofs.OldRows.{raw_top, row_kinded, seen_in_top, tops_somewhere, raw_seen}

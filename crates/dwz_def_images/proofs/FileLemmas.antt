@@ -17,7 +17,9 @@ use Rattle.dwz_def_plan.specs.IsPlan.{AreFilesOf}
 use Rattle.dwz_def_plan.specs.Moves.{Move, image_in, plan}
 use Rattle.dwz_def_plan.specs.Plan.{image}
 use Rattle.dwz_def_images.specs.Units.{all_units, kept_unit}
-use Rattle.dwz_def_images.specs.After.{AreAfter, AreAfterOf, AreOld, ArePlaced, FilesSame, IsOfFile, Place, Replaces, name_of_place, units_placed_from}
+use Rattle.dwz_def_images.specs.After.{AreAfter, AreAfterOf, AreOld, ArePlaced, FilesSame, IsOfFile, Replaces, units_placed_from}
+use Rattle.dwz_def_tops.specs.UnitNames.{name_of_place}
+use Rattle.dwz_def_reading.specs.Places.{Place}
 use Rattle.dwz_def_images.specs.Held.{Serves}
 use Rattle.dwz_def_images.specs.Images.{units_in}
 use Rattle.dwz_def_images.proofs.ApartUnits.{all_apart}

@@ -1,3 +1,13 @@
+pub use Rattle.dwz_def_plan.proofs.FairLemmas
+pub use Rattle.dwz_def_plan.proofs.GainLemmas
+pub use Rattle.dwz_def_plan.proofs.HomeLemmas
+pub use Rattle.dwz_def_plan.proofs.ImageLemmas
+pub use Rattle.dwz_def_plan.proofs.KeptLemmas
+pub use Rattle.dwz_def_plan.proofs.PartRows
+pub use Rattle.dwz_def_plan.proofs.PlanLemmas
+pub use Rattle.dwz_def_plan.proofs.RowParts
+pub use Rattle.dwz_def_plan.proofs.StandLemmas
+pub use Rattle.dwz_def_plan.proofs.UserLemmas
 pub mod OldRows
 pub mod TreeLemmas
 pub mod OldLemmas
@@ -11,7 +21,6 @@ pub mod OneImageLemmas
 pub mod OutLemmas
 pub mod FileOuts
 pub mod NodeLemmas
-pub mod OldNames
 pub mod OldFiles
 pub mod ApartTrees
 pub mod ApartKept

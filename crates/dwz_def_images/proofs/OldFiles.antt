@@ -1,7 +1,7 @@
 -- The names that stand for the places of several files are as they are asked for.
 use Rattle.std.proofs.Common.{◌≡◌, ℕ, suc, ◌+◌, ◌≤◌, ◌⊎◌, List, [], ◌∷◌, ◌++◌, length, map, refl, sym, ap, subst, ◌∙◌, arith, inl, inr, eq-eqb, append_assoc}
 use Rattle.std.proofs.lemmas.Bool.{ne_eqb}
-use Rattle.std.proofs.lemmas.List.{length-append, map-append}
+use Rattle.std.proofs.lemmas.List.{map-append}
 use Rattle.dwz_def_reading.specs.Documents.{Attr, Compile, Doc, DwUnit, Entries, Kind, Node, OfType, Partial, attr_map, entries_map, kind_map, node_map, unit_map}
 use Rattle.dwz_def_reading.specs.Lists.{Each, In}
 use Rattle.dwz_def_reading.specs.Trees.{End, Entry}
@@ -14,25 +14,14 @@ use Rattle.dwz_def_tops.proofs.Members.{nth_from}
 use Rattle.dwz_def_tops.proofs.ShownLemmas.{closed_shown, map_shown}
 use Rattle.dwz_def_tops.specs.Spots.{EntryName, FileUnit, LabelledTop, Row, Top, in_file, named_files, named_in, row_below, row_from, row_tops, spot_in, spots_from, top_count, tops_among, tops_from}
 use Rattle.dwz_def_tops.specs.Spots.{units_of}
-use Rattle.dwz_def_tops.proofs.NameLists.{count_map, firsts, spots_firsts}
+use Rattle.dwz_def_tops.proofs.NameLists.{firsts, spots_firsts}
 use Rattle.dwz_def_tops.proofs.RowLemmas.{behind, row_here, row_later}
-use Rattle.dwz_def_tops.proofs.TopNumbers.{below_length}
-use Rattle.dwz_def_images.specs.After.{AreOld, ArePlaced, IsNamedUnit, Place, at_file, name_from, units_placed_from}
+use Rattle.dwz_def_images.specs.After.{AreOld, ArePlaced, units_placed_from}
+use Rattle.dwz_def_tops.specs.UnitNames.{IsNamedUnit, name_from}
+use Rattle.dwz_def_reading.specs.Places.{Place, at_file}
 use Rattle.dwz_def_images.specs.Images.{units_in}
-use Rattle.dwz_def_images.proofs.OldNames.{tops_labelled, units_named_at}
-
-pub nth_cases : {X : Type 0} (s : ℕ) (xs ys : List X) (i : ℕ) (x : X) → Nth s (xs ++ ys) i x → Nth s xs i x ⊎ Nth (s + length xs) ys i x
-nth_cases s [] ys i x h = (let e : s + 0 ≡ s = omega arith in inr (rw e h))
-nth_cases s (y ∷ xs) ys i x (inl e) = inl (inl e)
-nth_cases {X} s (y ∷ xs) ys i x (inr r) = elim (nth_cases (suc s) xs ys i x r) [
-  | inl a ↦ inl (inr a)
-  | inr b ↦ (let e : suc s + length xs ≡ s + suc (length xs) = omega arith in inr (subst (λ (w : ℕ). Nth w ys i x) e b))
-]
-
--- how many tops units have
-unfoldable pub counted : List (FileUnit EntryName) → ℕ
-counted [] = 0
-counted (f ∷ units) = top_count f.unit.kind f.unit.below + counted units
+use Rattle.dwz_def_tops.proofs.OldNames.{tops_labelled, units_named_at}
+use Rattle.dwz_def_tops.proofs.FiledTops.{nth_cases, counted, filed_length, filed_count}
 
 row_first : (s n : ℕ) (xs ys : List (FileUnit EntryName)) (i : ℕ) (x : FileUnit EntryName) → Nth s xs i x → row_from s n (xs ++ ys) i ≡ row_from s n xs i
 row_first s n [] ys i x h = absurd h
@@ -67,15 +56,6 @@ tops_cases s n (f ∷ xs) ys t h =
             inr (subst (λ (w : ℕ). In t (tops_from w (n + (count + counted xs)) ys)) e (subst (λ (w : ℕ). In t (tops_from (suc s + length xs) w ys)) k d))
       ])
     ]
-
-pub filed_length : (spots : List (ℕ × EntryName)) (file : ℕ) (units : List (DwUnit ℕ)) → length (map (in_file file) (named_in spots units)) ≡ length units
-filed_length spots file [] = refl
-filed_length spots file (u ∷ units) = ap (λ (n : ℕ). suc n) (filed_length spots file units)
-
-pub filed_count : (spots : List (ℕ × EntryName)) (file : ℕ) (units : List (DwUnit ℕ)) → counted (map (in_file file) (named_in spots units)) ≡ tops_among units
-unfolding counted tops_among
-filed_count spots file [] = refl
-filed_count spots file (u ∷ units) = rw (count_map (spot_in spots) u.kind u.below, filed_count spots file units) refl
 
 abbrev ArePlacedAll : List (Doc ℕ) → Type 0
 ArePlacedAll docs = Each (λ doc. ArePlaced doc.units) docs
@@ -261,11 +241,3 @@ shown_from name file unit top (doc ∷ docs) h =
 
 pub files_shown : (docs : List (Doc ℕ)) → UnitsShown (name_from 0 0 0 docs) (units_placed_from 0 docs) (units_in (units_of docs))
 files_shown docs = shown_from (name_from 0 0 0 docs) 0 0 0 docs (λ f x le. refl)
-
-pub tops_length : (s n : ℕ) (xs : List (FileUnit EntryName)) → length (tops_from s n xs) ≡ counted xs
-unfolding tops_from counted
-tops_length s n [] = refl
-tops_length s n (f ∷ xs) =
-    let count = top_count f.unit.kind f.unit.below in
-    let first = row_tops (row_below f.file s n f.unit f.unit.kind) in
-    length-append first (tops_from (suc s) (n + count) xs) ∙ (λ i. below_length f.file s n f.unit f.unit.kind i + tops_length (suc s) (n + count) xs i)

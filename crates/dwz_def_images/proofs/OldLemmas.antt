@@ -14,7 +14,8 @@ use Rattle.dwz_def_tops.proofs.RowLemmas.{unit_row}
 use Rattle.dwz_def_tops.proofs.Tops.{row_top}
 use Rattle.dwz_def_plan.specs.Moves.{Move, image_in}
 use Rattle.dwz_def_plan.specs.Plan.{image_by}
-use Rattle.dwz_def_images.specs.After.{AreOld, IsKeptUnit, IsNamedBelow, IsNewUnit}
+use Rattle.dwz_def_images.specs.After.{AreOld, IsKeptUnit, IsNewUnit}
+use Rattle.dwz_def_tops.specs.UnitNames.{IsNamedBelow}
 use Rattle.dwz_def_images.specs.Images.{units_in}
 use Rattle.dwz_def_images.proofs.OldRows.{InTop, IsSpaceSeen, Origin, raw_top, seen_origin, space_place}
 

@@ -1,6 +1,6 @@
 -- A file of which nothing moves has its units as they were.
-use Rattle.std.proofs.Common.{◌≡◌, ℕ, ℤ, suc, ◌+◌, ◌⊎◌, ◌==◌, cond, Bool, true, false, List, [], ◌∷◌, ◌++◌, Option, Some, None, length, map, refl, sym, ap, subst, ◌∙◌, arith, inl, inr, eqb-true}
-use Rattle.std.proofs.Common.{eq-eqb, append_assoc}
+use Rattle.std.proofs.Common.{◌≡◌, ℕ, ℤ, suc, ◌+◌, ◌⊎◌, ◌==◌, cond, Bool, true, false, List, [], ◌∷◌, ◌++◌, Option, Some, None, length, map, refl, sym, ap, subst, ◌∙◌, inl, inr, eqb-true}
+use Rattle.std.proofs.Common.{eq-eqb}
 use Rattle.std.proofs.lemmas.List.{map-append}
 use Rattle.std.specs.List.{filter}
 use Rattle.dwz_def_reading.specs.Documents.{Attr, Compile, Doc, DwUnit, Entries, Kind, Node, OfType, Partial, attr_map, entries_map, kind_map, language, node_map, unit_map}
@@ -26,8 +26,9 @@ use Rattle.dwz_def_plan.proofs.UserLemmas.{moves_self, stay_fixed, used}
 use Rattle.dwz_def_images.specs.Images.{InNoTop}
 use Rattle.dwz_def_images.specs.Units.{changes, kept_unit, kept_units, out_units, partial_unit, partial_units, units_of_file}
 use Rattle.dwz_def_images.proofs.EntryLemmas.{kept_still, top_changes}
-use Rattle.dwz_def_images.proofs.OldFiles.{counted, filed_count, filed_length}
+use Rattle.dwz_def_tops.proofs.FiledTops.{counted, filed_count, filed_length}
 use Rattle.dwz_def_tops.proofs.NameLists.{count_map, spots_space, spots_top}
+use Rattle.dwz_def_tops.proofs.FiledTops.{tops_append}
 
 -- ---- the names of a file
 
@@ -206,19 +207,6 @@ module _ (file : ℕ) where
   unfolding units_of_file
   at_other own [] e = refl
   at_other own (u ∷ units) e = rw e (at_other own units e)
-
-pub tops_append : (s n : ℕ) (xs ys : List (FileUnit EntryName)) → tops_from s n (xs ++ ys) ≡ tops_from s n xs ++ tops_from (s + length xs) (n + counted xs) ys
-unfolding tops_from counted
-tops_append s n [] ys = (let e : s + 0 ≡ s = omega arith in let k : n + 0 ≡ n = omega arith in rw (e, k) refl)
-tops_append s n (f ∷ xs) ys =
-    let count = top_count f.unit.kind f.unit.below in
-    let first = row_tops (row_below f.file s n f.unit f.unit.kind) in
-    let e : suc s + length xs ≡ s + suc (length xs) = omega arith in
-    let k : n + count + counted xs ≡ n + (count + counted xs) = omega arith in
-    ap (λ (w : List Top). first ++ w) (tops_append (suc s) (n + count) xs ys)
-    ∙ sym (append_assoc first (tops_from (suc s) (n + count) xs) (tops_from (suc s + length xs) (n + count + counted xs) ys))
-    ∙ ap (λ (w : ℕ). (first ++ tops_from (suc s) (n + count) xs) ++ tops_from w (n + count + counted xs) ys) e
-    ∙ ap (λ (w : ℕ). (first ++ tops_from (suc s) (n + count) xs) ++ tops_from (s + suc (length xs)) w ys) k
 
 module _ (stand : ℕ → ℕ) (file : ℕ) where
   abbrev f : EntryName → EntryName

@@ -1,15 +1,15 @@
 -- The units before, with their names, and those after: what is asked of them.
-use Rattle.std.specs.Prelude.{◌⊎◌, ◌≡◌, ℕ, suc, ◌+◌, true, false, List, [], ◌∷◌, ◌++◌, length, map, ◌==◌}
-use Rattle.dwz_def_reading.specs.Documents.{Compile, Doc, DwUnit, Entries, Kind, Node, OfType, Partial, node_map, unit_map}
+use Rattle.std.specs.Prelude.{◌⊎◌, ◌≡◌, ℕ, suc, true, false, List, [], ◌∷◌, ◌++◌, map}
+use Rattle.dwz_def_reading.specs.Documents.{Doc, DwUnit, Entries, Node, node_map, unit_map}
 use Rattle.dwz_def_reading.specs.Lists.{In}
 use Rattle.dwz_def_reading.specs.Trees.{End, Entry}
-pub use Rattle.dwz_def_reading.specs.Places.{Place, at_file}
+use Rattle.dwz_def_reading.specs.Places.{Place, at_file}
 use Rattle.dwz_def_tops.specs.Lists.{NoneTwice, Nth}
 use Rattle.dwz_def_tops.specs.Seen.{Closed, IsPartial, SameAlong}
 use Rattle.dwz_def_tops.specs.Shown.{HaveMains, OnePlace, UnitsShown, units_keys}
 use Rattle.dwz_def_tops.specs.Alike.{TopScope}
-use Rattle.dwz_def_tops.specs.Spots.{EntryName, FileUnit, InType, Labelled, LabelledSpaces, LabelledTop, RootOf, Row, Top, UnitOf}
-use Rattle.dwz_def_tops.specs.Spots.{no_name, rows_of_root, spot_in, spots_from, tops_among, tops_of, units_of}
+use Rattle.dwz_def_tops.specs.Spots.{EntryName, FileUnit, LabelledTop, Top}
+use Rattle.dwz_def_tops.specs.Spots.{rows_of_root, tops_of, units_of}
 use Rattle.dwz_def_plan.specs.Homes.{Rule, moves}
 use Rattle.dwz_def_plan.specs.IsPlan.{Has, OfSpace}
 use Rattle.dwz_def_plan.specs.Moves.{Move, image_in, plan}
@@ -17,20 +17,9 @@ use Rattle.dwz_def_plan.specs.Plan.{PartialUnit, image, import_of}
 use Rattle.dwz_def_images.specs.Held.{IsHeld}
 use Rattle.dwz_def_images.specs.Units.{all_units, changes, kept_unit, out_units, partial_root, partial_unit, units_of_file}
 use Rattle.dwz_def_images.specs.Images.{IsAlone, OneImage, units_in}
+use Rattle.dwz_def_tops.specs.UnitNames.{IsNamedUnit, name_of_place}
 
 -- ---- before
-
--- the entries of a compile unit are tops and spaces; those of a type unit are at their own names; no unit is a partial unit
-abbrev pub IsNamedBelow : ℕ → Kind EntryName → Row → Entries EntryName → Type 0
-IsNamedBelow i Compile row below = LabelledSpaces i [] 0 row
-IsNamedBelow i (OfType signature main) row below = Labelled (InType i) [] 0 below
-IsNamedBelow i Partial row below = ⊥
-
--- a unit with that number is at its own name, with all in it but its tops
-pub record IsNamedUnit (i : ℕ) (row : Row) (u : DwUnit EntryName) : Type 0 where
-  pub unit : u.at ≡ UnitOf i
-  pub root : u.root.at ≡ RootOf i
-  pub below : IsNamedBelow i u.kind row u.below
 
 -- all is at its own name, each reference names an entry, and the type of a type unit is an entry of it
 pub record AreOld (units : List (FileUnit EntryName)) : Type 0 where
@@ -112,17 +101,6 @@ pub record ArePlaced (units : List (DwUnit ℕ)) : Type 0 where
 unfoldable pub units_placed_from : ℕ → List (Doc ℕ) → List (DwUnit Place)
 units_placed_from file [] = []
 units_placed_from file (doc ∷ docs) = map (unit_map (at_file file)) doc.units ++ units_placed_from (suc file) docs
-
--- the name of a place; the first file, its first unit and its first top have these numbers
-unfoldable pub name_from : ℕ → ℕ → ℕ → List (Doc ℕ) → Place → EntryName
-name_from file unit top [] p = no_name
-name_from file unit top (doc ∷ docs) p = elim (file == p.file) as (λ _. EntryName) [
-  | true ↦ spot_in (spots_from unit top doc.units) p.at
-  | false ↦ name_from (suc file) (unit + length doc.units) (top + tops_among doc.units) docs p
-]
-
-abbrev pub name_of_place : List (Doc ℕ) → Place → EntryName
-name_of_place docs = name_from 0 0 0 docs
 
 -- places for the names of units, one for each name, at which they are these units
 pub record StandAsNamed (units : List (DwUnit EntryName)) (placed : List (DwUnit ℕ)) : Type 0 where

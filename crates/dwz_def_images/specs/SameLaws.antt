@@ -13,9 +13,9 @@ use Rattle.dwz_def_plan.specs.Moves.{Move, image_in, plan}
 use Rattle.dwz_def_plan.specs.Plan.{image}
 use Rattle.dwz_def_images.specs.Held.{IsHeld, Serves}
 use Rattle.dwz_def_images.specs.Units.{all_units, changes, common_units, kept_unit, out_units, units_of_file}
-use Rattle.dwz_def_images.specs.After.{AreAfter, AreAfterOf, AreOld, ArePlaced, ComesFrom, FilesSame, IsEntryOf}
-use Rattle.dwz_def_images.specs.After.{IsOfFile, Place, Replaces, StandAsNamed, name_of_place}
-use Rattle.dwz_def_images.specs.After.{units_placed_from}
+use Rattle.dwz_def_images.specs.After.{AreAfter, AreAfterOf, AreOld, ArePlaced, ComesFrom, FilesSame, IsEntryOf, IsOfFile, Replaces, StandAsNamed, units_placed_from}
+use Rattle.dwz_def_tops.specs.UnitNames.{name_of_place}
+use Rattle.dwz_def_reading.specs.Places.{Place}
 use Rattle.dwz_def_images.specs.Images.{IsAlone, OneImage, units_in}
 
 -- ---- places and names

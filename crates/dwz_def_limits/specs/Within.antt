@@ -1,7 +1,7 @@
 -- Files that limits have room for.
 use Rattle.std.specs.Prelude.{◌≡◌, ℕ, ◌≤◌, true, List, length, map}
 use Rattle.std.specs.List.{sum}
-use Rattle.dwz_model.specs.Lists.{Each}
+use Rattle.dwz_def_reading.specs.Lists.{Each}
 use Rattle.dwz_def_reading.specs.Entries.{Mode}
 use Rattle.dwz_def_reading.specs.Files.{debug_abbrev, debug_info, longest_file, longest_files, most_entries}
 use Rattle.dwz_def_reading.specs.Units.{RawUnit, SpellsUnits, entries_in}

@@ -30,8 +30,8 @@ use Rattle.dwz_def_output.proofs.RoomAfter.{over}
 use Rattle.dwz_def_tops.specs.Alike.{Apart, IsAlike, Together, TopScope}
 use Rattle.dwz_def_tops.specs.Deciding.{alike_test}
 use Rattle.dwz_def_tops.proofs.AlikeLaws.{alike_decides}
-use Rattle.dwz_def_plan.specs.Homes.{IsChoice}
-use Rattle.dwz_def_plan.proofs.GainLemmas.{gain_choice}
+use Rattle.dwz_def_images.specs.Homes.{IsChoice}
+use Rattle.dwz_def_images.proofs.GainLemmas.{gain_choice}
 use Rattle.dwz_def_readback.proofs.AllLemmas.{all_back}
 use Rattle.dwz_def_output.specs.Changed.{changes_by}
 use Rattle.dwz_def_reading.specs.Supplementary.{SpellsSup, sup_bytes}

@@ -25,9 +25,9 @@ use Rattle.dwz_def_reading.specs.SupplementaryFile.{common_file, common_sum}
 use Rattle.dwz_sup.proofs.CommonReads.{common_fits, common_known}
 use Rattle.dwz_sup.proofs.LengthLemmas.{length_common}
 use Rattle.dwz_def_tops.specs.Spots.{EntryName}
-use Rattle.dwz_def_plan.specs.Homes.{Common}
-use Rattle.dwz_def_plan.specs.Moves.{Move}
-use Rattle.dwz_def_plan.specs.Plan.{PartialUnit}
+use Rattle.dwz_def_images.specs.Homes.{Common}
+use Rattle.dwz_def_images.specs.Moves.{Move}
+use Rattle.dwz_def_images.specs.Plan.{PartialUnit}
 use Rattle.dwz_def_images.specs.Units.{common_units, partial_unit, partial_units}
 use Rattle.dwz_def_encoding.specs.Placing.{FitsSections, UnitSections, fit_units, lines_bytes, paths_of, sections, texts_bytes, texts_of, units_with}
 use Rattle.dwz_def_encoding.specs.Writing.{joined, tables_of, units_bytes}

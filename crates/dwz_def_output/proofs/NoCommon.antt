@@ -3,9 +3,9 @@ use Rattle.std.proofs.Common.{◌≡◌, ◌||◌, ℕ, suc, Bool, true, false, 
 use Rattle.std.specs.List.{list_any}
 use Rattle.dwz_def_reading.specs.Documents.{DwUnit}
 use Rattle.dwz_def_tops.specs.Spots.{EntryName}
-use Rattle.dwz_def_plan.specs.Homes.{Common}
-use Rattle.dwz_def_plan.specs.Moves.{Move}
-use Rattle.dwz_def_plan.specs.Plan.{PartialUnit}
+use Rattle.dwz_def_images.specs.Homes.{Common}
+use Rattle.dwz_def_images.specs.Moves.{Move}
+use Rattle.dwz_def_images.specs.Plan.{PartialUnit}
 use Rattle.dwz_def_images.specs.Units.{partial_unit, partial_units}
 use Rattle.dwz_def_output.specs.FilesAfter.{is_common}
 

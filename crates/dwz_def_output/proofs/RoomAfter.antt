@@ -11,10 +11,12 @@ use Rattle.dwz_def_tops.specs.Lists.{Nth}
 use Rattle.dwz_def_tops.proofs.Members.{each_append, each_in, each_more, each_of, each_split, nth_in}
 use Rattle.dwz_def_tops.specs.Alike.{IsAlike, TopScope}
 use Rattle.dwz_def_tops.specs.Spots.{EntryName, FileUnit, in_file, named, named_files, spot_in, spots_from, tops_among, units_of}
-use Rattle.dwz_def_plan.specs.Homes.{IsChoice, Local, Rule}
-use Rattle.dwz_def_plan.specs.Moves.{Move, image_in}
-use Rattle.dwz_def_plan.specs.Plan.{import_attr}
-use Rattle.dwz_def_images.specs.After.{ArePlaced, Replaces, at_file, name_from, name_of_place}
+use Rattle.dwz_def_images.specs.Homes.{IsChoice, Local, Rule}
+use Rattle.dwz_def_images.specs.Moves.{Move, image_in}
+use Rattle.dwz_def_images.specs.Plan.{import_attr}
+use Rattle.dwz_def_images.specs.After.{ArePlaced, Replaces}
+use Rattle.dwz_def_tops.specs.UnitNames.{name_from, name_of_place}
+use Rattle.dwz_def_reading.specs.Places.{at_file}
 use Rattle.dwz_def_images.specs.Units.{all_units, kept_unit, kept_units, out_units, partial_units}
 use Rattle.dwz_def_images.proofs.FileLemmas.{replaced}
 use Rattle.dwz_def_encoding.specs.Bases.{Bases, bases_in}
@@ -26,8 +28,7 @@ use Rattle.dwz_def_encoding.proofs.Carrying.{import_class}
 use Rattle.dwz_def_encoding.proofs.Renumbered.{renumbered_room}
 use Rattle.dwz_def_readback.specs.AllFiles.{AreRead}
 use Rattle.dwz_def_readback.specs.Back.{FileOver, WasReadFrom, run_of}
-use Rattle.dwz_def_readback.specs.Files.{fitted_by, formed_by}
-use Rattle.dwz_def_readback.specs.Files.{Run, Stored, file_forms, fitted, fitted_if, formed, name_after, origin_in, places, sources, uses}
+use Rattle.dwz_def_readback.specs.Files.{fitted_by, formed_by, Run, Stored, file_forms, fitted, fitted_if, formed, name_after, origin_in, places, sources, uses}
 use Rattle.dwz_def_readback.proofs.AttrLemmas.{attrs_in, attrs_mapped, kept_attrs}
 use Rattle.dwz_def_readback.proofs.FreeOperands.{AsksNone, UnitAsksNone, entries_more, home_asks}
 use Rattle.dwz_def_readback.proofs.HomeLemmas.{kept_from}

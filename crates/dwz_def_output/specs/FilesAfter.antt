@@ -10,8 +10,8 @@ use Rattle.dwz_def_reading.specs.Supplementary.{sup_bytes}
 use Rattle.dwz_def_output.specs.Changed.{changes_by}
 use Rattle.dwz_def_output.specs.Rebuilt.{new_file}
 use Rattle.dwz_def_reading.specs.SupplementaryFile.{common_file, common_sum}
-use Rattle.dwz_def_plan.specs.Homes.{Common, same_home}
-use Rattle.dwz_def_plan.specs.Plan.{PartialUnit}
+use Rattle.dwz_def_images.specs.Homes.{Common, same_home}
+use Rattle.dwz_def_images.specs.Plan.{PartialUnit}
 use Rattle.dwz_def_images.specs.Units.{changes}
 use Rattle.dwz_def_reading.specs.Files.{debug_abbrev, debug_info, section_of}
 pub use Rattle.dwz_def_reading.specs.Finished.{sum_of}

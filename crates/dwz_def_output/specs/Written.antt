@@ -8,8 +8,8 @@ use Rattle.dwz_def_reading.specs.Files.{Limits, ReadAll, file_meaning, limits_af
 use Rattle.dwz_def_tops.specs.Alike.{Apart, TopScope, Together}
 use Rattle.dwz_def_tops.specs.Deciding.{alike_test}
 use Rattle.dwz_def_tops.specs.Spots.{units_of}
-use Rattle.dwz_def_plan.specs.Gain.{gain_rule}
-use Rattle.dwz_def_plan.specs.Homes.{Rule}
+use Rattle.dwz_def_images.specs.Gain.{gain_rule}
+use Rattle.dwz_def_images.specs.Homes.{Rule}
 use Rattle.dwz_def_readback.specs.Back.{run_of}
 use Rattle.dwz_def_readback.specs.Files.{CommonFile, Made, Run, Stored}
 use Rattle.dwz_def_readback.specs.Prunable.{IsPrunable}

@@ -1,9 +1,9 @@
 -- Where nothing refuses them, files that are written over a finished common file read back beside it as what was read.
 use Rattle.std.proofs.Common.{◌≡◌, ◌++◌, ℕ, suc, ◌<◌, true, List, [], ◌∷◌, length, map, Some, None, refl, sym, ap, subst, ◌∙◌, inl, inr, arith}
-use Rattle.dwz_model.specs.declared.fault.Refusal.{Refusal}
+use Rattle.dwz_def_reading.specs.Refusal.{Refusal}
 use Rattle.dwz_def_reading.specs.Documents.{Doc, DwUnit, unit_map}
 use Rattle.dwz_def_reading.specs.FirstOf.{OfFirst, OrElse}
-use Rattle.dwz_def_reading.specs.Files.{no_files_before, section_of}
+use Rattle.dwz_def_reading.specs.Files.{no_files_before, section_of, debug_abbrev, debug_info}
 use Rattle.dwz_def_reading.specs.Lists.{Each, In}
 use Rattle.dwz_def_reading.specs.Places.{Place, at_file}
 use Rattle.dwz_def_reading.specs.Values.{AreBytes}
@@ -13,9 +13,10 @@ use Rattle.dwz_def_tops.specs.Shown.{HaveMains, OnePlace, UnitsShown, units_keys
 use Rattle.dwz_def_tops.proofs.Members.{in_map_from}
 use Rattle.dwz_def_tops.proofs.ShownLemmas.{map_shown, shown_then}
 use Rattle.dwz_def_tops.specs.Spots.{EntryName, file_numbers}
-use Rattle.dwz_def_plan.specs.Moves.{image_in}
-use Rattle.dwz_def_images.specs.After.{name_of_place, units_placed_from}
-use Rattle.dwz_def_images.proofs.ApartOwn.{keys_joined}
+use Rattle.dwz_def_images.specs.Moves.{image_in}
+use Rattle.dwz_def_images.specs.After.{units_placed_from}
+use Rattle.dwz_def_tops.specs.UnitNames.{name_of_place}
+use Rattle.dwz_def_tops.proofs.UnitKeys.{keys_joined}
 use Rattle.dwz_def_readback.proofs.StillPlaces.{nth_number}
 use Rattle.dwz_def_over.proofs.StillOver.{still_over}
 use Rattle.dwz_def_images.specs.Units.{all_units, changes, common_units, file_units, out_units}
@@ -44,10 +45,10 @@ use Rattle.dwz_def_taken.specs.Takes.{IsFixed}
 use Rattle.dwz_def_taken.proofs.Copies.{copies_law}
 use Rattle.dwz_def_taken.proofs.FilesOver.{files_over}
 use Rattle.dwz_def_over.specs.Over.{AreOverFiles, OverFiles, standing_file, limits_over, reused, run_over, standing_units, stands}
-use Rattle.dwz_def_over.specs.Written.{CanBeWrittenOver, IsAnew, CopiesAreOne, ReadBackOver, file_over, given_over, names_after}
+use Rattle.dwz_def_over.specs.Written.{CanBeWrittenOver, IsAnew, CopiesAreOne, ReadBackOver, file_over, given_over, names_after, AreTiedOver, sup_over}
 use Rattle.dwz_def_over.proofs.CanOver.{can_write_over, still_says_over}
 use Rattle.dwz_def_over.proofs.CommonOver.{common_is, common_one_at, common_shown_at, entry_low, entry_there, has_names, same_number, texts_short}
-use Rattle.dwz_def_over.proofs.FilesOver.{has_sections, sections_fit}
+use Rattle.dwz_def_over.proofs.FilesOver.{has_sections, sections_fit, has_sup}
 use Rattle.dwz_def_over.proofs.MapsOver.{shown_of, units_keys_mapped}
 use Rattle.dwz_def_over.proofs.NoneTooNarrow.{all_fit}
 use Rattle.dwz_def_over.proofs.OneOver.{at_name, at_named, one, one_at, shared, shared_apart}
@@ -62,9 +63,6 @@ use Rattle.dwz_def_reading.specs.Supplementary.{SpellsSup, sup_bytes}
 use Rattle.dwz_def_reading.proofs.SupLemmas.{sup_written}
 use Rattle.dwz_sup.proofs.LengthLemmas.{sum_len}
 use Rattle.dwz_def_output.specs.FilesAfter.{sum_of}
-use Rattle.dwz_def_reading.specs.Files.{debug_abbrev, debug_info}
-use Rattle.dwz_def_over.proofs.FilesOver.{has_sup}
-use Rattle.dwz_def_over.specs.Written.{AreTiedOver, sup_over}
 use Rattle.std.specs.Prelude.{◌^◌}
 use Rattle.dwz_def_reading.specs.Texts.{NoZero}
 use Rattle.std.proofs.Common.{unwrap_or}

@@ -8,7 +8,9 @@ use Rattle.dwz_def_reading.specs.Meanings.{Common as CommonGiven, Sources, text_
 use Rattle.dwz_def_tops.specs.Spots.{EntryName, FileUnit, file_numbers, units_of}
 use Rattle.dwz_def_tops.specs.Lists.{Nth}
 use Rattle.dwz_def_tops.proofs.Members.{each_more, nth_in}
-use Rattle.dwz_def_images.specs.After.{ArePlaced, Place, at_file, name_of_place, AreOld}
+use Rattle.dwz_def_images.specs.After.{ArePlaced, AreOld}
+use Rattle.dwz_def_tops.specs.UnitNames.{name_of_place}
+use Rattle.dwz_def_reading.specs.Places.{Place, at_file}
 use Rattle.dwz_def_images.specs.Units.{changes, out_units, units_of_file}
 use Rattle.dwz_def_encoding.specs.Bases.{bases_in}
 use Rattle.dwz_def_encoding.specs.Carried.{BasesStand, CarriedUnit, From, OfFile, OperandsStand, ClosedIn}

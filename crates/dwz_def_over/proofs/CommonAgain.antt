@@ -4,9 +4,9 @@ use Rattle.std.specs.Prelude.{◌==◌, ◌&&◌, ◌||◌}
 use Rattle.std.specs.List.{filter}
 use Rattle.std.proofs.lemmas.Bool.{eqb-true}
 use Rattle.dwz_def_reading.specs.Forms.{form_rows}
-use Rattle.dwz_codes.specs.Rows.{RowView, has, shape_of}
-use Rattle.dwz_model.specs.declared.place.Pair.{Pair}
-use Rattle.dwz_codes.specs.declared.shape.Shape.{Shape}
+use Rattle.dwz_def_reading.specs.Rows.{RowView, has, shape_of}
+use Rattle.dwz_def_reading.specs.Pair.{Pair}
+use Rattle.dwz_def_reading.specs.Shape.{Shape}
 use Rattle.dwz_def_reading.specs.Entries.{Mode, RawAttr, RawEntry, SpellsAttrs, SpellsEntry, SpellsFront, UnitContext, codes_of_common, forms_of_common}
 use Rattle.dwz_def_reading.specs.Trees.{End, Entry, Forest, IfChildren, Position, SpellsForest}
 use Rattle.dwz_def_reading.specs.Units.{RawUnit, SpellsTree, SpellsUnit, SpellsUnits, is_read, unit_type}

@@ -3,7 +3,7 @@ use Rattle.std.proofs.Common.{◌≡◌, ℕ, ◌<◌, ◌^◌, ◌++◌, Bool, 
 use Rattle.std.specs.List.{zip}
 use Rattle.std.proofs.lemmas.Slice.Zip.{firsts-zip}
 use Rattle.std.proofs.lemmas.List.{length-map, map-append}
-use Rattle.dwz_model.proofs.OnceLemmas.{none_left}
+use Rattle.dwz_def_reading.proofs.OnceLemmas.{none_left}
 use Rattle.dwz_def_reading.specs.Documents.{Compile, Doc, DwUnit, Entries, Kind, Node, OfType, Partial, kind_map, unit_map}
 use Rattle.dwz_def_reading.specs.Files.{debug_abbrev, debug_info, longest_file, no_files_before, section_of, sources_of}
 use Rattle.dwz_def_reading.specs.ElfNames.{sections_in}
@@ -24,7 +24,7 @@ use Rattle.dwz_def_tops.proofs.Members.{in_map_from}
 use Rattle.dwz_def_tops.proofs.ShownLemmas.{map_shown}
 use Rattle.dwz_def_tops.specs.Spots.{EntryName, in_file, named_files, same_spot, spot_in, units_of}
 use Rattle.dwz_def_images.specs.Units.{common_units, file_units}
-use Rattle.dwz_def_images.proofs.ApartOwn.{keys_joined}
+use Rattle.dwz_def_tops.proofs.UnitKeys.{keys_joined}
 use Rattle.dwz_def_encoding.specs.Meant.{all_entry_keys}
 use Rattle.dwz_def_encoding.specs.Placing.{files_placed, number_of_key}
 use Rattle.dwz_def_encoding.proofs.Rising.{entries_are_keys}

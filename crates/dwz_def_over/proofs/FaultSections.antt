@@ -1,9 +1,9 @@
 -- What refuses files over a common file that stands is of a section.
 use Rattle.std.proofs.Common.{◌≡◌, ℕ, ◌≤◌, Bool, true, false, List, [], ◌∷◌, ◌++◌, length, Option, Some, None, refl, sym, subst, inl, inr, lit≤}
-use Rattle.dwz_model.specs.declared.fault.Fault.{Fault}
-use Rattle.dwz_model.specs.declared.fault.Reason.TheVariants.{Layout}
-use Rattle.dwz_model.specs.declared.fault.Refusal.{Refusal}
-use Rattle.dwz_model.specs.declared.sections.Sections.{Sections}
+use Rattle.dwz_def_reading.specs.Fault.{Fault}
+use Rattle.dwz_def_reading.specs.Reason.TheVariants.{Layout}
+use Rattle.dwz_def_reading.specs.Refusal.{Refusal}
+use Rattle.dwz_def_reading.specs.Sections.{Sections}
 use Rattle.dwz_def_reading.specs.declared.elf.NewContent.{NewContent}
 use Rattle.dwz_def_reading.specs.declared.elf.Section.{Section}
 use Rattle.dwz_def_reading.specs.ElfFaults.{file_fault}

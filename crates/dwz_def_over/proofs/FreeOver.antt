@@ -11,11 +11,11 @@ use Rattle.dwz_def_tops.proofs.Members.{each_in, each_of}
 use Rattle.dwz_def_tops.specs.Alike.{Movable, binding_forms, has_operand, holds_place, is_named, leaves, Apart}
 use Rattle.dwz_def_tops.specs.Spots.{EntryName, FileUnit, PartialOf, Top, tops_of, file_numbers, units_of}
 use Rattle.dwz_def_tops.proofs.Targets.{free_attr, not_named}
-use Rattle.dwz_def_plan.specs.Homes.{Common, Home, Local, Stay, moves}
-use Rattle.dwz_def_plan.specs.IsPlan.{Has, OfSpace, OfTop}
-use Rattle.dwz_def_plan.specs.Moves.{Move, first_unit, image_in, line_attrs, line_in, line_of, names_path, root_of}
-use Rattle.dwz_def_plan.specs.Plan.{PartialUnit}
-use Rattle.dwz_def_plan.proofs.PartRows.{part_is as part_row_is}
+use Rattle.dwz_def_images.specs.Homes.{Common, Home, Local, Stay, moves}
+use Rattle.dwz_def_images.specs.IsPlan.{Has, OfSpace, OfTop}
+use Rattle.dwz_def_images.specs.Moves.{Move, first_unit, image_in, line_attrs, line_in, line_of, names_path, root_of}
+use Rattle.dwz_def_images.specs.Plan.{PartialUnit}
+use Rattle.dwz_def_images.proofs.PartRows.{part_is as part_row_is}
 use Rattle.dwz_def_images.specs.Units.{partial_unit, partial_units, tree}
 use Rattle.dwz_def_images.proofs.NodeLemmas.{EntryOfTop}
 use Rattle.dwz_def_encoding.specs.Bases.{Bases}
@@ -30,7 +30,7 @@ use Rattle.dwz_def_readback.proofs.FreeOperands.{AsksNone, UnitAsksNone, carried
 use Rattle.dwz_def_tops.proofs.TopNumbers.{top_at, tops_numbers}
 use Rattle.dwz_def_taken.proofs.MovableAcross.{across_law}
 use Rattle.dwz_def_taken.proofs.OverLemmas.{common_image, free_two, image_is}
-use Rattle.dwz_def_plan.proofs.UserLemmas.{moves_other}
+use Rattle.dwz_def_images.proofs.UserLemmas.{moves_other}
 use Rattle.dwz_def_tops.proofs.AlikeLaws.{alike_decides}
 use Rattle.std.proofs.lemmas.Bool.{cases_lt}
 use Rattle.std.specs.Option.{is_some}

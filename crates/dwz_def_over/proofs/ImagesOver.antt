@@ -11,21 +11,21 @@ use Rattle.dwz_def_tops.proofs.SeenLemmas.{entry_seen, seen_entries}
 use Rattle.dwz_def_tops.specs.Spots.{FileUnit, EntryName, Top, name_list, rows_of_root, tops_of, units_of, LabelledTop, Row, Within, file_numbers}
 use Rattle.dwz_def_tops.proofs.RowLemmas.{unit_row}
 use Rattle.dwz_def_tops.proofs.Tops.{unit_of}
-use Rattle.dwz_def_plan.specs.Homes.{Common, Home, Local, Rule, Stay, file_of, is_home, moves, users}
-use Rattle.dwz_def_plan.specs.IsPlan.{IsHome, IsPart}
-use Rattle.dwz_def_plan.specs.Moves.{Move, image_in, seen_top}
-use Rattle.dwz_def_plan.specs.Plan.{PartialUnit, image_by, part_row, stand_in, partials}
-use Rattle.dwz_def_plan.proofs.HomeLemmas.{home_is, file_of_top}
-use Rattle.dwz_def_plan.proofs.PlanLemmas.{are_parts, has_rep}
-use Rattle.dwz_def_plan.proofs.PartRows.{part_is}
-use Rattle.dwz_def_plan.proofs.UserLemmas.{moving, moves_self, rep_is, stands_same, used}
+use Rattle.dwz_def_images.specs.Homes.{Common, Home, Local, Rule, Stay, file_of, is_home, moves, users}
+use Rattle.dwz_def_images.specs.IsPlan.{IsHome, IsPart}
+use Rattle.dwz_def_images.specs.Moves.{Move, image_in, seen_top}
+use Rattle.dwz_def_images.specs.Plan.{PartialUnit, image_by, part_row, stand_in, partials}
+use Rattle.dwz_def_images.proofs.HomeLemmas.{home_is, file_of_top}
+use Rattle.dwz_def_images.proofs.PlanLemmas.{are_parts, has_rep}
+use Rattle.dwz_def_images.proofs.PartRows.{part_is}
+use Rattle.dwz_def_images.proofs.UserLemmas.{moving, moves_self, rep_is, stands_same, used}
 use Rattle.dwz_def_images.specs.After.{AreOld}
 use Rattle.dwz_def_images.specs.Units.{common_units, kept_unit, kept_units, out_units, partial_unit, partial_units, tree}
 use Rattle.dwz_def_images.proofs.OldRows.{raw_seen, raw_top}
 use Rattle.dwz_def_images.proofs.TreeLemmas.{seen_top_map, tree_seen}
 use Rattle.dwz_def_readback.proofs.WithinLemmas.{kept_to, parts_to}
 use Rattle.dwz_def_images.proofs.FileLemmas.{files_are}
-use Rattle.dwz_def_images.proofs.OldFiles.{nth_cases}
+use Rattle.dwz_def_tops.proofs.FiledTops.{nth_cases}
 use Rattle.dwz_def_images.proofs.OldLemmas.{top_at}
 use Rattle.dwz_def_taken.proofs.CommonUnits.{common_stands, not_shared}
 use Rattle.dwz_def_taken.proofs.CommonParts.{common_nth, length-common}

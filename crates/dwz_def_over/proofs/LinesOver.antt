@@ -18,11 +18,11 @@ use Rattle.dwz_def_tops.specs.Alike.{any_attr, any_entry, any_in}
 use Rattle.dwz_def_tops.specs.Spots.{EntryName, FileUnit, PartialOf, Top, same_spot, file_numbers, units_of}
 use Rattle.dwz_def_tops.proofs.Targets.{entry_from, top_false}
 use Rattle.dwz_def_tops.proofs.Tops.{unit_of}
-use Rattle.dwz_def_plan.specs.Homes.{Home, Local}
-use Rattle.dwz_def_plan.specs.IsPlan.{Has, OfSpace, SpaceOf}
-use Rattle.dwz_def_plan.specs.Moves.{Move, first_unit, has_path, image_in, line_attrs, line_in, line_of, names_path, root_of}
-use Rattle.dwz_def_plan.specs.Plan.{PartialUnit}
-use Rattle.dwz_def_plan.proofs.PartRows.{part_is as part_row_is}
+use Rattle.dwz_def_images.specs.Homes.{Home, Local}
+use Rattle.dwz_def_images.specs.IsPlan.{Has, OfSpace, SpaceOf}
+use Rattle.dwz_def_images.specs.Moves.{Move, first_unit, has_path, image_in, line_attrs, line_in, line_of, names_path, root_of}
+use Rattle.dwz_def_images.specs.Plan.{PartialUnit}
+use Rattle.dwz_def_images.proofs.PartRows.{part_is as part_row_is}
 use Rattle.dwz_def_images.specs.After.{AreOld}
 use Rattle.dwz_def_images.specs.Units.{partial_unit, tree}
 use Rattle.dwz_def_images.proofs.NodeLemmas.{EntryOfTop}
@@ -45,7 +45,6 @@ use Rattle.dwz_def_taken.proofs.NamesOver.{named_over}
 use Rattle.dwz_def_taken.specs.Beside.{reused_of}
 use Rattle.dwz_def_taken.specs.declared.fixed.Fixed.{Fixed}
 use Rattle.dwz_def_over.proofs.LocalParts.{first_is, local_file, local_kinds, local_origin, local_part, IsLocal, in_part}
-use Rattle.dwz_def_taken.specs.declared.fixed.Fixed.{Fixed}
 
 -- ---- a root's offset
 

@@ -13,18 +13,18 @@ use Rattle.dwz_def_tops.specs.Alike.{Apart, Movable}
 use Rattle.dwz_def_tops.proofs.AlikeLaws.{alike_decides}
 use Rattle.dwz_def_tops.specs.Seen.{named_value}
 use Rattle.dwz_def_tops.specs.Spots.{EntryName, FileUnit, PartialOf, Top, file_numbers, tops_of}
-use Rattle.dwz_def_plan.specs.Homes.{Common, Local, Rule, home, is_home, moves, rep, users}
-use Rattle.dwz_def_plan.specs.IsPlan.{Has, IsHome, IsPart, OfSpace, OfTop}
-use Rattle.dwz_def_plan.specs.Moves.{Move, first_unit, line_attrs, part_at, root_in_part}
-use Rattle.dwz_def_plan.specs.Plan.{PartialUnit, part_row, partials}
-use Rattle.dwz_def_plan.proofs.HomeLemmas.{file_of_top, home_is}
-use Rattle.dwz_def_plan.proofs.PartRows.{part_is as part_row_is}
-use Rattle.dwz_def_plan.proofs.PlanLemmas.{are_parts}
-use Rattle.dwz_def_plan.proofs.UserLemmas.{Fair, moves_other, moves_self, moving, rep_is, used, used_by}
+use Rattle.dwz_def_images.specs.Homes.{Common, Local, Rule, home, is_home, moves, rep, users}
+use Rattle.dwz_def_images.specs.IsPlan.{Has, IsHome, IsPart, OfSpace, OfTop}
+use Rattle.dwz_def_images.specs.Moves.{Move, first_unit, line_attrs, part_at, root_in_part}
+use Rattle.dwz_def_images.specs.Plan.{PartialUnit, part_row, partials}
+use Rattle.dwz_def_images.proofs.HomeLemmas.{file_of_top, home_is}
+use Rattle.dwz_def_images.proofs.PartRows.{part_is as part_row_is}
+use Rattle.dwz_def_images.proofs.PlanLemmas.{are_parts}
+use Rattle.dwz_def_images.proofs.UserLemmas.{Fair, moves_other, moves_self, moving, rep_is, used, used_by}
 use Rattle.dwz_def_images.specs.Held.{Kinded, NameNone}
 use Rattle.dwz_def_images.proofs.HeldLemmas.{part_found}
 use Rattle.dwz_def_images.proofs.KindLemmas.{part_row_kinded, top_plain}
-use Rattle.dwz_def_images.proofs.OldFiles.{nth_cases}
+use Rattle.dwz_def_tops.proofs.FiledTops.{nth_cases}
 use Rattle.dwz_def_readback.specs.Files.{bases_at, origin_in, unit_in_part}
 use Rattle.dwz_def_readback.proofs.OriginLemmas.{first_there, ordered}
 use Rattle.dwz_def_taken.specs.declared.fixed.Fixed.{Fixed}
@@ -36,7 +36,6 @@ use Rattle.dwz_def_taken.proofs.ClosedOver.{local_rows}
 use Rattle.dwz_def_taken.proofs.CommonParts.{common_nth, length-common}
 use Rattle.dwz_def_taken.proofs.NamesOver.{named_over}
 use Rattle.dwz_def_taken.proofs.OverLemmas.{fair, free_two}
-use Rattle.dwz_def_taken.specs.declared.fixed.Fixed.{Fixed}
 
 module _ (docs : List (Doc ℕ)) (common : Doc ℕ) (fixed : Fixed) (p : ArePlacedOver docs common) (fx : IsFixed (reused_of docs common) fixed) where
   abbrev r : Reused

@@ -1,6 +1,6 @@
 -- At most one refusal of what is written over a common file that stands is the first.
 use Rattle.std.proofs.Common.{◌≡◌, ℕ, List, None, sym, ap, ◌∙◌, arith}
-use Rattle.dwz_model.specs.declared.fault.Fault.{Fault}
+use Rattle.dwz_def_reading.specs.Fault.{Fault}
 use Rattle.dwz_def_reading.specs.declared.elf.NewContent.{NewContent}
 use Rattle.dwz_def_reading.specs.Shared.{ListOperand}
 use Rattle.dwz_def_output.specs.Changed.{changes_by}

@@ -1,7 +1,7 @@
 -- What is read of files over a finished common file, and taken of that, is fixed by the bytes.
 use Rattle.std.proofs.Common.{◌≡◌, ◌↔◌, inl, inr, ℕ, Bool, true, false, List, [], ◌∷◌, length, Result, Ok, Err, refl, sym, ap, subst, ◌∙◌}
-use Rattle.dwz_model.specs.declared.fault.Fault.{Fault}
-use Rattle.dwz_model.specs.declared.fault.Refusal.{Refusal}
+use Rattle.dwz_def_reading.specs.Fault.{Fault}
+use Rattle.dwz_def_reading.specs.Refusal.{Refusal}
 use Rattle.dwz_def_reading.specs.Documents.{Doc}
 use Rattle.dwz_def_reading.specs.Files.{First, Limits, ReadAll, ReadsBy, file_meaning_by, files_meaning, limits_after, no_files_before}
 use Rattle.dwz_def_reading.specs.Finished.{BesideDocs, FirstBeside, rule_of_common}

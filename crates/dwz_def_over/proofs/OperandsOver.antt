@@ -1,8 +1,8 @@
 -- After, over a finished common file, operands name entries of their unit, or of their file: what an operand names stays where it is.
 use Rattle.std.proofs.Common.{◌≡◌, ◌⊎◌, ◌&&◌, ◌==◌, ℕ, Bool, true, List, refl, sym, ap, subst, ◌∙◌, inl, inr, eq-eqb, eqb-true}
 use Rattle.std.specs.List.{filter, list_any}
-use Rattle.dwz_model.specs.declared.place.Base.{Base}
-use Rattle.dwz_model.specs.declared.place.Base.TheVariants.{Unit as FromUnit, Info as FromInfo}
+use Rattle.dwz_def_reading.specs.Base.{Base}
+use Rattle.dwz_def_reading.specs.Base.TheVariants.{Unit as FromUnit, Info as FromInfo}
 use Rattle.dwz_def_reading.specs.Lists.{Each, In}
 use Rattle.dwz_def_reading.proofs.ListFacts.{in_right}
 use Rattle.dwz_def_reading.specs.Documents.{Attr, DwUnit, Node, attr_map, Doc}
@@ -13,9 +13,9 @@ use Rattle.dwz_def_tops.proofs.Members.{any_true, each_append, each_in, each_mor
 use Rattle.dwz_def_tops.specs.Alike.{any_attr, any_entry, has_operand, is_in, names_in_unit, operand_names}
 use Rattle.dwz_def_tops.specs.Spots.{EntryName, FileUnit, file_numbers, units_of}
 use Rattle.dwz_def_tops.proofs.Targets.{entry_true, or_first, or_second}
-use Rattle.dwz_def_plan.specs.Homes.{Local}
-use Rattle.dwz_def_plan.specs.Moves.{Move, image_in}
-use Rattle.dwz_def_plan.specs.Plan.{import_attr}
+use Rattle.dwz_def_images.specs.Homes.{Local}
+use Rattle.dwz_def_images.specs.Moves.{Move, image_in}
+use Rattle.dwz_def_images.specs.Plan.{import_attr}
 use Rattle.dwz_def_images.specs.After.{AreOld, IsEntryOf}
 use Rattle.dwz_def_images.specs.Units.{kept_unit, kept_units, out_units, partial_units, units_of_file}
 use Rattle.dwz_def_encoding.specs.Bases.{Bases}

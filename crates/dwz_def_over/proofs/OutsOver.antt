@@ -8,16 +8,17 @@ use Rattle.dwz_def_tops.proofs.Members.{each_append, each_of, in_map_from}
 use Rattle.dwz_def_tops.specs.Spots.{EntryName, FileUnit, PartialOf, PartialRoot, Top, rows_of_root, tops_of, file_numbers}
 use Rattle.dwz_def_tops.proofs.RowLemmas.{unit_row}
 use Rattle.dwz_def_tops.proofs.Tops.{unit_of}
-use Rattle.dwz_def_plan.specs.IsPlan.{Has, OfSpace, OfTop}
-use Rattle.dwz_def_plan.specs.Homes.{Local}
-use Rattle.dwz_def_plan.specs.Moves.{Move, image_in}
-use Rattle.dwz_def_plan.proofs.RowParts.{kept_is}
-use Rattle.dwz_def_plan.proofs.PartRows.{part_is as part_row_is}
+use Rattle.dwz_def_images.specs.IsPlan.{Has, OfSpace, OfTop}
+use Rattle.dwz_def_images.specs.Homes.{Local}
+use Rattle.dwz_def_images.specs.Moves.{Move, image_in}
+use Rattle.dwz_def_images.proofs.RowParts.{kept_is}
+use Rattle.dwz_def_images.proofs.PartRows.{part_is as part_row_is}
 use Rattle.dwz_def_readback.proofs.HomeLemmas.{kept_from, parts_from}
 use Rattle.dwz_def_readback.proofs.SpaceLemmas.{NameCarried, space_carried, top_names}
-use Rattle.dwz_def_plan.specs.Plan.{PartialUnit, import_of, imports, kept_row}
-use Rattle.dwz_def_plan.proofs.KeptLemmas.{are_imports}
-use Rattle.dwz_def_images.specs.After.{AreOld, IsBelow, IsNamedBelow}
+use Rattle.dwz_def_images.specs.Plan.{PartialUnit, import_of, imports, kept_row}
+use Rattle.dwz_def_images.proofs.KeptLemmas.{are_imports}
+use Rattle.dwz_def_images.specs.After.{AreOld, IsBelow}
+use Rattle.dwz_def_tops.specs.UnitNames.{IsNamedBelow}
 use Rattle.dwz_def_images.specs.Units.{changes, kept_below, kept_unit, kept_units, out_units, partial_unit, partial_units, tree}
 use Rattle.dwz_def_images.proofs.KindLemmas.{kept_kinded}
 use Rattle.dwz_def_images.proofs.NodeLemmas.{EntryOfTop, FromLast, FromSpace, FromTop, NodeFrom, below_row, node_from, top_below, type_kept, under_below}
@@ -37,7 +38,6 @@ use Rattle.dwz_def_taken.specs.Over.{move_over}
 use Rattle.dwz_def_taken.proofs.NamesOver.{named_over}
 use Rattle.dwz_def_taken.specs.declared.fixed.Fixed.{Fixed}
 use Rattle.dwz_def_over.proofs.LocalParts.{local_file, local_kinds, local_origin, local_part, tops_there, IsLocal, in_part}
-use Rattle.dwz_def_taken.specs.declared.fixed.Fixed.{Fixed}
 
 module _ (from : From) (origin : Bases) where
   below_node : (g : Entries EntryName) → CarriedEntries from origin g → (e : Node EntryName) → IsBelow e g → CarriedNode from origin e

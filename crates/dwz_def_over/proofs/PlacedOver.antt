@@ -1,7 +1,7 @@
 -- Files, and a finished common file, that were read have places, and the common file is read back as it was read.
 use Rattle.std.proofs.Common.{◌≡◌, ℕ, ◌+◌, List, [], ◌∷◌, ◌++◌, length, map, Some, None, refl, sym, ap, subst, ◌∙◌, inl, inr}
-use Rattle.dwz_model.proofs.Members.{in_map_from}
-use Rattle.dwz_model.proofs.OnceLemmas.{none_map}
+use Rattle.dwz_def_reading.proofs.Members.{in_map_from}
+use Rattle.dwz_def_reading.proofs.OnceLemmas.{none_map}
 use Rattle.dwz_def_reading.specs.Documents.{Compile, Doc, DwUnit, Kind, OfType, unit_map}
 use Rattle.dwz_def_reading.specs.Entries.{Mode, RawEntry, SpellsEntry, UnitContext, root_position, of_common}
 use Rattle.dwz_def_reading.specs.Files.{Limits, ReadsBy, debug_abbrev, debug_info, no_files_before, sources_of}

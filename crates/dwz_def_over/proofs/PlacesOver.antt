@@ -12,8 +12,9 @@ use Rattle.dwz_def_tops.proofs.Members.{nth_from, any_from}
 use Rattle.dwz_def_tops.proofs.SeenLemmas.{root_in, seen_in}
 use Rattle.dwz_def_tops.proofs.ShownLemmas.{entry_key, map_shown, shown_then, unit_key}
 use Rattle.dwz_def_tops.specs.Spots.{EntryName, file_numbers, units_of, Top, same_spot, tops_of}
-use Rattle.dwz_def_plan.specs.Homes.{IsChoice, Rule, home, moves}
-use Rattle.dwz_def_images.specs.After.{Place, StandAsNamed, at_file}
+use Rattle.dwz_def_images.specs.Homes.{IsChoice, Rule, home, moves}
+use Rattle.dwz_def_images.specs.After.{StandAsNamed}
+use Rattle.dwz_def_reading.specs.Places.{Place, at_file}
 use Rattle.dwz_def_images.specs.Units.{changes, common_units, file_units, out_units, all_units}
 use Rattle.dwz_def_readback.specs.Back.{AreAtOld, CanWriteBy, IsPlacingBy, run_by}
 use Rattle.dwz_def_readback.specs.Files.{Run, Stored, Finished, Stands, common_out_by, file_of_name_by, file_out_by, files_out_by, fitted_by, place_of_by}
@@ -22,11 +23,11 @@ use Rattle.dwz_def_readback.proofs.WithinLemmas.{closed_at}
 use Rattle.dwz_def_images.proofs.BackLemmas.{stands_back}
 use Rattle.dwz_def_images.proofs.StillLemmas.{still}
 use Rattle.dwz_def_images.proofs.FileLemmas.{numbers_rise}
-use Rattle.dwz_def_images.proofs.ApartOwn.{keys_joined}
+use Rattle.dwz_def_tops.proofs.UnitKeys.{keys_joined}
 use Rattle.dwz_def_tops.proofs.AlikeLaws.{alike_decides}
 use Rattle.dwz_def_tops.specs.Deciding.{alike_test}
 use Rattle.dwz_def_tops.specs.Alike.{Apart}
-use Rattle.dwz_def_plan.specs.Moves.{plan}
+use Rattle.dwz_def_images.specs.Moves.{plan}
 use Rattle.dwz_def_encoding.specs.Placing.{files_keys}
 use Rattle.dwz_def_encoding.proofs.SameLemmas.{spots_same}
 use Rattle.dwz_def_readback.proofs.NameLemmas.{file_is, file_names_by, fitted_names_by}

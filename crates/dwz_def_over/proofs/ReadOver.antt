@@ -1,6 +1,6 @@
 -- Contents that read behind a common file, file by file, with the units as they are stored.
 use Rattle.std.proofs.Common.{◌≡◌, ℕ, suc, ◌+◌, List, [], ◌∷◌, length, get_or, Result, Ok, Err, refl, sym, ap, subst, inl, inr, arith, Bool, false}
-use Rattle.dwz_model.specs.declared.fault.Fault.{Fault}
+use Rattle.dwz_def_reading.specs.Fault.{Fault}
 use Rattle.dwz_def_reading.specs.Units.{RawUnit}
 use Rattle.dwz_def_reading.specs.Values.{AreBytes}
 use Rattle.dwz_def_reading.specs.Documents.{Doc}

@@ -10,10 +10,12 @@ use Rattle.dwz_def_reading.specs.Shared.{ListOperand}
 use Rattle.dwz_def_tops.specs.Lists.{Nth}
 use Rattle.dwz_def_tops.proofs.Members.{each_append, each_in, each_more, each_of, each_split, nth_in}
 use Rattle.dwz_def_tops.specs.Spots.{EntryName, FileUnit, in_file, named, named_files, spot_in, spots_from, tops_among, units_of, file_numbers}
-use Rattle.dwz_def_plan.specs.Homes.{Local}
-use Rattle.dwz_def_plan.specs.Moves.{Move, image_in}
-use Rattle.dwz_def_plan.specs.Plan.{import_attr}
-use Rattle.dwz_def_images.specs.After.{at_file, name_from, name_of_place, AreOld}
+use Rattle.dwz_def_images.specs.Homes.{Local}
+use Rattle.dwz_def_images.specs.Moves.{Move, image_in}
+use Rattle.dwz_def_images.specs.Plan.{import_attr}
+use Rattle.dwz_def_images.specs.After.{AreOld}
+use Rattle.dwz_def_tops.specs.UnitNames.{name_from, name_of_place}
+use Rattle.dwz_def_reading.specs.Places.{at_file}
 use Rattle.dwz_def_images.specs.Units.{kept_unit, kept_units, out_units, partial_units}
 use Rattle.dwz_def_encoding.specs.Bases.{Bases, bases_in}
 use Rattle.dwz_def_encoding.specs.Carried.{CarriedUnit, From, OfFile}

@@ -6,9 +6,9 @@ use Rattle.dwz_def_reading.specs.Lists.{In}
 use Rattle.dwz_def_tops.specs.Spots.{EntryName, file_numbers}
 use Rattle.dwz_def_tops.specs.Lists.{Nth}
 use Rattle.dwz_def_tops.specs.Shown.{OnePlace, UnitsShown, units_keys}
-use Rattle.dwz_def_images.specs.After.{Place, at_file}
+use Rattle.dwz_def_reading.specs.Places.{Place, at_file}
 use Rattle.dwz_def_images.specs.Units.{all_units, changes, common_units, file_units, out_units}
-use Rattle.dwz_def_images.proofs.ApartOwn.{keys_joined}
+use Rattle.dwz_def_tops.proofs.UnitKeys.{keys_joined}
 use Rattle.dwz_def_images.proofs.OldFiles.{shown_append}
 use Rattle.dwz_def_encoding.specs.Writing.{Numbering}
 use Rattle.dwz_def_encoding.proofs.Rising.{place_one}
@@ -23,7 +23,6 @@ use Rattle.dwz_def_taken.specs.declared.fixed.Fixed.{Fixed}
 use Rattle.dwz_def_taken.specs.Takes.{IsFixed}
 use Rattle.dwz_def_taken.specs.Over.{move_over}
 use Rattle.dwz_def_taken.specs.Beside.{reused_of}
-use Rattle.dwz_def_taken.specs.declared.fixed.Fixed.{Fixed}
 
 module _ (docs : List (Doc ℕ)) (common : Doc ℕ) (fixed : Fixed) (p : ArePlacedOver docs common) (fx : IsFixed (reused_of docs common) fixed) (input : Stored) (c : Finished)
     (can : CanWriteBy (Stands c) (run_by (move_over (reused_of docs common) fixed (file_numbers 0 docs)) docs input)) (g : EntryName → Place)

@@ -4,7 +4,7 @@ use Rattle.std.proofs.Common.{◌≡◌, ℕ, ◌+◌, ◌-◌, List, [], ◌∷
 use Rattle.dwz_def_reading.specs.Input.{input}
 use Rattle.dwz_def_reading.specs.Spelling.{le_bytes}
 use Rattle.dwz_def_reading.specs.Lists.{In}
-use Rattle.dwz_model.specs.declared.place.Base.{Base}
+use Rattle.dwz_def_reading.specs.Base.{Base}
 use Rattle.dwz_def_reading.specs.Documents.{Doc}
 use Rattle.dwz_def_reading.specs.Files.{HaveGoodRanges, around_of, debug_aranges, is_place_of}
 use Rattle.dwz_def_reading.specs.Patching.{with_units, written_at}

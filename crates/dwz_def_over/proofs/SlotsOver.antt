@@ -4,7 +4,7 @@ use Rattle.std.specs.Prelude.{is_some}
 use Rattle.std.proofs.lemmas.List.{length-take}
 use Rattle.std.proofs.Math.Nat.{pow-le-pow_right}
 use Rattle.dwz_def_reading.specs.Spelling.{le_bytes}
-use Rattle.dwz_model.specs.declared.place.Base.TheVariants.{Info as FromInfo}
+use Rattle.dwz_def_reading.specs.Base.TheVariants.{Info as FromInfo}
 use Rattle.dwz_def_reading.specs.OffsetTables.{AreSlots}
 use Rattle.dwz_def_reading.specs.Pruning.{is_kept, new_number, pruned}
 use Rattle.dwz_def_reading.specs.Texts.{text_at}

@@ -10,16 +10,16 @@ use Rattle.dwz_def_tops.specs.Spaces.{space_text, tops_under}
 use Rattle.dwz_def_tops.proofs.SpaceLemmas.{text_map, under_count}
 use Rattle.dwz_def_tops.specs.Spots.{ASpace, ATop, FileUnit, InChain, InType, Import, Nothing, PartialOf, PartialRoot, RootOf, Row, SpaceAt, SpaceName, EntryName, Top, UnitOf, Within, below_spots, entry_spots, in_file, name_of, named_files, named_in, no_name, row_below, row_in, row_tops, spot_in, spots_from, top_count, top_spots, tops_among, tops_from, tops_of, units_of, file_numbers}
 use Rattle.dwz_def_tops.proofs.RowLemmas.{RowIs, row_is}
-use Rattle.dwz_def_plan.specs.Homes.{Home, Local, moves, same_home}
-use Rattle.dwz_def_plan.specs.Moves.{Move, image_in}
-use Rattle.dwz_def_plan.specs.Plan.{PartialUnit, image_by}
-use Rattle.dwz_def_plan.proofs.PlanLemmas.{home_true}
+use Rattle.dwz_def_images.specs.Homes.{Home, Local, moves, same_home}
+use Rattle.dwz_def_images.specs.Moves.{Move, image_in}
+use Rattle.dwz_def_images.specs.Plan.{PartialUnit, image_by}
+use Rattle.dwz_def_images.proofs.PlanLemmas.{home_true}
 use Rattle.dwz_def_images.specs.Images.{InNoTop}
 use Rattle.dwz_def_images.specs.Units.{changes, kept_unit, kept_units, out_units, partial_unit, partial_units, units_of_file}
 use Rattle.dwz_def_images.proofs.EntryLemmas.{kept_still, top_changes}
-use Rattle.dwz_def_images.proofs.OldFiles.{counted, filed_count, filed_length}
+use Rattle.dwz_def_tops.proofs.FiledTops.{counted, filed_count, filed_length, tops_append}
 use Rattle.dwz_def_tops.proofs.NameLists.{count_map, spots_space, spots_top}
-use Rattle.dwz_def_images.proofs.StillLemmas.{at_append, at_other, at_own, tops_append}
+use Rattle.dwz_def_images.proofs.StillLemmas.{at_append, at_other, at_own}
 use Rattle.dwz_def_images.proofs.ApartOwn.{Old}
 use Rattle.dwz_def_taken.proofs.OwnUnits.{stands_fixed}
 use Rattle.std.proofs.lemmas.Bool.{or_right}

@@ -7,9 +7,9 @@ use Rattle.dwz_def_reading.proofs.ListFacts.{in_map}
 use Rattle.dwz_def_tops.specs.Lists.{Nth}
 use Rattle.dwz_def_tops.specs.Spots.{EntryName, Import, file_numbers}
 use Rattle.dwz_def_tops.proofs.Members.{in_map_from}
-use Rattle.dwz_def_plan.specs.IsPlan.{row}
-use Rattle.dwz_def_plan.specs.Plan.{import_of, partials}
-use Rattle.dwz_def_plan.proofs.KeptLemmas.{are_imports}
+use Rattle.dwz_def_images.specs.IsPlan.{row}
+use Rattle.dwz_def_images.specs.Plan.{import_of, partials}
+use Rattle.dwz_def_images.proofs.KeptLemmas.{are_imports}
 use Rattle.dwz_def_images.specs.After.{IsBelow}
 use Rattle.dwz_def_images.proofs.NodeLemmas.{below_row}
 use Rattle.dwz_def_taken.specs.Over.{common_part, common_parts}

@@ -13,14 +13,15 @@ use Rattle.dwz_def_tops.specs.Spaces.{IsUnder}
 use Rattle.dwz_def_tops.specs.Spots.{FileUnit, PartialRoot, EntryName, Top, rows_of_root, row_tops, tops_of, units_of, file_numbers}
 use Rattle.dwz_def_tops.proofs.RowLemmas.{unit_row, row_unit}
 use Rattle.dwz_def_tops.proofs.Tops.{row_top, unit_of}
-use Rattle.dwz_def_plan.specs.Homes.{Local}
-use Rattle.dwz_def_plan.specs.IsPlan.{OfSpace, OfTop}
-use Rattle.dwz_def_plan.specs.Moves.{Move, image_in, seen_top}
-use Rattle.dwz_def_plan.specs.Plan.{PartialUnit, import_of, imports, kept_row}
-use Rattle.dwz_def_plan.proofs.HomeLemmas.{file_at}
-use Rattle.dwz_def_plan.proofs.KeptLemmas.{are_imports}
-use Rattle.dwz_def_plan.proofs.RowParts.{kept_is}
-use Rattle.dwz_def_images.specs.After.{AreOld, IsNamedBelow}
+use Rattle.dwz_def_images.specs.Homes.{Local}
+use Rattle.dwz_def_images.specs.IsPlan.{OfSpace, OfTop}
+use Rattle.dwz_def_images.specs.Moves.{Move, image_in, seen_top}
+use Rattle.dwz_def_images.specs.Plan.{PartialUnit, import_of, imports, kept_row}
+use Rattle.dwz_def_images.proofs.HomeLemmas.{file_at}
+use Rattle.dwz_def_images.proofs.KeptLemmas.{are_imports}
+use Rattle.dwz_def_images.proofs.RowParts.{kept_is}
+use Rattle.dwz_def_images.specs.After.{AreOld}
+use Rattle.dwz_def_tops.specs.UnitNames.{IsNamedBelow}
 use Rattle.dwz_def_images.specs.Held.{NameNone}
 use Rattle.dwz_def_images.specs.Units.{changes, common_units, kept_unit, kept_units, out_units, partial_unit, partial_units, tree, units_of_file}
 use Rattle.dwz_def_images.proofs.ClosedLemmas.{none_seen, row_seen}

@@ -1,11 +1,11 @@
 -- Laws on what is written of files over a finished common file.
 use Rattle.std.specs.Prelude.{◌≡◌, ◌⊎◌, ◌↔◌, ℕ, ◌<◌, ◌≤◌, List, length}
-use Rattle.dwz_model.specs.declared.fault.Refusal.{Refusal}
+use Rattle.dwz_def_reading.specs.Refusal.{Refusal}
 use Rattle.dwz_def_reading.specs.Finished.{FirstBeside}
 use Rattle.dwz_def_reading.specs.Lists.{Each}
 use Rattle.dwz_def_reading.specs.Texts.{NoZero}
 use Rattle.dwz_def_reading.specs.Values.{AreBytes}
-use Rattle.dwz_def_plan.specs.Plan.{import_of, imports}
+use Rattle.dwz_def_images.specs.Plan.{import_of, imports}
 use Rattle.dwz_def_images.specs.After.{IsBelow}
 use Rattle.dwz_def_taken.specs.Beside.{offsets_doc}
 use Rattle.dwz_def_taken.specs.Laws.{ArePlacedOver}

@@ -7,7 +7,7 @@ use Rattle.dwz_def_reading.specs.Finished.{BesideDocs, rule_of_common}
 use Rattle.dwz_def_reading.specs.Units.{RawUnit}
 use Rattle.dwz_def_tops.specs.Shown.{units_keys}
 use Rattle.dwz_def_tops.specs.Spots.{EntryName, file_numbers}
-use Rattle.dwz_def_plan.specs.Moves.{Move}
+use Rattle.dwz_def_images.specs.Moves.{Move}
 use Rattle.dwz_def_readback.specs.Back.{run_by}
 use Rattle.dwz_def_readback.specs.Files.{CommonFile, Finished, Run, Stands}
 use Rattle.dwz_def_output.specs.Written.{ArePrunable, stored_behind}

@@ -1,6 +1,6 @@
 -- What is written of files over a finished common file, or what refuses it; and what stands after.
 use Rattle.std.specs.Prelude.{◌≡◌, ◌↔◌, ℕ, true, false, List, ◌++◌, map, Some, None}
-use Rattle.dwz_model.specs.declared.fault.Refusal.{Refusal}
+use Rattle.dwz_def_reading.specs.Refusal.{Refusal}
 use Rattle.dwz_def_reading.specs.Documents.{Doc, unit_map}
 use Rattle.dwz_def_reading.specs.Lists.{In}
 use Rattle.dwz_def_reading.specs.Meanings.{Common}
@@ -9,8 +9,10 @@ use Rattle.dwz_def_tops.specs.Lists.{Nth}
 use Rattle.dwz_def_tops.specs.Seen.{SameAlong}
 use Rattle.dwz_def_tops.specs.Shown.{units_keys}
 use Rattle.dwz_def_tops.specs.Spots.{EntryName}
-use Rattle.dwz_def_plan.specs.Moves.{image_in}
-use Rattle.dwz_def_images.specs.After.{Place, name_of_place, units_placed_from}
+use Rattle.dwz_def_images.specs.Moves.{image_in}
+use Rattle.dwz_def_images.specs.After.{units_placed_from}
+use Rattle.dwz_def_tops.specs.UnitNames.{name_of_place}
+use Rattle.dwz_def_reading.specs.Places.{Place}
 use Rattle.dwz_def_images.specs.Units.{all_units, changes}
 use Rattle.dwz_def_readback.specs.AllFiles.{SaysStill}
 use Rattle.dwz_def_readback.specs.Back.{AreAtOld, IsPlacingBy, RangesBackBy, SaysPlacedBy, SaysUnits, files_back_by, given_by}

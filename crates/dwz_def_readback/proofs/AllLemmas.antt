@@ -10,12 +10,14 @@ use Rattle.dwz_def_tops.specs.Alike.{IsAlike, TopScope}
 use Rattle.dwz_def_tops.specs.Spots.{EntryName, FileUnit, PartialOf, Top, file_numbers, in_file, named, named_files, spot_in, spots_from, units_of}
 use Rattle.dwz_def_tops.specs.Lists.{Nth}
 use Rattle.dwz_def_tops.proofs.Members.{each_more, each_of, nth_in}
-use Rattle.dwz_def_plan.specs.Homes.{Common, Home, IsChoice, Rule}
-use Rattle.dwz_def_plan.specs.Moves.{line_attrs, line_in, names_path, plan, root_in_part}
-use Rattle.dwz_def_plan.specs.Plan.{PartialUnit}
-use Rattle.dwz_def_plan.specs.IsPlan.{Has, OfTop}
-use Rattle.dwz_def_plan.proofs.PartRows.{part_is as part_row_is}
-use Rattle.dwz_def_images.specs.After.{ArePlaced, FilesSame, Place, Replaces, at_file, name_of_place}
+use Rattle.dwz_def_images.specs.Homes.{Common, Home, IsChoice, Rule}
+use Rattle.dwz_def_images.specs.Moves.{line_attrs, line_in, names_path, plan, root_in_part}
+use Rattle.dwz_def_images.specs.Plan.{PartialUnit}
+use Rattle.dwz_def_images.specs.IsPlan.{Has, OfTop}
+use Rattle.dwz_def_images.proofs.PartRows.{part_is as part_row_is}
+use Rattle.dwz_def_images.specs.After.{ArePlaced, FilesSame, Replaces}
+use Rattle.dwz_def_tops.specs.UnitNames.{name_of_place}
+use Rattle.dwz_def_reading.specs.Places.{Place, at_file}
 use Rattle.dwz_def_images.specs.Units.{all_units, changes, common_units, out_units, partial_units, units_of_file}
 use Rattle.dwz_def_images.proofs.FileLemmas.{files_same, replaced}
 use Rattle.dwz_def_images.proofs.HeldLemmas.{part_found, row_found}

@@ -7,11 +7,11 @@ use Rattle.dwz_def_tops.specs.Lists.{Nth}
 use Rattle.dwz_def_tops.proofs.Members.{in_map_from}
 use Rattle.dwz_def_tops.specs.Spots.{EntryName, FileUnit, Top, rows_of_root}
 use Rattle.dwz_def_tops.proofs.RowLemmas.{unit_row}
-use Rattle.dwz_def_plan.specs.IsPlan.{Has, OfSpace, OfTop}
-use Rattle.dwz_def_plan.specs.Moves.{Move, image_in}
-use Rattle.dwz_def_plan.specs.Plan.{import_attr, import_of, imports, kept_row}
-use Rattle.dwz_def_plan.proofs.KeptLemmas.{are_imports}
-use Rattle.dwz_def_plan.proofs.RowParts.{kept_is}
+use Rattle.dwz_def_images.specs.IsPlan.{Has, OfSpace, OfTop}
+use Rattle.dwz_def_images.specs.Moves.{Move, image_in}
+use Rattle.dwz_def_images.specs.Plan.{import_attr, import_of, imports, kept_row}
+use Rattle.dwz_def_images.proofs.KeptLemmas.{are_imports}
+use Rattle.dwz_def_images.proofs.RowParts.{kept_is}
 use Rattle.dwz_def_images.specs.After.{IsBelow}
 use Rattle.dwz_def_images.specs.Held.{Kinded}
 use Rattle.dwz_def_images.specs.Units.{changes, kept_below, kept_unit, tree}

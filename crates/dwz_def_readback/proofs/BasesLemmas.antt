@@ -5,10 +5,11 @@ use Rattle.dwz_def_tops.specs.Lists.{Nth}
 use Rattle.dwz_def_reading.specs.Lists.{Each}
 use Rattle.dwz_def_tops.proofs.Members.{each_append, each_of}
 use Rattle.dwz_def_tops.specs.Spots.{EntryName, FileUnit, rows_of_root}
-use Rattle.dwz_def_plan.specs.Homes.{Local}
-use Rattle.dwz_def_plan.specs.Moves.{Move, image_in}
-use Rattle.dwz_def_plan.specs.Plan.{PartialUnit}
-use Rattle.dwz_def_images.specs.After.{AreOld, IsNamedBelow}
+use Rattle.dwz_def_images.specs.Homes.{Local}
+use Rattle.dwz_def_images.specs.Moves.{Move, image_in}
+use Rattle.dwz_def_images.specs.Plan.{PartialUnit}
+use Rattle.dwz_def_images.specs.After.{AreOld}
+use Rattle.dwz_def_tops.specs.UnitNames.{IsNamedBelow}
 use Rattle.dwz_def_images.specs.Units.{kept_unit, kept_units, out_units, partial_unit, partial_units}
 use Rattle.dwz_def_encoding.specs.Bases.{bases_in}
 use Rattle.dwz_def_encoding.specs.Carried.{BasesStand, ComesFromItself, FileStands}

@@ -1,9 +1,9 @@
 -- What is shown of the root of a partial unit.
 use Rattle.std.proofs.Common.{◌≡◌, ℕ, List}
 use Rattle.dwz_def_tops.specs.Spots.{EntryName, FileUnit, PartialOf}
-use Rattle.dwz_def_plan.specs.Homes.{Home}
-use Rattle.dwz_def_plan.specs.Moves.{Move}
-use Rattle.dwz_def_plan.specs.Plan.{PartialUnit}
+use Rattle.dwz_def_images.specs.Homes.{Home}
+use Rattle.dwz_def_images.specs.Moves.{Move}
+use Rattle.dwz_def_images.specs.Plan.{PartialUnit}
 use Rattle.dwz_def_tops.specs.Lists.{Nth}
 use Rattle.dwz_def_reading.specs.Lists.{Each}
 use Rattle.dwz_def_encoding.specs.Carried.{CarriedAttr, From}

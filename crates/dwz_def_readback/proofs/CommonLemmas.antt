@@ -15,16 +15,17 @@ use Rattle.dwz_def_tops.proofs.AlikePer.{alike_per}
 use Rattle.dwz_def_tops.proofs.RowLemmas.{unit_row}
 use Rattle.dwz_def_tops.proofs.Targets.{Inside, RefTo, RefsOf, RefsOfAttr, RefsOfTop}
 use Rattle.dwz_def_tops.proofs.Tops.{row_top, unit_of}
-use Rattle.dwz_def_plan.specs.Homes.{Common, Home, IsChoice, Local, Rule, Stay, candidate, file_of, home, is_home, moves, rep, users}
-use Rattle.dwz_def_plan.specs.IsPlan.{Has, IsHome, IsPart, OfTop}
-use Rattle.dwz_def_plan.specs.Moves.{Move, image_in, plan, seen_top}
-use Rattle.dwz_def_plan.specs.Plan.{PartialUnit, stand_in}
-use Rattle.dwz_def_plan.proofs.HomeLemmas.{home_is}
-use Rattle.dwz_def_plan.proofs.PlanLemmas.{are_parts}
-use Rattle.dwz_def_plan.proofs.PartRows.{part_is}
-use Rattle.dwz_def_plan.proofs.StandLemmas.{targets_move, targets_used}
-use Rattle.dwz_def_plan.proofs.UserLemmas.{Fair, home_same, leads, move_stand, moving}
-use Rattle.dwz_def_images.specs.After.{AreOld, ArePlaced, IsNamedBelow}
+use Rattle.dwz_def_images.specs.Homes.{Common, Home, IsChoice, Local, Rule, Stay, candidate, file_of, home, is_home, moves, rep, users}
+use Rattle.dwz_def_images.specs.IsPlan.{Has, IsHome, IsPart, OfTop}
+use Rattle.dwz_def_images.specs.Moves.{Move, image_in, plan, seen_top}
+use Rattle.dwz_def_images.specs.Plan.{PartialUnit, stand_in}
+use Rattle.dwz_def_images.proofs.HomeLemmas.{home_is}
+use Rattle.dwz_def_images.proofs.PlanLemmas.{are_parts}
+use Rattle.dwz_def_images.proofs.PartRows.{part_is}
+use Rattle.dwz_def_images.proofs.StandLemmas.{targets_move, targets_used}
+use Rattle.dwz_def_images.proofs.UserLemmas.{Fair, home_same, leads, move_stand, moving}
+use Rattle.dwz_def_images.specs.After.{AreOld, ArePlaced}
+use Rattle.dwz_def_tops.specs.UnitNames.{IsNamedBelow}
 use Rattle.dwz_def_images.specs.Held.{IsHeld, NameNone}
 use Rattle.dwz_def_images.specs.Images.{units_in}
 use Rattle.dwz_def_images.specs.Units.{common_units, partial_unit, partial_units, tree}

@@ -30,12 +30,14 @@ use Rattle.dwz_def_reading.specs.Documents.{Attr, Doc, DwUnit, Entries, Node}
 use Rattle.dwz_def_reading.specs.Files.{sources_of}
 use Rattle.dwz_def_reading.specs.Meanings.{Sources}
 use Rattle.dwz_def_reading.specs.Shared.{NoneShared, operands_in_lists}
-use Rattle.dwz_def_plan.proofs.PartRows.{part_is as part_row_is}
-use Rattle.dwz_def_plan.specs.Homes.{Common, IsChoice, Rule}
-use Rattle.dwz_def_plan.specs.IsPlan.{Has, OfTop}
+use Rattle.dwz_def_images.proofs.PartRows.{part_is as part_row_is}
+use Rattle.dwz_def_images.specs.Homes.{Common, IsChoice, Rule}
+use Rattle.dwz_def_images.specs.IsPlan.{Has, OfTop}
 use Rattle.dwz_def_images.proofs.FileLemmas.{files_same, replaced}
 use Rattle.dwz_def_images.proofs.HeldLemmas.{row_found}
-use Rattle.dwz_def_images.specs.After.{ArePlaced, FilesSame, Replaces, at_file, name_of_place}
+use Rattle.dwz_def_images.specs.After.{ArePlaced, FilesSame, Replaces}
+use Rattle.dwz_def_tops.specs.UnitNames.{name_of_place}
+use Rattle.dwz_def_reading.specs.Places.{at_file}
 use Rattle.dwz_def_images.specs.Units.{all_units, common_units, out_units, partial_units, units_of_file}
 use Rattle.dwz_def_tops.proofs.Members.{each_more, each_of, in_map_from, nth_in}
 use Rattle.dwz_def_tops.specs.Lists.{NoneTwice, Nth}

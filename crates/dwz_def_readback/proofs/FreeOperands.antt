@@ -9,10 +9,9 @@ use Rattle.dwz_def_reading.proofs.CaseFacts.{or_left, or_right}
 use Rattle.dwz_def_reading.specs.declared.exprs.Operand.{Operand}
 use Rattle.dwz_def_reading.specs.Documents.{Attr, DwUnit, Entries, Expr, Loc, Node, Plain, Sec, Value, attr_map, first_named, only, value_map}
 use Rattle.dwz_def_reading.specs.Exprs.{Expression, parts_from, parts_of}
-use Rattle.dwz_def_reading.specs.Meanings.{IsExpression, IsListBySlot, MeansAs}
+use Rattle.dwz_def_reading.specs.Meanings.{IsExpression, IsListBySlot, MeansAs, offset_of, targets}
 use Rattle.dwz_def_reading.specs.Classes.{OfCommonEntry, OfConstant, OfExpression, OfInfoEntry, OfListIndex, OfOffset, OfTextBySlot, OfTextInLineStr}
 use Rattle.dwz_def_reading.specs.Classes.{Class}
-use Rattle.dwz_def_reading.specs.Meanings.{offset_of, targets}
 use Rattle.dwz_def_reading.specs.Classes.{OfTextInStr, OfUnitEntry}
 use Rattle.dwz_def_reading.specs.Classes.{class_in, class_of, class_rows, names_file, names_list}
 use Rattle.dwz_def_tops.specs.Lists.{Nth}
@@ -20,14 +19,14 @@ use Rattle.dwz_def_tops.proofs.Members.{each_in, each_more, each_of}
 use Rattle.dwz_def_tops.specs.Alike.{IsAlike, Movable, TopScope, binding_forms, has_operand, holds_place, is_named, is_operand, leaves}
 use Rattle.dwz_def_tops.specs.Spots.{EntryName, FileUnit, PartialOf, Top, tops_of}
 use Rattle.dwz_def_tops.proofs.Targets.{free_attr, not_named}
-use Rattle.dwz_def_plan.specs.Homes.{Common, Home, IsChoice, Local, Rule, Stay, is_home, moves}
-use Rattle.dwz_def_plan.specs.IsPlan.{Has, OfSpace, OfTop}
-use Rattle.dwz_def_plan.specs.Moves.{Move, first_unit, image_in, line_attrs, line_in, line_of, names_path, plan, root_in_part, root_of}
+use Rattle.dwz_def_images.specs.Homes.{Common, Home, IsChoice, Local, Rule, Stay, is_home, moves}
+use Rattle.dwz_def_images.specs.IsPlan.{Has, OfSpace, OfTop}
+use Rattle.dwz_def_images.specs.Moves.{Move, first_unit, image_in, line_attrs, line_in, line_of, names_path, plan, root_in_part, root_of}
 use Rattle.dwz_def_reading.proofs.DecideLemmas.{if_false}
-use Rattle.dwz_def_plan.specs.Plan.{PartialUnit}
-use Rattle.dwz_def_plan.proofs.PartRows.{part_is as part_row_is}
-use Rattle.dwz_def_plan.proofs.StandLemmas.{fair}
-use Rattle.dwz_def_plan.proofs.UserLemmas.{moves_self}
+use Rattle.dwz_def_images.specs.Plan.{PartialUnit}
+use Rattle.dwz_def_images.proofs.PartRows.{part_is as part_row_is}
+use Rattle.dwz_def_images.proofs.StandLemmas.{fair}
+use Rattle.dwz_def_images.proofs.UserLemmas.{moves_self}
 use Rattle.dwz_def_images.specs.Held.{IsHeld}
 use Rattle.dwz_def_images.specs.Units.{partial_unit, partial_units, tree}
 use Rattle.dwz_def_images.proofs.HeldLemmas.{part_found, row_found}

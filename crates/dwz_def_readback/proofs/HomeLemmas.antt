@@ -7,13 +7,13 @@ use Rattle.dwz_def_tops.proofs.Members.{each_in, nth_in}
 use Rattle.dwz_def_tops.specs.Alike.{Apart, IsAlike, TopScope}
 use Rattle.dwz_def_tops.specs.Spots.{EntryName, FileUnit, Top}
 use Rattle.dwz_def_tops.proofs.AlikePer.{alike_per}
-use Rattle.dwz_def_plan.specs.Homes.{Common, Home, IsChoice, Local, Rule, home, is_home, moves, same_home, users}
-use Rattle.dwz_def_plan.specs.IsPlan.{IsHome, IsPart}
-use Rattle.dwz_def_plan.specs.Moves.{Move}
-use Rattle.dwz_def_plan.specs.Plan.{PartialUnit, partials}
-use Rattle.dwz_def_plan.proofs.HomeLemmas.{file_of_top, home_is, not_common}
-use Rattle.dwz_def_plan.proofs.PlanLemmas.{are_parts, home_true}
-use Rattle.dwz_def_plan.proofs.UserLemmas.{Fair, moves_self, moving, used}
+use Rattle.dwz_def_images.specs.Homes.{Common, Home, IsChoice, Local, Rule, home, is_home, moves, same_home, users}
+use Rattle.dwz_def_images.specs.IsPlan.{IsHome, IsPart}
+use Rattle.dwz_def_images.specs.Moves.{Move}
+use Rattle.dwz_def_images.specs.Plan.{PartialUnit, partials}
+use Rattle.dwz_def_images.proofs.HomeLemmas.{file_of_top, home_is, not_common}
+use Rattle.dwz_def_images.proofs.PlanLemmas.{are_parts, home_true}
+use Rattle.dwz_def_images.proofs.UserLemmas.{Fair, moves_self, moving, used}
 use Rattle.dwz_def_images.specs.Units.{kept_unit, kept_units, partial_unit, partial_units}
 
 -- ---- what stands in a file

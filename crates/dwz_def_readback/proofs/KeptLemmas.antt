@@ -11,11 +11,12 @@ use Rattle.dwz_def_tops.proofs.ShownLemmas.{seen_key}
 use Rattle.dwz_def_tops.specs.Spots.{EntryName, FileUnit, Top, Within, row_tops, rows_of_root}
 use Rattle.dwz_def_tops.proofs.RowLemmas.{unit_row}
 use Rattle.dwz_def_tops.proofs.Tops.{row_top}
-use Rattle.dwz_def_plan.specs.IsPlan.{Has, OfSpace, OfTop}
-use Rattle.dwz_def_plan.specs.Moves.{Move, image_in}
-use Rattle.dwz_def_plan.specs.Plan.{imports, kept_row}
-use Rattle.dwz_def_plan.proofs.RowParts.{kept_is}
-use Rattle.dwz_def_images.specs.After.{AreOld, IsNamedBelow}
+use Rattle.dwz_def_images.specs.IsPlan.{Has, OfSpace, OfTop}
+use Rattle.dwz_def_images.specs.Moves.{Move, image_in}
+use Rattle.dwz_def_images.specs.Plan.{imports, kept_row}
+use Rattle.dwz_def_images.proofs.RowParts.{kept_is}
+use Rattle.dwz_def_images.specs.After.{AreOld}
+use Rattle.dwz_def_tops.specs.UnitNames.{IsNamedBelow}
 use Rattle.dwz_def_images.specs.Units.{changes, kept_unit}
 use Rattle.dwz_def_images.proofs.EntryLemmas.{kept_compile, kept_still, kept_type}
 use Rattle.dwz_def_images.proofs.OldLemmas.{top_at}

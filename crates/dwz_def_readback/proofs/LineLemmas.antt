@@ -9,13 +9,11 @@ use Rattle.dwz_def_reading.specs.Trees.{End}
 use Rattle.dwz_def_reading.specs.Values.{SpellsShape, constant_of, shape_of}
 use Rattle.dwz_def_reading.proofs.WrittenLemmas.{fixed_less}
 use Rattle.dwz_def_reading.specs.Documents.{Attr, File, Node, Plain, Sec, Value, attr_map, first_named, only, value_map}
-use Rattle.dwz_def_reading.specs.Meanings.{IfSo, IsFileBy, IsFileNumber, IsLocList, MeansAs}
+use Rattle.dwz_def_reading.specs.Meanings.{IfSo, IsFileBy, IsFileNumber, IsLocList, MeansAs, MeaningContext, constant_value, number_of, offset_of, stmt_list}
 use Rattle.dwz_def_reading.specs.Classes.{OfAddress, OfBlock, OfCommonEntry, OfCommonText, OfConstant, OfExpression, OfFlag, OfIndex}
 use Rattle.dwz_def_reading.specs.Classes.{Class}
-use Rattle.dwz_def_reading.specs.Meanings.{MeaningContext, constant_value}
 use Rattle.dwz_def_reading.specs.Classes.{OfInfoEntry, OfListIndex, OfOffset, OfSignature, OfText, OfTextBySlot, OfTextInLineStr, OfTextInStr, OfUnitEntry, Unread}
 use Rattle.dwz_def_reading.specs.Classes.{class_of}
-use Rattle.dwz_def_reading.specs.Meanings.{number_of, offset_of, stmt_list}
 use Rattle.dwz_def_reading.specs.Classes.{names_file, names_list}
 use Rattle.dwz_def_reading.proofs.DecideLemmas.{if_false, if_true}
 use Rattle.dwz_def_tops.specs.Lists.{Nth}
@@ -24,11 +22,11 @@ use Rattle.dwz_def_tops.specs.Alike.{IsAlike, TopScope, any_attr, any_entry, any
 use Rattle.dwz_def_tops.specs.Spots.{EntryName, FileUnit, PartialOf, Top, same_spot}
 use Rattle.dwz_def_tops.proofs.Targets.{entry_from, top_false}
 use Rattle.dwz_def_tops.proofs.Tops.{unit_of}
-use Rattle.dwz_def_plan.specs.Homes.{Common, Home, IsChoice, Local, Rule}
-use Rattle.dwz_def_plan.specs.IsPlan.{Has, OfSpace, OfTop, SpaceOf}
-use Rattle.dwz_def_plan.specs.Moves.{Move, first_unit, has_path, image_in, line_attr, line_attrs, line_in, line_of, names_path, plan, root_in_part, root_of}
-use Rattle.dwz_def_plan.specs.Plan.{PartialUnit}
-use Rattle.dwz_def_plan.proofs.PartRows.{part_is as part_row_is}
+use Rattle.dwz_def_images.specs.Homes.{Common, Home, IsChoice, Local, Rule}
+use Rattle.dwz_def_images.specs.IsPlan.{Has, OfSpace, OfTop, SpaceOf}
+use Rattle.dwz_def_images.specs.Moves.{Move, first_unit, has_path, image_in, line_attr, line_attrs, line_in, line_of, names_path, plan, root_in_part, root_of}
+use Rattle.dwz_def_images.specs.Plan.{PartialUnit}
+use Rattle.dwz_def_images.proofs.PartRows.{part_is as part_row_is}
 use Rattle.dwz_def_images.specs.After.{AreOld}
 use Rattle.dwz_def_images.specs.Held.{IsHeld}
 use Rattle.dwz_def_images.specs.Units.{partial_unit, tree}

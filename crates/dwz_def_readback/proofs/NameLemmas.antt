@@ -6,7 +6,7 @@ use Rattle.dwz_def_tops.specs.Spots.{EntryName, same_spot}
 use Rattle.dwz_def_tops.specs.Lists.{NoneTwice}
 use Rattle.dwz_def_tops.specs.Shown.{units_keys}
 use Rattle.dwz_def_images.specs.Units.{all_units, common_units, file_units, out_units}
-use Rattle.dwz_def_images.proofs.ApartOwn.{keys_joined}
+use Rattle.dwz_def_tops.proofs.UnitKeys.{keys_joined}
 use Rattle.dwz_def_encoding.specs.Meant.{all_entry_keys}
 use Rattle.dwz_def_encoding.specs.Placing.{FileOut, file_in, files_keys, has_key}
 use Rattle.dwz_def_tops.proofs.OnceLemmas.{none_both, none_left, none_right}

@@ -1,7 +1,7 @@
 -- The operands of files that are read name entries of these, as they are named.
 use Rattle.std.proofs.Common.{◌≡◌, ℕ, suc, ◌+◌, ◌≤◌, Bool, true, false, List, [], ◌∷◌, ◌++◌, length, map, refl, sym, ap, subst, ◌∙◌, arith, inl, inr, eq-eqb, ne_eqb}
-use Rattle.dwz_model.specs.declared.place.Base.{Base}
-use Rattle.dwz_model.specs.declared.place.Base.TheVariants.{Unit as FromUnit, Info as FromInfo}
+use Rattle.dwz_def_reading.specs.Base.{Base}
+use Rattle.dwz_def_reading.specs.Base.TheVariants.{Unit as FromUnit, Info as FromInfo}
 use Rattle.dwz_def_reading.specs.Lists.{Each, In}
 use Rattle.dwz_def_reading.specs.Units.{RawUnit}
 use Rattle.dwz_def_reading.proofs.ListFacts.{in_cases, in_left, in_map, in_right}
@@ -11,7 +11,8 @@ use Rattle.dwz_def_reading.specs.Meanings.{Sources}
 use Rattle.dwz_def_tops.specs.Lists.{Nth}
 use Rattle.dwz_def_tops.proofs.MainLemmas.{keys_map}
 use Rattle.dwz_def_tops.specs.Spots.{EntryName, FileUnit, in_file, named, named_files, spot_in, spots_from, tops_among}
-use Rattle.dwz_def_images.specs.After.{at_file, name_from}
+use Rattle.dwz_def_tops.specs.UnitNames.{name_from}
+use Rattle.dwz_def_reading.specs.Places.{at_file}
 use Rattle.dwz_def_images.specs.Units.{units_of_file}
 use Rattle.dwz_def_images.proofs.StillLemmas.{at_append, at_own}
 use Rattle.dwz_def_encoding.specs.Bases.{Bases}

@@ -8,7 +8,7 @@ use Rattle.dwz_def_reading.specs.Values.{AreBytes}
 use Rattle.dwz_def_tops.specs.Alike.{Apart, IsAlike}
 use Rattle.dwz_def_tops.specs.Spots.{file_numbers, units_of}
 use Rattle.dwz_def_tops.specs.Lists.{Nth}
-use Rattle.dwz_def_plan.specs.Homes.{IsChoice, Rule}
+use Rattle.dwz_def_images.specs.Homes.{IsChoice, Rule}
 use Rattle.dwz_def_images.specs.After.{ArePlaced}
 use Rattle.dwz_def_images.specs.Units.{changes, common_units}
 use Rattle.dwz_def_encoding.specs.Placing.{FitsSections}

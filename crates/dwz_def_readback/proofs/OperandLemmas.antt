@@ -3,15 +3,14 @@ use Rattle.std.proofs.Common.{◌≡◌, ℕ, Bool, true, false, List, [], ◌�
 use Rattle.std.proofs.lemmas.Bool.{or_cases}
 use Rattle.std.proofs.lemmas.List.Folds.{list_any-append}
 use Rattle.std.specs.List.{list_any}
-use Rattle.dwz_model.specs.declared.place.Base.{Base}
+use Rattle.dwz_def_reading.specs.Base.{Base}
 use Rattle.dwz_def_reading.specs.Lists.{Each, In}
 use Rattle.dwz_def_reading.specs.Trees.{End, Entry}
 use Rattle.dwz_def_reading.specs.declared.exprs.Operand.{Operand as AnOperand}
 use Rattle.dwz_def_reading.specs.Documents.{Attr, DwUnit, Entries, Expr, Operand, Part, Plain, Same, attr_map, entries_map, unit_map}
 use Rattle.dwz_def_reading.specs.Exprs.{parts_of}
 use Rattle.dwz_def_reading.specs.Meanings.{IfSo}
-use Rattle.dwz_def_reading.specs.Classes.{OfExpression, OfListIndex, OfOffset}
-use Rattle.dwz_def_reading.specs.Classes.{Class, class_of, names_list}
+use Rattle.dwz_def_reading.specs.Classes.{OfExpression, OfListIndex, OfOffset, Class, class_of, names_list}
 use Rattle.dwz_def_reading.specs.Shared.{own_operands}
 use Rattle.dwz_def_tops.specs.Alike.{has_operand, is_operand, joined_parts}
 use Rattle.dwz_def_tops.proofs.Targets.{or_first, or_second}

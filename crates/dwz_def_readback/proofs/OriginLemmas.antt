@@ -9,10 +9,10 @@ use Rattle.dwz_def_tops.specs.Spots.{EntryName, FileUnit, PartialOf, Top, tops_o
 use Rattle.dwz_def_tops.proofs.AlikePer.{alike_per}
 use Rattle.dwz_def_tops.proofs.Tops.{tops_rise}
 use Rattle.dwz_def_tops.proofs.TopOrder.{InOrder, units_rise}
-use Rattle.dwz_def_plan.specs.Homes.{IsChoice, Rule, is_home, moves, rep, users}
-use Rattle.dwz_def_plan.specs.Moves.{Move, first_unit, plan}
-use Rattle.dwz_def_plan.specs.Plan.{PartialUnit, partials}
-use Rattle.dwz_def_plan.proofs.UserLemmas.{Fair, moves_self, rep_is, used, used_by}
+use Rattle.dwz_def_images.specs.Homes.{IsChoice, Rule, is_home, moves, rep, users}
+use Rattle.dwz_def_images.specs.Moves.{Move, first_unit, plan}
+use Rattle.dwz_def_images.specs.Plan.{PartialUnit, partials}
+use Rattle.dwz_def_images.proofs.UserLemmas.{Fair, moves_self, rep_is, used, used_by}
 use Rattle.dwz_def_images.proofs.HeldLemmas.{part_found}
 use Rattle.dwz_def_encoding.specs.Bases.{bases_in, offset_in}
 use Rattle.dwz_def_encoding.proofs.ReadAgain.{same_bases}

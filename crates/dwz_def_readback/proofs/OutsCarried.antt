@@ -8,18 +8,19 @@ use Rattle.dwz_def_tops.proofs.Members.{each_append, each_of, in_map_from}
 use Rattle.dwz_def_tops.specs.Spots.{EntryName, FileUnit, PartialOf, PartialRoot, Top, rows_of_root, tops_of}
 use Rattle.dwz_def_tops.proofs.RowLemmas.{unit_row}
 use Rattle.dwz_def_tops.proofs.Tops.{unit_of}
-use Rattle.dwz_def_plan.specs.IsPlan.{Has, OfSpace, OfTop}
+use Rattle.dwz_def_images.specs.IsPlan.{Has, OfSpace, OfTop}
 use Rattle.dwz_def_tops.specs.Alike.{IsAlike, TopScope}
-use Rattle.dwz_def_plan.specs.Homes.{IsChoice, Local, Rule}
-use Rattle.dwz_def_plan.specs.Moves.{Move, image_in, plan}
-use Rattle.dwz_def_plan.proofs.RowParts.{kept_is}
-use Rattle.dwz_def_plan.proofs.PartRows.{part_is as part_row_is}
+use Rattle.dwz_def_images.specs.Homes.{IsChoice, Local, Rule}
+use Rattle.dwz_def_images.specs.Moves.{Move, image_in, plan}
+use Rattle.dwz_def_images.proofs.RowParts.{kept_is}
+use Rattle.dwz_def_images.proofs.PartRows.{part_is as part_row_is}
 use Rattle.dwz_def_images.proofs.HeldLemmas.{row_found}
 use Rattle.dwz_def_readback.proofs.HomeLemmas.{kept_from, part_is, parts_from, top_file}
 use Rattle.dwz_def_readback.proofs.SpaceLemmas.{NameCarried, space_carried, top_names}
-use Rattle.dwz_def_plan.specs.Plan.{PartialUnit, import_of, imports, kept_row}
-use Rattle.dwz_def_plan.proofs.KeptLemmas.{are_imports}
-use Rattle.dwz_def_images.specs.After.{AreOld, IsBelow, IsNamedBelow}
+use Rattle.dwz_def_images.specs.Plan.{PartialUnit, import_of, imports, kept_row}
+use Rattle.dwz_def_images.proofs.KeptLemmas.{are_imports}
+use Rattle.dwz_def_images.specs.After.{AreOld, IsBelow}
+use Rattle.dwz_def_tops.specs.UnitNames.{IsNamedBelow}
 use Rattle.dwz_def_images.specs.Held.{IsHeld}
 use Rattle.dwz_def_images.specs.Units.{changes, kept_below, kept_unit, kept_units, out_units, partial_unit, partial_units, tree}
 use Rattle.dwz_def_images.proofs.KindLemmas.{kept_kinded}

@@ -15,8 +15,8 @@ use Rattle.dwz_def_tops.specs.Lists.{NoneTwice}
 use Rattle.dwz_def_tops.specs.Shown.{unit_keys, units_keys}
 use Rattle.dwz_def_tops.specs.Seen.{IsPartial}
 use Rattle.dwz_def_tops.proofs.ShownLemmas.{unit_key}
-use Rattle.dwz_def_readback.proofs.RangeLemmas.{place_back, ranged_spell, written_there}
-use Rattle.dwz_def_images.specs.After.{Place, at_file}
+use Rattle.dwz_def_readback.proofs.RangeLemmas.{place_back, ranged_spell, written_there, ranged_spell_by, written_there_by}
+use Rattle.dwz_def_reading.specs.Places.{Place, at_file}
 use Rattle.dwz_def_images.specs.Units.{all_units, changes, common_units, out_units}
 use Rattle.dwz_def_encoding.specs.Carried.{OfAny, OfFile}
 use Rattle.dwz_def_encoding.specs.Fitting.{AreWritable, UnitFits, UnitHasRoom, mode_for}
@@ -36,7 +36,7 @@ use Rattle.dwz_def_encoding.proofs.SameLemmas.{spots_same}
 use Rattle.dwz_def_encoding.proofs.UnitsMean.{all_raw}
 use Rattle.dwz_def_encoding.proofs.UnitsSpelled.{units_len}
 use Rattle.dwz_def_encoding.proofs.WriteLaws.{fits, is_roomy, means, spelled}
-use Rattle.dwz_def_readback.specs.Back.{CanWrite, IsPlacing, RangesBack, SaysPlaced, around_in, given_by}
+use Rattle.dwz_def_readback.specs.Back.{CanWrite, IsPlacing, RangesBack, SaysPlaced, around_in, given_by, CanWriteBy, IsPlacingBy, RangesBackBy, SaysPlacedBy}
 use Rattle.dwz_def_reading.specs.Shared.{ListOperand, NoneShared, operands_in_lists}
 use Rattle.dwz_def_readback.specs.Files.{fitted_by, formed_by, uses_by}
 use Rattle.dwz_def_readback.specs.Files.{HasCommon, HasSections, Run, common_fitted, common_forms, common_out, common_sections, file_forms, file_out, files_out, fitted, fitted_if, formed, imports_common}
@@ -47,10 +47,8 @@ use Rattle.dwz_def_encoding.specs.Pruned.{with_texts}
 use Rattle.dwz_def_encoding.proofs.PrunedUnits.{units_pruned}
 use Rattle.dwz_def_encoding.proofs.Renumbered.{renumbered_room}
 use Rattle.dwz_def_readback.proofs.NameLemmas.{common_names, common_there, file_once, file_there, fitted_entries, fitted_fixed, fitted_names, name_in_common, name_in_file, not_common, run_once}
-use Rattle.dwz_def_readback.specs.Back.{CanWriteBy, IsPlacingBy, RangesBackBy, SaysPlacedBy}
 use Rattle.dwz_def_readback.specs.Files.{AreRangedBy, CommonFile, HasSectionsBy, OffsetsIfBy, common_fitted_by, file_forms_by, file_out_by, fitted_if_by, places_by, sections_by, shared_by, strs_if_by, tells_by}
 use Rattle.dwz_def_readback.proofs.NameLemmas.{fitted_entries_by, fitted_names_by}
-use Rattle.dwz_def_readback.proofs.RangeLemmas.{ranged_spell_by, written_there_by}
 
 at_key : (u : DwUnit EntryName) → In u.at (unit_keys u)
 unfolding unit_keys

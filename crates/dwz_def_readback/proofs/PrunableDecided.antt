@@ -7,7 +7,7 @@ use Rattle.std.specs.Str.{bytes_eq}
 use Rattle.std.proofs.lemmas.Bool.{and_from, and_parts, eqb-true, false≢true, or_parts}
 use Rattle.std.proofs.lemmas.List.{drop_all}
 use Rattle.std.proofs.lemmas.Slice.Eq.{bytes_eq-Decides}
-use Rattle.dwz_model.specs.declared.fault.Fault.{Fault}
+use Rattle.dwz_def_reading.specs.Fault.{Fault}
 use Rattle.dwz_def_reading.specs.declared.elf.Header.{Header}
 use Rattle.dwz_def_reading.specs.Classes.{Class, OfConstant, OfTextBySlot, class_of, names_file}
 use Rattle.dwz_def_reading.specs.Documents.{Attr, DwUnit, Entries}

@@ -16,9 +16,11 @@ use Rattle.dwz_def_tops.specs.Shown.{units_keys}
 use Rattle.dwz_def_tops.proofs.Members.{in_nth, nth_from}
 use Rattle.dwz_def_reading.proofs.HasLemmas.{in_has}
 use Rattle.dwz_def_tops.specs.Spots.{EntryName, FileUnit, Row, in_file, named, named_files, rows_of_root, spot_in, spots_from, tops_among}
-use Rattle.dwz_def_plan.specs.Homes.{Local}
-use Rattle.dwz_def_plan.specs.Moves.{image_in}
-use Rattle.dwz_def_images.specs.After.{AreOld, IsNamedBelow, Place, at_file, name_from}
+use Rattle.dwz_def_images.specs.Homes.{Local}
+use Rattle.dwz_def_images.specs.Moves.{image_in}
+use Rattle.dwz_def_images.specs.After.{AreOld}
+use Rattle.dwz_def_tops.specs.UnitNames.{IsNamedBelow, name_from}
+use Rattle.dwz_def_reading.specs.Places.{Place, at_file}
 use Rattle.dwz_def_images.specs.Units.{kept_unit, kept_units, out_units, partial_units}
 use Rattle.dwz_def_encoding.specs.Meant.{placed_units}
 use Rattle.dwz_def_encoding.specs.Placing.{Forms, KeyedForms, fit_unit, fit_units, with_keys}

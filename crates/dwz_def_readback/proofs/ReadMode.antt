@@ -3,7 +3,7 @@ use Rattle.std.proofs.Common.{◌≡◌, ℕ, ◌+◌, length, Bool, true, false
 use Rattle.std.specs.Prelude.{◌==◌, ◌&&◌, ◌||◌}
 use Rattle.dwz_def_reading.specs.Forms.{form_rows}
 use Rattle.dwz_def_reading.specs.Rows.{RowView}
-use Rattle.dwz_model.specs.declared.place.Pair.{Pair}
+use Rattle.dwz_def_reading.specs.Pair.{Pair}
 use Rattle.dwz_def_reading.specs.Entries.{Mode, RawAttr, RawEntry, SpellsAttrs, SpellsEntry, SpellsFront, UnitContext, own_forms}
 use Rattle.dwz_def_reading.specs.Trees.{End, Entry, Forest, IfChildren, Position, SpellsForest}
 use Rattle.dwz_def_reading.specs.Units.{RawUnit, SpellsTree, SpellsUnit, SpellsUnits, is_read, unit_type}

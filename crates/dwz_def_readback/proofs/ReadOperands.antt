@@ -1,8 +1,8 @@
 -- The operands of what is read name entries of their unit, or of their file, as their numbers are counted.
 use Rattle.std.proofs.Common.{◌≡◌, ℕ, ◌+◌, Bool, true, false, List, [], ◌∷◌, ◌++◌, map, refl, sym, ap, subst, ◌∙◌, inl, inr}
 use Rattle.std.proofs.lemmas.List.{map-append}
-use Rattle.dwz_model.specs.declared.place.Base.{Base}
-use Rattle.dwz_model.specs.declared.place.Base.TheVariants.{Unit as FromUnit, Info as FromInfo}
+use Rattle.dwz_def_reading.specs.Base.{Base}
+use Rattle.dwz_def_reading.specs.Base.TheVariants.{Unit as FromUnit, Info as FromInfo}
 use Rattle.dwz_def_reading.specs.Entries.{RawAttr, RawEntry}
 use Rattle.dwz_def_reading.specs.Lists.{Each, In}
 use Rattle.dwz_def_reading.specs.Rows.{has}
@@ -12,10 +12,8 @@ use Rattle.dwz_def_reading.specs.declared.exprs.Operand.{Operand}
 use Rattle.dwz_def_reading.specs.Documents.{Attr, DwUnit, Entries, Part, Value}
 use Rattle.dwz_def_reading.specs.Exprs.{AreNamed, Expression, parts_from, parts_of}
 use Rattle.dwz_def_reading.specs.Meanings.{IfSo, IsExpression, IsListBySlot, IsLocList, MeanAttrs, MeanEntries, MeanUnits, MeansAs, MeansAttr, MeansUnit}
-use Rattle.dwz_def_reading.specs.Classes.{OfExpression, OfListIndex, OfOffset}
-use Rattle.dwz_def_reading.specs.Classes.{Class}
+use Rattle.dwz_def_reading.specs.Classes.{OfExpression, OfListIndex, OfOffset, Class, class_of, names_list}
 use Rattle.dwz_def_reading.specs.Meanings.{MeaningContext, Sources, all_places, entries_for, expr_context, leads_to, loc_value, loclists_base, offset_of, places_of, scope_of, target_of}
-use Rattle.dwz_def_reading.specs.Classes.{class_of, names_list}
 use Rattle.dwz_def_reading.specs.Meanings.{targets, without_siblings}
 use Rattle.dwz_def_reading.specs.NamedLists.{AnyEntryNames, AnyNames, AnyUnitNames, NamesAs, NamesList, lists_of_units}
 use Rattle.dwz_def_reading.specs.Shared.{NamedList, operands_of, own_operands}

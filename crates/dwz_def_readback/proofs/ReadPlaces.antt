@@ -11,8 +11,8 @@ use Rattle.dwz_def_reading.specs.Entries.{Mode, RawAttr, RawEntry, given}
 use Rattle.dwz_def_reading.specs.Files.{Limits, Reads, debug_abbrev, debug_info, sources_of}
 use Rattle.dwz_def_reading.specs.Lists.{Each, In}
 use Rattle.dwz_def_reading.specs.Rows.{has}
-use Rattle.dwz_model.specs.declared.place.Base.{Base}
-use Rattle.dwz_model.specs.declared.place.Base.TheVariants.{Unit as FromUnit, Info as FromInfo}
+use Rattle.dwz_def_reading.specs.Base.{Base}
+use Rattle.dwz_def_reading.specs.Base.TheVariants.{Unit as FromUnit, Info as FromInfo}
 use Rattle.dwz_def_reading.specs.declared.exprs.Operand.{Operand}
 use Rattle.dwz_def_reading.specs.Exprs.{AreNamed}
 use Rattle.dwz_def_reading.proofs.MeaningLemmas.{has_in}

@@ -9,11 +9,12 @@ use Rattle.dwz_def_tops.specs.Spots.{EntryName, file_numbers, same_spot, units_o
 use Rattle.dwz_def_tops.specs.Lists.{NoneTwice, Nth}
 use Rattle.dwz_def_tops.specs.Seen.{Named, IsShown, named_map, named_value}
 use Rattle.dwz_def_tops.specs.Shown.{AreShown, OnePlace, UnitsShown, units_keys}
-use Rattle.dwz_def_plan.specs.Homes.{IsChoice, Rule}
-use Rattle.dwz_def_images.specs.After.{ArePlaced, FilesSame, Place, at_file}
+use Rattle.dwz_def_images.specs.Homes.{IsChoice, Rule}
+use Rattle.dwz_def_images.specs.After.{ArePlaced, FilesSame}
+use Rattle.dwz_def_reading.specs.Places.{Place, at_file}
 use Rattle.dwz_def_images.specs.Units.{all_units, changes, common_units, file_units, out_units}
 use Rattle.dwz_def_images.proofs.FileLemmas.{files_same}
-use Rattle.dwz_def_images.proofs.ApartOwn.{keys_joined}
+use Rattle.dwz_def_tops.proofs.UnitKeys.{keys_joined}
 use Rattle.dwz_def_images.proofs.OldFiles.{shown_append}
 use Rattle.dwz_def_encoding.specs.Meant.{placed_attr, placed_entries, placed_node, placed_units}
 use Rattle.dwz_def_encoding.specs.Placing.{KeyedForms, UnitForms, fit, fit_attr, fit_node, fit_unit, fit_units, unit_forms, with_form, with_keys}
@@ -22,8 +23,7 @@ use Rattle.dwz_def_encoding.proofs.Chosen.{fit_units_fixed}
 use Rattle.dwz_def_encoding.proofs.Places.{numbering_stands}
 use Rattle.dwz_def_encoding.proofs.Rising.{place_one}
 use Rattle.dwz_def_encoding.proofs.SameLemmas.{spots_same}
-use Rattle.dwz_def_readback.specs.Back.{files_back_by}
-use Rattle.dwz_def_readback.specs.Back.{AreAtOld, IsPlacing, SameBack, all_back, back_units, files_back, run_of}
+use Rattle.dwz_def_readback.specs.Back.{files_back_by, AreAtOld, IsPlacing, SameBack, all_back, back_units, files_back, run_of}
 use Rattle.dwz_def_readback.specs.Files.{CommonFile, Made, Run, Stored, common_fitted, common_forms, common_out, file_forms_by, file_out, files_out}
 use Rattle.dwz_def_readback.specs.Files.{fitted, fitted_by, fitted_if_by, formed_by, places, places_by, sources, uses_by}
 use Rattle.dwz_def_reading.specs.Pruning.{new_number}

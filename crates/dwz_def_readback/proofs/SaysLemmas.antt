@@ -16,7 +16,7 @@ use Rattle.dwz_def_tops.specs.Shown.{unit_keys, units_keys}
 use Rattle.dwz_def_tops.specs.Seen.{IsPartial}
 use Rattle.dwz_def_tops.proofs.ShownLemmas.{unit_key}
 use Rattle.dwz_def_readback.proofs.RangeLemmas.{place_back, ranged_spell, written_there}
-use Rattle.dwz_def_images.specs.After.{Place, at_file}
+use Rattle.dwz_def_reading.specs.Places.{Place, at_file}
 use Rattle.dwz_def_images.specs.Units.{all_units, changes, common_units, out_units}
 use Rattle.dwz_def_encoding.specs.Carried.{OfAny, OfFile}
 use Rattle.dwz_def_encoding.specs.Fitting.{AreWritable, UnitFits, UnitHasRoom, mode_for}

@@ -10,7 +10,7 @@ use Rattle.dwz_def_tops.specs.Lists.{NoneTwice}
 use Rattle.dwz_def_tops.specs.Seen.{all_seen}
 use Rattle.dwz_def_tops.specs.Shown.{HaveMains, unit_keys, units_keys}
 use Rattle.dwz_def_tops.proofs.Members.{From, in_map_from}
-use Rattle.dwz_def_plan.specs.Homes.{IsChoice, Rule}
+use Rattle.dwz_def_images.specs.Homes.{IsChoice, Rule}
 use Rattle.dwz_def_images.specs.After.{ArePlaced, FilesSame}
 use Rattle.dwz_def_images.specs.Units.{all_units, common_units, file_units, out_units}
 use Rattle.dwz_def_images.proofs.FileLemmas.{files_same}
@@ -20,8 +20,7 @@ use Rattle.dwz_def_encoding.specs.Placing.{FileOut, files_keys, sections}
 use Rattle.dwz_def_encoding.proofs.Rising.{entries_are_keys}
 use Rattle.dwz_def_encoding.proofs.SameLemmas.{spots_same}
 use Rattle.dwz_def_readback.specs.Back.{run_of}
-use Rattle.dwz_def_readback.specs.Files.{fitted_by, formed_by}
-use Rattle.dwz_def_readback.specs.Files.{Run, Stored, common_fitted, common_forms, common_out, file_forms, file_out, files_out, fitted, fitted_if, formed, places, sources, uses}
+use Rattle.dwz_def_readback.specs.Files.{fitted_by, formed_by, Run, Stored, common_fitted, common_forms, common_out, file_forms, file_out, files_out, fitted, fitted_if, formed, places, sources, uses}
 use Rattle.dwz_def_readback.proofs.CommonLemmas.{common_within}
 use Rattle.dwz_def_readback.proofs.NameLemmas.{common_names, fitted_names, in_file_keys, run_once}
 use Rattle.dwz_def_readback.proofs.WithinLemmas.{within}

@@ -5,20 +5,18 @@ use Rattle.dwz_def_reading.specs.Lists.{Each, In}
 use Rattle.dwz_def_reading.specs.Trees.{End, Entry}
 use Rattle.dwz_def_reading.proofs.ListFacts.{in_cases}
 use Rattle.dwz_def_reading.specs.Documents.{Attr, Entries, Node, File, Sec, Text, Value, first_named, language, only, value_map}
-use Rattle.dwz_def_reading.specs.Meanings.{IfSo, IsFileBy, IsLocList, MeansAs}
+use Rattle.dwz_def_reading.specs.Meanings.{IfSo, IsFileBy, IsLocList, MeansAs, MeaningContext, constant_value, number_of, offset_of, stmt_list}
 use Rattle.dwz_def_reading.specs.Classes.{OfAddress, OfBlock, OfCommonEntry, OfCommonText, OfConstant, OfExpression, OfFlag, OfIndex, OfInfoEntry, OfListIndex}
 use Rattle.dwz_def_reading.specs.Classes.{Class}
-use Rattle.dwz_def_reading.specs.Meanings.{MeaningContext, constant_value}
 use Rattle.dwz_def_reading.specs.Classes.{OfOffset, OfSignature, OfText, OfTextBySlot, OfTextInLineStr, OfTextInStr, OfUnitEntry, Unread}
 use Rattle.dwz_def_reading.specs.Classes.{class_of, names_file, names_list}
-use Rattle.dwz_def_reading.specs.Meanings.{number_of, offset_of, stmt_list}
 use Rattle.dwz_def_tops.specs.Lists.{Nth}
 use Rattle.dwz_def_tops.specs.Spaces.{space_text, text_of_plain, text_value}
 use Rattle.dwz_def_tops.proofs.Members.{each_append, each_in}
 use Rattle.dwz_def_tops.specs.Spots.{ASpace, ATop, EntryName, FileUnit, Nothing, Row, SpaceName, Top, name_by, name_of, row_tops, rows_of_root, tops_of}
 use Rattle.dwz_def_tops.proofs.RowLemmas.{RowIs, unit_row}
 use Rattle.dwz_def_tops.proofs.Tops.{unit_of}
-use Rattle.dwz_def_plan.specs.Plan.{space_entry}
+use Rattle.dwz_def_images.specs.Plan.{space_entry}
 use Rattle.dwz_def_encoding.specs.Bases.{Bases, bases_in}
 use Rattle.dwz_def_encoding.specs.Carried.{CarriedAttr, CarriedEntries, CarriedNode, CarriedUnit, From}
 use Rattle.dwz_def_readback.specs.Files.{bases_at}

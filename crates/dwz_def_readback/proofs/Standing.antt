@@ -8,9 +8,9 @@ use Rattle.dwz_def_tops.specs.Spots.{EntryName, same_spot}
 use Rattle.dwz_def_tops.specs.Lists.{NoneTwice}
 use Rattle.dwz_def_tops.specs.Shown.{units_keys}
 use Rattle.dwz_def_tops.proofs.OnceLemmas.{none_both, none_right}
-use Rattle.dwz_def_images.specs.After.{Place, at_file}
+use Rattle.dwz_def_reading.specs.Places.{Place, at_file}
 use Rattle.dwz_def_images.specs.Units.{all_units, changes, common_units, file_units}
-use Rattle.dwz_def_images.proofs.ApartOwn.{keys_joined}
+use Rattle.dwz_def_tops.proofs.UnitKeys.{keys_joined}
 use Rattle.dwz_def_encoding.specs.Meant.{all_entry_keys}
 use Rattle.dwz_def_encoding.specs.Placing.{FileOut, FitsSections, UnitsStand, files_keys, files_placed, number_of_key, numbering, texts_bytes, units_placed}
 use Rattle.dwz_def_encoding.specs.Writing.{Numbering}

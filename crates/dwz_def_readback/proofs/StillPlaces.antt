@@ -13,8 +13,9 @@ use Rattle.dwz_def_tops.proofs.SeenLemmas.{root_in, seen_in}
 use Rattle.dwz_def_tops.proofs.ShownLemmas.{entry_key, map_shown, shown_then, unit_key}
 use Rattle.dwz_def_tops.specs.Alike.{IsAlike, TopScope}
 use Rattle.dwz_def_tops.specs.Spots.{EntryName, file_numbers, units_of}
-use Rattle.dwz_def_plan.specs.Homes.{IsChoice, Rule}
-use Rattle.dwz_def_images.specs.After.{ArePlaced, FilesSame, Place, StandAsNamed, at_file}
+use Rattle.dwz_def_images.specs.Homes.{IsChoice, Rule}
+use Rattle.dwz_def_images.specs.After.{ArePlaced, FilesSame, StandAsNamed}
+use Rattle.dwz_def_reading.specs.Places.{Place, at_file}
 use Rattle.dwz_def_images.specs.Units.{changes, common_units, file_units, out_units}
 use Rattle.dwz_def_images.proofs.FileLemmas.{files_same}
 use Rattle.dwz_def_readback.specs.Back.{AreAtOld, IsPlacing, run_of}

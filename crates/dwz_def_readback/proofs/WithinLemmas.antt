@@ -16,17 +16,18 @@ use Rattle.dwz_def_tops.specs.Spots.{FileUnit, PartialRoot, EntryName, Top, name
 use Rattle.dwz_def_tops.specs.Spots.{tops_among as tops_count}
 use Rattle.dwz_def_tops.proofs.RowLemmas.{unit_row}
 use Rattle.dwz_def_tops.proofs.Tops.{row_top, unit_of}
-use Rattle.dwz_def_plan.specs.Homes.{Common, Home, IsChoice, Local, Rule, Stay, file_of, is_home, moves, same_home, users}
-use Rattle.dwz_def_plan.specs.IsPlan.{Has, IsHome, IsPart, OfSpace, OfTop}
-use Rattle.dwz_def_plan.specs.Moves.{Move, image_in, plan, seen_top}
-use Rattle.dwz_def_plan.specs.Plan.{PartialUnit, import_of, imports, kept_row}
-use Rattle.dwz_def_plan.proofs.HomeLemmas.{file_at, home_is}
-use Rattle.dwz_def_plan.proofs.KeptLemmas.{are_imports}
-use Rattle.dwz_def_plan.proofs.PlanLemmas.{are_parts, home_own}
-use Rattle.dwz_def_plan.proofs.RowParts.{kept_is}
-use Rattle.dwz_def_plan.proofs.PartRows.{part_is}
-use Rattle.dwz_def_plan.proofs.UserLemmas.{moving}
-use Rattle.dwz_def_images.specs.After.{AreOld, ArePlaced, IsNamedBelow}
+use Rattle.dwz_def_images.specs.Homes.{Common, Home, IsChoice, Local, Rule, Stay, file_of, is_home, moves, same_home, users}
+use Rattle.dwz_def_images.specs.IsPlan.{Has, IsHome, IsPart, OfSpace, OfTop}
+use Rattle.dwz_def_images.specs.Moves.{Move, image_in, plan, seen_top}
+use Rattle.dwz_def_images.specs.Plan.{PartialUnit, import_of, imports, kept_row}
+use Rattle.dwz_def_images.proofs.HomeLemmas.{file_at, home_is}
+use Rattle.dwz_def_images.proofs.KeptLemmas.{are_imports}
+use Rattle.dwz_def_images.proofs.PlanLemmas.{are_parts, home_own}
+use Rattle.dwz_def_images.proofs.RowParts.{kept_is}
+use Rattle.dwz_def_images.proofs.PartRows.{part_is}
+use Rattle.dwz_def_images.proofs.UserLemmas.{moving}
+use Rattle.dwz_def_images.specs.After.{AreOld, ArePlaced}
+use Rattle.dwz_def_tops.specs.UnitNames.{IsNamedBelow}
 use Rattle.dwz_def_images.specs.Held.{IsHeld, NameNone}
 use Rattle.dwz_def_images.specs.Units.{changes, common_units, kept_unit, kept_units, out_units, partial_unit, partial_units, tree, units_of_file}
 use Rattle.dwz_def_images.proofs.ClosedLemmas.{none_seen, row_seen}

@@ -3,8 +3,7 @@ use Rattle.std.specs.Prelude.{◌≡◌, ◌↔◌, ℕ, suc, ◌<◌, ◌^◌, 
 use Rattle.dwz_def_reading.specs.Documents.{Doc, DwUnit, unit_map}
 use Rattle.dwz_def_reading.specs.ElfFaults.{IsElfFaultFor, read_back}
 use Rattle.dwz_def_reading.specs.Entries.{Mode}
-use Rattle.dwz_def_reading.specs.Files.{HaveGoodRanges, Limits, Reads, debug_abbrev, debug_aranges, debug_info, is_place_of, section_of}
-use Rattle.dwz_def_reading.specs.Files.{sources_of}
+use Rattle.dwz_def_reading.specs.Files.{HaveGoodRanges, Limits, Reads, debug_abbrev, debug_aranges, debug_info, is_place_of, section_of, sources_of}
 use Rattle.dwz_def_reading.specs.Lists.{Each, In}
 use Rattle.dwz_def_reading.specs.Meanings.{Around, Common, MeanUnits, Sources, all_places, text_sections_of}
 use Rattle.dwz_def_reading.specs.Units.{RawUnit, SpellsUnits}
@@ -14,10 +13,12 @@ use Rattle.dwz_def_tops.specs.Seen.{IsPartial, SameAlong}
 use Rattle.dwz_def_tops.specs.Shown.{OnePlace, UnitsShown, units_keys}
 use Rattle.dwz_def_tops.specs.Alike.{Apart, IsAlike, TopScope}
 use Rattle.dwz_def_tops.specs.Spots.{EntryName, file_numbers, units_of}
-use Rattle.dwz_def_plan.specs.Homes.{IsChoice, Rule, moves}
-use Rattle.dwz_def_plan.specs.Moves.{Move, plan}
-use Rattle.dwz_def_plan.specs.Plan.{image}
-use Rattle.dwz_def_images.specs.After.{ArePlaced, Place, at_file, name_of_place, units_placed_from}
+use Rattle.dwz_def_images.specs.Homes.{IsChoice, Rule, moves}
+use Rattle.dwz_def_images.specs.Moves.{Move, plan}
+use Rattle.dwz_def_images.specs.Plan.{image}
+use Rattle.dwz_def_images.specs.After.{ArePlaced, units_placed_from}
+use Rattle.dwz_def_tops.specs.UnitNames.{name_of_place}
+use Rattle.dwz_def_reading.specs.Places.{Place, at_file}
 use Rattle.dwz_def_images.specs.Images.{IsAlone, OneImage}
 use Rattle.dwz_def_images.specs.Units.{all_units, changes, common_units, out_units}
 use Rattle.dwz_def_encoding.specs.Bases.{bases_in}

@@ -12,15 +12,13 @@ use Rattle.dwz_def_reading.specs.Shared.{NamedList}
 use Rattle.dwz_def_encoding.specs.Meant.{AreRenumbered, Tells, all_entry_keys}
 use Rattle.dwz_def_reading.specs.Meanings.{Sources}
 use Rattle.dwz_def_tops.specs.Spots.{EntryName, FileUnit, PartialOf, UnitOf, same_spot}
-use Rattle.dwz_def_plan.specs.Homes.{Common, file_of, same_home}
-use Rattle.dwz_def_plan.specs.Moves.{Move, first_unit, image_in, part_at}
-use Rattle.dwz_def_plan.specs.Plan.{PartialUnit}
-use Rattle.dwz_def_images.specs.After.{Place, at_file}
+use Rattle.dwz_def_images.specs.Homes.{Common, file_of, same_home}
+use Rattle.dwz_def_images.specs.Moves.{Move, first_unit, image_in, part_at}
+use Rattle.dwz_def_images.specs.Plan.{PartialUnit}
+use Rattle.dwz_def_reading.specs.Places.{Place, at_file}
 use Rattle.dwz_def_images.specs.Units.{common_units, out_units}
 use Rattle.dwz_def_encoding.specs.Bases.{Bases, bases_in, no_bases}
-use Rattle.dwz_def_encoding.specs.Placing.{FileOut, Forms, UnitSections, file_in, files_placed, fit_units, lines_bytes, number_of_key}
-use Rattle.dwz_def_encoding.specs.Placing.{numbering}
-use Rattle.dwz_def_encoding.specs.Placing.{paths_of, sections, texts_bytes, texts_of}
+use Rattle.dwz_def_encoding.specs.Placing.{FileOut, Forms, UnitSections, file_in, files_placed, fit_units, lines_bytes, number_of_key, numbering, paths_of, sections, texts_bytes, texts_of}
 use Rattle.dwz_def_reading.specs.ElfLayout.{too_large}
 use Rattle.dwz_def_reading.specs.Pruning.{new_number, pruned}
 use Rattle.dwz_def_encoding.specs.Pruned.{AreNewSlots, all_uses, renumbered_units, slot_after, known_slots}

@@ -3,7 +3,7 @@ use Rattle.std.specs.Prelude.{ℕ, zero, suc, ◌+◌, ◌==◌, ◌&&◌, ◌||
 use Rattle.std.specs.List.{list_all, list_any}
 use Rattle.std.specs.Option.{option_eq, option_map_or}
 use Rattle.std.specs.Str.{bytes_eq}
-use Rattle.dwz_model.specs.declared.fault.Fault.{Fault}
+use Rattle.dwz_def_reading.specs.Fault.{Fault}
 use Rattle.dwz_def_reading.specs.ElfHeaders.{headers_in, is_there}
 use Rattle.dwz_def_reading.specs.ElfNames.{name_at, name_table}
 use Rattle.dwz_def_reading.specs.Classes.{Class, OfConstant, OfTextBySlot, class_of, names_file}

@@ -6,7 +6,7 @@ use Rattle.dwz_def_tops.specs.Alike.{IsAlike, TopScope}
 use Rattle.dwz_def_tops.specs.Spots.{EntryName, file_numbers, same_spot, units_of}
 use Rattle.dwz_def_tops.specs.Lists.{NoneTwice}
 use Rattle.dwz_def_tops.specs.Shown.{units_keys}
-use Rattle.dwz_def_plan.specs.Homes.{IsChoice, Rule}
+use Rattle.dwz_def_images.specs.Homes.{IsChoice, Rule}
 use Rattle.dwz_def_images.specs.After.{ArePlaced}
 use Rattle.dwz_def_images.specs.Units.{all_units}
 use Rattle.dwz_def_encoding.specs.Fitting.{UnitHasRoom}

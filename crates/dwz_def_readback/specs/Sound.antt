@@ -7,7 +7,7 @@ use Rattle.dwz_def_tops.specs.Alike.{IsAlike, TopScope}
 use Rattle.dwz_def_tops.specs.Spots.{EntryName, units_of}
 use Rattle.dwz_def_tops.specs.Lists.{NoneTwice}
 use Rattle.dwz_def_tops.specs.Shown.{units_keys}
-use Rattle.dwz_def_plan.specs.Homes.{IsChoice, Rule}
+use Rattle.dwz_def_images.specs.Homes.{IsChoice, Rule}
 use Rattle.dwz_def_images.specs.Units.{all_units}
 use Rattle.dwz_def_encoding.specs.Placing.{FileOut, lines_bytes, texts_bytes}
 use Rattle.dwz_def_encoding.specs.Sound.{SoundUnit}

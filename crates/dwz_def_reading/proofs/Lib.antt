@@ -4,6 +4,8 @@ pub use Rattle.dwz_bytes.proofs.FixedLemmas
 pub use Rattle.dwz_bytes.proofs.GroupLemmas
 pub use Rattle.dwz_bytes.proofs.PaddedLemmas
 pub use Rattle.dwz_bytes.proofs.SignedLemmas
+pub use Rattle.dwz_model.proofs.Members
+pub use Rattle.dwz_model.proofs.OnceLemmas
 pub mod PartLemmas
 pub mod TextLemmas
 pub mod TextRowLemmas

@@ -8,6 +8,14 @@ pub use Rattle.dwz_codes.specs.ListKinds
 pub use Rattle.dwz_codes.specs.Operators
 pub use Rattle.dwz_codes.specs.Rows
 pub use Rattle.dwz_codes.specs.declared.shape.Shape
+pub use Rattle.dwz_model.specs.declared.fault.Fault
+pub use Rattle.dwz_model.specs.declared.fault.Reason
+pub use Rattle.dwz_model.specs.declared.fault.Refusal
+pub use Rattle.dwz_model.specs.declared.place.Base
+pub use Rattle.dwz_model.specs.declared.place.Pair
+pub use Rattle.dwz_model.specs.declared.sections.Sections
+pub use Rattle.dwz_codes.specs.Attributes
+pub use Rattle.dwz_codes.specs.Tags
 pub mod FirstOf
 pub mod Parts
 pub mod Items

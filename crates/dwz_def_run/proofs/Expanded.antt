@@ -1,7 +1,7 @@
 -- Of a file that is written without its partial units at most one thing comes, and something does.
 use Rattle.std.proofs.Common.{◌≡◌, ◌⊎◌, ℕ, List, [], ◌∷◌, Option, Some, None, Result, Ok, Err, refl, sym, ap, subst, ◌∙◌, inl, inr}
 use Rattle.std.specs.Option.{option_map}
-use Rattle.dwz_model.specs.declared.fault.Refusal.{Refusal}
+use Rattle.dwz_def_reading.specs.Refusal.{Refusal}
 use Rattle.dwz_def_reading.specs.Documents.{Doc}
 use Rattle.dwz_def_reading.specs.Files.{Limits, ReadsBy, limits_after, no_files_before}
 use Rattle.dwz_def_reading.specs.Finished.{FinishedDocs, FirstFinished, ReadAllBy, ReadFinished, finished_meaning, rule_of_back, rule_of_common}
@@ -11,9 +11,9 @@ use Rattle.dwz_def_reading.proofs.AgreeLemmas.{same_meaning}
 use Rattle.dwz_def_reading.proofs.FileLemmas.{file_agrees_by}
 use Rattle.dwz_def_reading.proofs.FinishedLemmas.{finished_agrees}
 use Rattle.dwz_def_expand.specs.OneFile.{CommonReads, FileRead, OneFile, ReadsOne, limits_behind, rule_for}
-use Rattle.dwz_def_expanded.specs.NewFile.{NewRefusal, expanded_bytes}
-use Rattle.dwz_def_expanded.proofs.EitherOne.{either}
-use Rattle.dwz_def_expanded.proofs.OneRefusal.{one_refusal}
+use Rattle.dwz_def_expand.specs.NewFile.{NewRefusal, expanded_bytes}
+use Rattle.dwz_def_expand.proofs.EitherOne.{either}
+use Rattle.dwz_def_expand.proofs.OneRefusal.{one_refusal}
 use Rattle.dwz_words.specs.declared.options.Options.{Options}
 use Rattle.dwz_run_course.specs.Outcome.{Outcome, refuses, writes}
 use Rattle.dwz_def_run.specs.Compares.{common_in}

@@ -1,6 +1,6 @@
 -- Of options and contents at most one thing comes.
 use Rattle.std.proofs.Common.{◌≡◌, ◌↔◌, ℕ, Bool, true, false, List, [], ◌∷◌, Result, Ok, Err, refl, sym, ap, subst, ◌∙◌, inl, inr}
-use Rattle.dwz_model.specs.declared.fault.Refusal.{Refusal}
+use Rattle.dwz_def_reading.specs.Refusal.{Refusal}
 use Rattle.dwz_def_reading.specs.Documents.{Doc}
 use Rattle.dwz_def_reading.specs.Files.{First, ReadAll, no_files_before}
 use Rattle.dwz_def_reading.proofs.FileLemmas.{files_agree}

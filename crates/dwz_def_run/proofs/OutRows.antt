@@ -12,9 +12,9 @@ use Rattle.dwz_def_tops.specs.Alike.{any_entry, unit_in}
 use Rattle.dwz_def_tops.specs.Deciding.{alike_test, bound_test, look_test, same_by, same_entries, same_int, same_part, same_plain, top_in}
 use Rattle.dwz_def_tops.specs.Spots.{entry_spots, file_numbers, named_files, row_from, row_in, row_tops, same_numbers, same_spot, spot_in, spots_from, top_spots, tops_among, tops_from}
 use Rattle.dwz_def_tops.proofs.SmallDocs.{int_type, short_type, then, unit, unspecified}
-use Rattle.dwz_def_plan.specs.Gain.{attrs_weight, bare_bytes, entries_weight, gain_test, gains_test, group_weight, weights}
-use Rattle.dwz_def_plan.specs.Homes.{candidate, file_of, first_alike, home, numbers_from, users}
-use Rattle.dwz_def_plan.specs.Plan.{distinct, joined_parts, local_partials, partials, partials_at, representatives, stand_in}
+use Rattle.dwz_def_images.specs.Gain.{attrs_weight, bare_bytes, entries_weight, gain_test, gains_test, group_weight, weights}
+use Rattle.dwz_def_images.specs.Homes.{candidate, file_of, first_alike, home, numbers_from, users}
+use Rattle.dwz_def_images.specs.Plan.{distinct, joined_parts, local_partials, partials, partials_at, representatives, stand_in}
 use Rattle.dwz_def_images.specs.Units.{changes}
 use Rattle.dwz_def_readback.specs.Files.{imports_common}
 use Rattle.dwz_outside.specs.declared.puts.Put.{Put}
@@ -23,9 +23,8 @@ use Rattle.dwz_run_course.specs.declared.output.Output.{Output}
 use Rattle.dwz_run_course.specs.declared.output.Said.{Said}
 use Rattle.dwz_run_course.specs.declared.output.Said.TheVariants.{Parts, Slimmed}
 use Rattle.dwz_run_course.specs.Ends.{done_text}
-use Rattle.dwz_def_run.specs.Out.{files_puts_by, summary_lines_by}
+use Rattle.dwz_def_run.specs.Out.{files_puts_by, summary_lines_by, output_of, run_for}
 use Rattle.dwz_def_output.specs.FilesAfter.{has_common}
-use Rattle.dwz_def_run.specs.Out.{output_of, run_for}
 
 -- the words `a` and `-o out`, or `-m common` and these FILEs
 abbrev options : Option (List ℕ) → Option (List ℕ) → List (List ℕ) → Options

@@ -1,6 +1,6 @@
 -- Of options and contents something comes: which files are prunable is told by a test. Of files that are compared no test is at hand.
 use Rattle.std.proofs.Common.{◌≡◌, ◌⊎◌, ℕ, Bool, true, false, List, [], ◌∷◌, Result, Ok, Err, refl, inl, inr}
-use Rattle.dwz_model.specs.declared.fault.Refusal.{Refusal}
+use Rattle.dwz_def_reading.specs.Refusal.{Refusal}
 use Rattle.dwz_def_reading.specs.Documents.{Doc}
 use Rattle.dwz_def_reading.specs.Files.{Limits, ReadAll, files_meaning, limits_after, no_files_before}
 use Rattle.dwz_def_reading.proofs.FileLemmas.{files_agree}

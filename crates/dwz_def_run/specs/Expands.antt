@@ -1,10 +1,10 @@
 -- What comes of options that ask for a file without its partial units.
 use Rattle.std.specs.Prelude.{◌≡◌, ◌⊎◌, ℕ, List, [], ◌∷◌, length, Option, Some, None, false, get_or, unwrap_or}
 use Rattle.std.specs.Option.{option_map}
-use Rattle.dwz_model.specs.declared.fault.Refusal.{Refusal}
+use Rattle.dwz_def_reading.specs.Refusal.{Refusal}
 use Rattle.dwz_def_reading.specs.Finished.{FirstFinished}
 use Rattle.dwz_def_expand.specs.OneFile.{OneFile, ReadsOne}
-use Rattle.dwz_def_expanded.specs.NewFile.{NewRefusal, expanded_bytes}
+use Rattle.dwz_def_expand.specs.NewFile.{NewRefusal, expanded_bytes}
 use Rattle.dwz_report.specs.declared.summary.Summary.{Summary}
 use Rattle.dwz_words.specs.declared.options.Options.{Options}
 use Rattle.dwz_run_course.specs.declared.output.Output.{Output}

@@ -4,3 +4,11 @@ pub mod Expands
 pub mod Out
 pub mod Stops
 pub mod Laws
+pub mod Reuses
+pub mod Comes
+pub mod ReusesStops
+pub mod ReusesLaws
+pub mod Batches
+pub mod Yields
+pub mod BatchesStops
+pub mod BatchesLaws

@@ -1,11 +1,11 @@
 -- What a run puts and says, by its options and the contents of its files; or the refusal of these.
 use Rattle.std.specs.Prelude.{◌≡◌, ◌⊎◌, ℕ, suc, Bool, true, false, List, [], ◌∷◌, ◌++◌, length, Option, Some, None, unwrap_or}
 use Rattle.std.specs.Prelude.{if◌then◌else◌}
-use Rattle.dwz_model.specs.declared.fault.Refusal.{Refusal}
+use Rattle.dwz_def_reading.specs.Refusal.{Refusal}
 use Rattle.dwz_def_reading.specs.Documents.{Doc}
 use Rattle.dwz_def_reading.specs.Files.{First, no_files_before}
 use Rattle.dwz_def_tops.specs.Alike.{Apart, TopScope, Together}
-use Rattle.dwz_def_plan.specs.Homes.{Rule}
+use Rattle.dwz_def_images.specs.Homes.{Rule}
 use Rattle.dwz_def_images.specs.Units.{changes}
 use Rattle.dwz_def_readback.specs.Files.{CommonFile, Made, Run}
 use Rattle.dwz_outside.specs.declared.puts.Put.{Put}

@@ -1,9 +1,9 @@
 -- What comes of options that ask why two entries aren't shared.
 use Rattle.std.specs.Prelude.{◌≡◌, ◌⊎◌, List, [], ◌∷◌, ℕ, false, Err}
-use Rattle.dwz_model.specs.declared.fault.Refusal.{Refusal}
+use Rattle.dwz_def_reading.specs.Refusal.{Refusal}
 use Rattle.dwz_def_reading.specs.Documents.{Doc}
 use Rattle.dwz_def_reading.specs.Files.{First, ReadAll, no_files_before}
-use Rattle.dwz_def_images.specs.After.{Place, at_file}
+use Rattle.dwz_def_reading.specs.Places.{Place, at_file}
 use Rattle.dwz_def_explain.specs.Places.{Explains, IsTextOf}
 use Rattle.dwz_text.specs.Lines.{Text}
 use Rattle.dwz_words.specs.Asked.{places_asked}

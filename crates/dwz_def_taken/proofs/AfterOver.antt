@@ -6,11 +6,11 @@ use Rattle.dwz_def_reading.proofs.ListFacts.{in_cases, in_left, in_right}
 use Rattle.dwz_def_tops.specs.Lists.{Nth}
 use Rattle.dwz_def_tops.proofs.Members.{each_in, nth_in}
 use Rattle.dwz_def_tops.specs.Spots.{EntryName, FileUnit, file_numbers}
-use Rattle.dwz_def_plan.specs.Homes.{Common, Home, Local, Stay, is_home}
-use Rattle.dwz_def_plan.specs.IsPlan.{IsPart}
-use Rattle.dwz_def_plan.specs.Moves.{Move}
-use Rattle.dwz_def_plan.specs.Plan.{PartialUnit, local_partials, partials, partials_at}
-use Rattle.dwz_def_plan.proofs.PlanLemmas.{are_parts, file_from, home_at}
+use Rattle.dwz_def_images.specs.Homes.{Common, Home, Local, Stay, is_home}
+use Rattle.dwz_def_images.specs.IsPlan.{IsPart}
+use Rattle.dwz_def_images.specs.Moves.{Move}
+use Rattle.dwz_def_images.specs.Plan.{PartialUnit, local_partials, partials, partials_at}
+use Rattle.dwz_def_images.proofs.PlanLemmas.{are_parts, file_from, home_at}
 use Rattle.dwz_def_images.specs.After.{AreAfter, IsKeptUnit, IsNewUnit}
 use Rattle.dwz_def_images.specs.Units.{all_units, common_units, file_units, kept_unit, kept_units, out_units, partial_unit, partial_units}
 use Rattle.dwz_def_images.proofs.FileLemmas.{files_are}
@@ -22,7 +22,7 @@ use Rattle.dwz_def_taken.specs.Over.{common_parts, move_over}
 use Rattle.dwz_def_taken.specs.Takes.{IsFixed, free_rule}
 use Rattle.dwz_def_taken.proofs.CommonParts.{common_nth}
 use Rattle.dwz_def_taken.proofs.CommonUnits.{not_shared}
-use Rattle.dwz_def_images.proofs.OldFiles.{nth_cases}
+use Rattle.dwz_def_tops.proofs.FiledTops.{nth_cases}
 
 module _ (m : Move) (units : List (FileUnit EntryName)) where
   file_in : (some : List ℕ) (file : ℕ) → In file some → (v : DwUnit EntryName) → In v (out_units m units file) → In v (file_units m units some)

@@ -15,13 +15,13 @@ use Rattle.dwz_def_tops.proofs.ShownLemmas.{closed_shown, map_shown}
 use Rattle.dwz_def_tops.specs.Spots.{EntryName, FileUnit, LabelledTop, Row, Top, Within, file_numbers, name_list, rows_of_root, tops_of, in_file, named_files, named_in, spot_in}
 use Rattle.dwz_def_tops.proofs.RowLemmas.{unit_row}
 use Rattle.dwz_def_tops.proofs.Tops.{unit_of}
-use Rattle.dwz_def_plan.specs.Homes.{moves}
-use Rattle.dwz_def_plan.specs.IsPlan.{IsPart}
-use Rattle.dwz_def_plan.specs.Moves.{Move, image_in, seen_top, part_at, root_in_part, row_in_part}
-use Rattle.dwz_def_plan.specs.Plan.{PartialUnit, image_by, part_row, partials, stand_in}
-use Rattle.dwz_def_plan.proofs.PartRows.{part_is}
-use Rattle.dwz_def_plan.proofs.PlanLemmas.{are_parts, has_rep}
-use Rattle.dwz_def_plan.proofs.UserLemmas.{moves_self, rep_is, stands_same}
+use Rattle.dwz_def_images.specs.Homes.{moves}
+use Rattle.dwz_def_images.specs.IsPlan.{IsPart}
+use Rattle.dwz_def_images.specs.Moves.{Move, image_in, seen_top, part_at, root_in_part, row_in_part}
+use Rattle.dwz_def_images.specs.Plan.{PartialUnit, image_by, part_row, partials, stand_in}
+use Rattle.dwz_def_images.proofs.PartRows.{part_is}
+use Rattle.dwz_def_images.proofs.PlanLemmas.{are_parts, has_rep}
+use Rattle.dwz_def_images.proofs.UserLemmas.{moves_self, rep_is, stands_same}
 use Rattle.dwz_def_images.specs.After.{AreAfter}
 use Rattle.dwz_def_images.specs.Held.{Kinded, NameNone}
 use Rattle.dwz_def_images.specs.Images.{units_in}
@@ -30,7 +30,8 @@ use Rattle.dwz_def_images.proofs.ClosedLemmas.{none_seen}
 use Rattle.dwz_def_images.proofs.FileLemmas.{files_are}
 use Rattle.dwz_def_images.proofs.HeldLemmas.{part_found, root_none}
 use Rattle.dwz_def_images.proofs.KindLemmas.{part_row_kinded, top_plain}
-use Rattle.dwz_def_images.proofs.OldFiles.{closed_append, filed_units, nth_cases, units_append}
+use Rattle.dwz_def_images.proofs.OldFiles.{closed_append, filed_units, units_append}
+use Rattle.dwz_def_tops.proofs.FiledTops.{nth_cases}
 use Rattle.dwz_def_images.proofs.TreeLemmas.{Behind, OfASpace, OfATop, TreeOrigin, seen_top_map, tree_origin, tree_seen}
 use Rattle.dwz_def_images.proofs.OldLemmas.{top_at}
 use Rattle.dwz_def_images.proofs.OldRows.{raw_seen, raw_top}

@@ -11,12 +11,13 @@ use Rattle.dwz_def_tops.proofs.ShownLemmas.{attr_from, entry_under}
 use Rattle.dwz_def_tops.specs.Spots.{EntryName, FileUnit, PartialRoot, Top, rows_of_root, row_tops, tops_of}
 use Rattle.dwz_def_tops.proofs.RowLemmas.{unit_row}
 use Rattle.dwz_def_tops.proofs.Tops.{row_top, unit_of}
-use Rattle.dwz_def_plan.specs.IsPlan.{OfSpace, OfTop}
-use Rattle.dwz_def_plan.specs.Moves.{Move, image_in, seen_top}
-use Rattle.dwz_def_plan.specs.Plan.{PartialUnit, import_of, imports, kept_row}
-use Rattle.dwz_def_plan.proofs.KeptLemmas.{are_imports}
-use Rattle.dwz_def_plan.proofs.RowParts.{kept_is}
-use Rattle.dwz_def_images.specs.After.{AreAfter, AreOld, IsNamedBelow}
+use Rattle.dwz_def_images.specs.IsPlan.{OfSpace, OfTop}
+use Rattle.dwz_def_images.specs.Moves.{Move, image_in, seen_top}
+use Rattle.dwz_def_images.specs.Plan.{PartialUnit, import_of, imports, kept_row}
+use Rattle.dwz_def_images.proofs.KeptLemmas.{are_imports}
+use Rattle.dwz_def_images.proofs.RowParts.{kept_is}
+use Rattle.dwz_def_images.specs.After.{AreAfter, AreOld}
+use Rattle.dwz_def_tops.specs.UnitNames.{IsNamedBelow}
 use Rattle.dwz_def_images.specs.Held.{NameNone}
 use Rattle.dwz_def_images.specs.Images.{units_in}
 use Rattle.dwz_def_images.specs.Units.{changes, kept_unit, partial_unit, tree}

@@ -9,10 +9,10 @@ use Rattle.dwz_def_tops.proofs.AlikeLaws.{alike_decides, alike_joins, alike_self
 use Rattle.dwz_def_tops.proofs.AlikePer.{IsPer, alike_per, alike_step}
 use Rattle.dwz_def_tops.proofs.Relations.{step_top}
 use Rattle.dwz_def_tops.proofs.Targets.{RefsOfTop, no_address}
-use Rattle.dwz_def_plan.specs.Moves.{seen_top}
-use Rattle.dwz_def_plan.specs.Plan.{image_by}
-use Rattle.dwz_def_plan.proofs.ImageLemmas.{top_same}
-use Rattle.dwz_def_plan.proofs.UserLemmas.{rep_same}
+use Rattle.dwz_def_images.specs.Moves.{seen_top}
+use Rattle.dwz_def_images.specs.Plan.{image_by}
+use Rattle.dwz_def_images.proofs.ImageLemmas.{top_same}
+use Rattle.dwz_def_images.proofs.UserLemmas.{rep_same}
 use Rattle.dwz_def_taken.specs.Beside.{CommonAlike, Reused, look_units, own_tops}
 use Rattle.dwz_def_taken.specs.Over.{common_test, copy}
 use Rattle.dwz_def_taken.proofs.LookTops.{LikeIn, as_like, like_there}

@@ -8,15 +8,15 @@ use Rattle.dwz_def_reading.proofs.HasLemmas.{in_has}
 use Rattle.dwz_def_tops.specs.Lists.{Nth}
 use Rattle.dwz_def_tops.proofs.Members.{in_filter, in_filter_from, nth_from}
 use Rattle.dwz_def_tops.specs.Spots.{EntryName, FileUnit}
-use Rattle.dwz_def_plan.specs.Homes.{numbers_from}
-use Rattle.dwz_def_plan.specs.Plan.{PartialUnit, partials}
-use Rattle.dwz_def_plan.proofs.UserLemmas.{in_numbers}
+use Rattle.dwz_def_images.specs.Homes.{numbers_from}
+use Rattle.dwz_def_images.specs.Plan.{PartialUnit, partials}
+use Rattle.dwz_def_images.proofs.UserLemmas.{in_numbers}
 use Rattle.dwz_def_taken.specs.declared.fixed.Fixed.{Fixed}
 use Rattle.dwz_def_taken.specs.Beside.{Reused}
 use Rattle.dwz_def_taken.specs.Laws.{TakersLaw}
 use Rattle.dwz_def_taken.specs.Over.{common_part, common_parts, takers}
 use Rattle.dwz_def_taken.specs.Takes.{IsFixed, Takes, free_rule, takes_of}
-use Rattle.dwz_def_images.proofs.OldFiles.{nth_cases}
+use Rattle.dwz_def_tops.proofs.FiledTops.{nth_cases}
 
 pub has_in : (n : ℕ) (ms : List ℕ) → has n ms ≡ true → In n ms
 unfolding has

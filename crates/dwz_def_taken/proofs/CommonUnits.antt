@@ -10,19 +10,18 @@ use Rattle.dwz_def_tops.proofs.Members.{each_append, each_in, nth_in}
 use Rattle.dwz_def_tops.specs.Alike.{Apart}
 use Rattle.dwz_def_tops.specs.Spots.{EntryName, FileUnit, Standing, Top, Within, entry_spots, file_numbers, number_tops, spot_in, spot_numbering, spots_from, top_spots, tops_of}
 use Rattle.dwz_def_tops.proofs.AlikeLaws.{alike_decides}
-use Rattle.dwz_def_plan.specs.Homes.{Common, Home, candidate, file_of, is_home, moves, same_home, users}
-use Rattle.dwz_def_plan.specs.IsPlan.{IsHome, IsPart}
-use Rattle.dwz_def_plan.specs.Moves.{Move, image_in}
-use Rattle.dwz_def_plan.specs.Plan.{PartialUnit, partials, stand_in}
-use Rattle.dwz_def_plan.proofs.HomeLemmas.{file_of_top, home_is}
-use Rattle.dwz_def_plan.proofs.PlanLemmas.{are_parts, home_true}
-use Rattle.dwz_def_plan.proofs.UserLemmas.{moving, stay_fixed, used_by}
+use Rattle.dwz_def_images.specs.Homes.{Common, Home, candidate, file_of, is_home, moves, same_home, users}
+use Rattle.dwz_def_images.specs.IsPlan.{IsHome, IsPart}
+use Rattle.dwz_def_images.specs.Moves.{Move, image_in}
+use Rattle.dwz_def_images.specs.Plan.{PartialUnit, partials, stand_in}
+use Rattle.dwz_def_images.proofs.HomeLemmas.{file_of_top, home_is}
+use Rattle.dwz_def_images.proofs.PlanLemmas.{are_parts, home_true}
+use Rattle.dwz_def_images.proofs.UserLemmas.{moving, stay_fixed, used_by}
 use Rattle.dwz_def_images.specs.Units.{common_units, partial_unit, partial_units}
 use Rattle.dwz_def_taken.specs.declared.fixed.Fixed.{Fixed}
 use Rattle.dwz_def_taken.specs.Beside.{Reused, as_compile, own_tops, reused_of}
 use Rattle.dwz_def_taken.specs.Laws.{ArePlacedOver, IsReused}
-use Rattle.dwz_def_taken.specs.MoveLaws.{StandsAs}
-use Rattle.dwz_def_taken.specs.MoveLaws.{SameOn}
+use Rattle.dwz_def_taken.specs.MoveLaws.{StandsAs, SameOn}
 use Rattle.dwz_def_taken.specs.Over.{as_part, common_parts, move_over, standing_unit}
 use Rattle.dwz_def_taken.specs.Takes.{IsFixed, free_rule, free_test}
 use Rattle.dwz_def_taken.proofs.NamesOver.{common_spots, from_common, named_over}

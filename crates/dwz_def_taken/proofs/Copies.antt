@@ -4,7 +4,7 @@ use Rattle.std.proofs.lemmas.Bool.{and_parts, leb-true}
 use Rattle.std.specs.Prelude.{nat_le}
 use Rattle.dwz_def_tops.specs.Deciding.{Test}
 use Rattle.dwz_def_tops.specs.Spots.{EntryName, Top, Within, tops_of}
-use Rattle.dwz_def_plan.specs.Homes.{first_alike}
+use Rattle.dwz_def_images.specs.Homes.{first_alike}
 use Rattle.dwz_def_taken.specs.Beside.{CommonAlike, Copies, Reused, look_units, own_tops}
 use Rattle.dwz_def_taken.specs.Laws.{CopiesLaw}
 use Rattle.dwz_def_taken.specs.Over.{common_test, copy, copy_of}

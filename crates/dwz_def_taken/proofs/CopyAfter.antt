@@ -10,9 +10,9 @@ use Rattle.dwz_def_tops.specs.Seen.{SameAlong}
 use Rattle.dwz_def_tops.proofs.Members.{in_map_from}
 use Rattle.dwz_def_tops.proofs.ShownLemmas.{kind_then}
 use Rattle.dwz_def_tops.specs.Spots.{ASpace, ATop, FileUnit, Import, InChain, InType, Nothing, PartialOf, PartialRoot, RootOf, Row, SpaceAt, EntryName, UnitOf, Within}
-use Rattle.dwz_def_plan.specs.IsPlan.{AreFilesOf}
-use Rattle.dwz_def_plan.specs.Moves.{Move, image_in}
-use Rattle.dwz_def_plan.specs.Plan.{PartialUnit, image_by, import_of, imports, kept_row}
+use Rattle.dwz_def_images.specs.IsPlan.{AreFilesOf}
+use Rattle.dwz_def_images.specs.Moves.{Move, image_in}
+use Rattle.dwz_def_images.specs.Plan.{PartialUnit, image_by, import_of, imports, kept_row}
 use Rattle.dwz_def_images.specs.After.{AreAfter, AreOld}
 use Rattle.dwz_def_images.specs.Images.{units_in}
 use Rattle.dwz_def_images.specs.Units.{changes, kept_below, kept_unit, partial_unit, tree}

@@ -7,8 +7,10 @@ use Rattle.dwz_def_tops.specs.Spots.{EntryName, FileUnit, file_numbers}
 use Rattle.dwz_def_tops.proofs.MainLemmas.{keys_map, main_by}
 use Rattle.dwz_def_tops.proofs.ShownLemmas.{closed_shown, entries_placed, map_shown, types_placed}
 use Rattle.dwz_def_tops.proofs.ShownUnits.{entries_named, types_named, units_named, units_placed}
-use Rattle.dwz_def_plan.specs.Moves.{Move, image_in}
-use Rattle.dwz_def_images.specs.After.{Place, name_of_place, units_placed_from}
+use Rattle.dwz_def_images.specs.Moves.{Move, image_in}
+use Rattle.dwz_def_images.specs.After.{units_placed_from}
+use Rattle.dwz_def_tops.specs.UnitNames.{name_of_place}
+use Rattle.dwz_def_reading.specs.Places.{Place}
 use Rattle.dwz_def_images.specs.Images.{units_in}
 use Rattle.dwz_def_images.specs.Units.{all_units, kept_unit}
 use Rattle.dwz_def_images.proofs.EntryLemmas.{kept_type}

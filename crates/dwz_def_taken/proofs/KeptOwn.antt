@@ -9,11 +9,11 @@ use Rattle.dwz_def_tops.proofs.Members.{nth_below}
 use Rattle.dwz_def_tops.specs.Spots.{EntryName, FileUnit, Import, InType, LabelledSpaces, RootOf, Row, SpaceAt, Top, UnitOf, file_numbers, rows_of_root}
 use Rattle.dwz_def_tops.proofs.RowLemmas.{row_unit, unit_row}
 use Rattle.dwz_def_tops.proofs.Tops.{row_top}
-use Rattle.dwz_def_plan.specs.IsPlan.{Has, OfSpace, OfTop}
-use Rattle.dwz_def_plan.specs.Moves.{Move, image_in}
-use Rattle.dwz_def_plan.specs.Plan.{imports, kept_row, pinned_of, row_staying}
-use Rattle.dwz_def_plan.proofs.RowParts.{kept_is}
-use Rattle.dwz_def_images.specs.After.{IsNamedBelow}
+use Rattle.dwz_def_images.specs.IsPlan.{Has, OfSpace, OfTop}
+use Rattle.dwz_def_images.specs.Moves.{Move, image_in}
+use Rattle.dwz_def_images.specs.Plan.{imports, kept_row, pinned_of, row_staying}
+use Rattle.dwz_def_images.proofs.RowParts.{kept_is}
+use Rattle.dwz_def_tops.specs.UnitNames.{IsNamedBelow}
 use Rattle.dwz_def_images.specs.Held.{Kinded}
 use Rattle.dwz_def_images.specs.Units.{all_units, changes, kept_unit, tree}
 use Rattle.dwz_def_images.proofs.ApartKept.{pinned_none, row_none, staying_none}

@@ -13,9 +13,8 @@ use Rattle.dwz_def_tops.specs.Spots.{ASpace, ATop, FileUnit, Nothing, Row, Space
 use Rattle.dwz_def_tops.proofs.RowLemmas.{RowIs, below_unit, count_space, count_top, row_is, row_unit, top_at, top_of}
 use Rattle.dwz_def_tops.proofs.TopNumbers.{from_numbered, number_below, number_from}
 use Rattle.dwz_def_tops.proofs.TopOrder.{later_unit}
-use Rattle.dwz_def_images.proofs.OldFiles.{counted, tops_length}
+use Rattle.dwz_def_tops.proofs.FiledTops.{counted, tops_length, tops_append}
 use Rattle.dwz_def_taken.specs.Beside.{Reused, all_below, as_one, look_units, muted, own_tops, then_entries, together}
-use Rattle.dwz_def_images.proofs.StillLemmas.{tops_append}
 
 -- ---- tops that differ in their file, their unit and their language alone
 

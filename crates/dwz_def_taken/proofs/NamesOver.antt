@@ -7,7 +7,8 @@ use Rattle.dwz_def_reading.proofs.ListFacts.{in_cases}
 use Rattle.dwz_def_tops.proofs.Members.{each_append, in_map_from, nth_in}
 use Rattle.dwz_def_tops.specs.Spots.{EntryName, FileUnit, in_file, named_files, named_in, spot_in, spots_from, top_count, tops_among, tops_of, units_of}
 use Rattle.dwz_def_images.specs.After.{AreOld, ArePlaced}
-use Rattle.dwz_def_images.proofs.OldFiles.{counted, filed_count, filed_length, files_old, tops_length}
+use Rattle.dwz_def_images.proofs.OldFiles.{files_old}
+use Rattle.dwz_def_tops.proofs.FiledTops.{counted, filed_count, filed_length, tops_length}
 use Rattle.dwz_def_taken.specs.Beside.{as_compile, compile_doc, reused_of, together}
 use Rattle.dwz_def_taken.specs.Laws.{NamedOverLaw}
 

@@ -15,12 +15,12 @@ use Rattle.dwz_def_tops.proofs.AlikePer.{IsPer, alike_per, alike_step}
 use Rattle.dwz_def_tops.proofs.Relations.{step_top, tells_top}
 use Rattle.dwz_def_tops.proofs.TopNumbers.{top_at, tops_numbers}
 use Rattle.dwz_def_tops.proofs.Targets.{Inside, RefsOfTop, StandsIn, inside, no_address, refers_one, targets_by}
-use Rattle.dwz_def_plan.specs.Homes.{IsChoice, Rule, candidate, is_home, moves}
-use Rattle.dwz_def_plan.specs.Moves.{seen_top}
-use Rattle.dwz_def_plan.specs.Plan.{image_by, stand_in}
-use Rattle.dwz_def_plan.proofs.GainLemmas.{gain_choice_by}
-use Rattle.dwz_def_plan.proofs.ImageLemmas.{top_same}
-use Rattle.dwz_def_plan.proofs.UserLemmas.{Fair, chosen_moves, moves_other, stands_same, two_candidate}
+use Rattle.dwz_def_images.specs.Homes.{IsChoice, Rule, candidate, is_home, moves}
+use Rattle.dwz_def_images.specs.Moves.{seen_top}
+use Rattle.dwz_def_images.specs.Plan.{image_by, stand_in}
+use Rattle.dwz_def_images.proofs.GainLemmas.{gain_choice_by}
+use Rattle.dwz_def_images.proofs.ImageLemmas.{top_same}
+use Rattle.dwz_def_images.proofs.UserLemmas.{Fair, chosen_moves, moves_other, stands_same, two_candidate}
 use Rattle.dwz_def_taken.specs.declared.fixed.Fixed.{Fixed}
 use Rattle.dwz_def_taken.specs.Beside.{CommonAlike, Reused, look_units, own_tops, together}
 use Rattle.dwz_def_taken.specs.Laws.{IsReused}

@@ -12,14 +12,14 @@ use Rattle.dwz_def_tops.proofs.Members.{each_in, nth_from, nth_get, nth_in}
 use Rattle.dwz_def_tops.specs.Spots.{ASpace, ATop, EntryName, FileUnit, Import, InChain, InType, LabelledSpaces, LabelledTop, Nothing, PartialOf, PartialRoot, RootOf, Row, SpaceAt, Top, UnitOf, Within, file_numbers, rows_of_root, tops_of}
 use Rattle.dwz_def_tops.proofs.RowLemmas.{unit_row}
 use Rattle.dwz_def_tops.proofs.Tops.{one_top, row_top}
-use Rattle.dwz_def_plan.specs.Homes.{is_home, moves}
-use Rattle.dwz_def_plan.specs.IsPlan.{BelongsTo, Has, IsPart, Item, OfSpace, OfTop, numbers}
-use Rattle.dwz_def_plan.specs.Moves.{Move, image_in, part_at, row_in_part}
-use Rattle.dwz_def_plan.specs.Plan.{PartialUnit, part_row, partials, stand_in}
-use Rattle.dwz_def_plan.proofs.PlanLemmas.{are_parts, one_place}
-use Rattle.dwz_def_plan.proofs.PartRows.{part_is}
-use Rattle.dwz_def_plan.proofs.UserLemmas.{move_stand, moves_self, stay_fixed}
-use Rattle.dwz_def_images.specs.After.{IsNamedBelow}
+use Rattle.dwz_def_images.specs.Homes.{is_home, moves}
+use Rattle.dwz_def_images.specs.IsPlan.{BelongsTo, Has, IsPart, Item, OfSpace, OfTop, numbers}
+use Rattle.dwz_def_images.specs.Moves.{Move, image_in, part_at, row_in_part}
+use Rattle.dwz_def_images.specs.Plan.{PartialUnit, part_row, partials, stand_in}
+use Rattle.dwz_def_images.proofs.PlanLemmas.{are_parts, one_place}
+use Rattle.dwz_def_images.proofs.PartRows.{part_is}
+use Rattle.dwz_def_images.proofs.UserLemmas.{move_stand, moves_self, stay_fixed}
+use Rattle.dwz_def_tops.specs.UnitNames.{IsNamedBelow}
 use Rattle.dwz_def_images.specs.Held.{Kinded}
 use Rattle.dwz_def_images.specs.Units.{partial_root, partial_unit, tree}
 use Rattle.dwz_def_images.proofs.ApartKept.{row_none}
@@ -44,7 +44,7 @@ use Rattle.dwz_def_taken.proofs.OnceUnits.{IsUnitOwn}
 use Rattle.dwz_def_taken.proofs.OverLemmas.{fair, free_none, free_two}
 use Rattle.dwz_def_taken.proofs.PlaceLemmas.{in_part, nth_move, nth_right, whole}
 use Rattle.dwz_def_taken.proofs.RowMaps.{item_map, kinded_map, map_has}
-use Rattle.dwz_def_images.proofs.OldFiles.{nth_cases}
+use Rattle.dwz_def_tops.proofs.FiledTops.{nth_cases}
 
 pub no_end : (k : EntryName) → In k (keys End) → ⊥
 unfolding keys

@@ -22,7 +22,7 @@ use Rattle.dwz_def_taken.specs.Beside.{Reused, look_units, together}
 use Rattle.dwz_def_taken.specs.Laws.{IsReused}
 use Rattle.dwz_def_taken.specs.Takes.{InPart, PartRefers, attr_goes_to, is_of_unit, unit_goes_to}
 use Rattle.dwz_def_taken.proofs.LookTops.{AreWhole, as_like, like_there, look_from, own_look, own_number, own_unit, part_look, part_number, part_tops, part_unit_from, together_cases, part_together}
-use Rattle.dwz_def_images.proofs.OldFiles.{nth_cases}
+use Rattle.dwz_def_tops.proofs.FiledTops.{nth_cases}
 
 -- ---- lists one behind the other
 

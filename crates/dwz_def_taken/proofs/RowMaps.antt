@@ -6,7 +6,7 @@ use Rattle.dwz_def_reading.specs.Trees.{End, Entry}
 use Rattle.dwz_def_tops.proofs.SpaceLemmas.{text_map}
 use Rattle.dwz_def_tops.specs.Spots.{ASpace, ATop, Labelled, LabelledTop, Nothing, Row, EntryName, Top, Within}
 use Rattle.dwz_def_tops.proofs.Targets.{RefTo, RefsOf, RefsOfAttr, RefsOfNode, RefsOfTop}
-use Rattle.dwz_def_plan.specs.IsPlan.{Has, Item, OfSpace, OfTop}
+use Rattle.dwz_def_images.specs.IsPlan.{Has, Item, OfSpace, OfTop}
 use Rattle.dwz_def_images.specs.Held.{Kinded}
 use Rattle.dwz_def_taken.specs.Over.{row_map, top_map}
 

@@ -19,13 +19,13 @@ use Rattle.dwz_def_tops.proofs.AlikePer.{alike_step}
 use Rattle.dwz_def_tops.proofs.RowLemmas.{unit_row}
 use Rattle.dwz_def_tops.proofs.Targets.{RefTo, RefsOfAttr}
 use Rattle.dwz_def_tops.proofs.Tops.{row_top, unit_of}
-use Rattle.dwz_def_plan.specs.Homes.{is_home, moves}
-use Rattle.dwz_def_plan.specs.IsPlan.{AreFilesOf, Has, IsPart, Item, OfSpace, OfTop}
-use Rattle.dwz_def_plan.specs.Moves.{Move, part_at, row_in_part}
-use Rattle.dwz_def_plan.specs.Plan.{PartialUnit, image_by, part_row, partials}
-use Rattle.dwz_def_plan.proofs.PartRows.{entry_text, part_is}
-use Rattle.dwz_def_plan.proofs.PlanLemmas.{are_parts, has_rep}
-use Rattle.dwz_def_plan.proofs.UserLemmas.{moves_self, rep_is, stands_same, used, used_by}
+use Rattle.dwz_def_images.specs.Homes.{is_home, moves}
+use Rattle.dwz_def_images.specs.IsPlan.{AreFilesOf, Has, IsPart, Item, OfSpace, OfTop}
+use Rattle.dwz_def_images.specs.Moves.{Move, part_at, row_in_part}
+use Rattle.dwz_def_images.specs.Plan.{PartialUnit, image_by, part_row, partials}
+use Rattle.dwz_def_images.proofs.PartRows.{entry_text, part_is}
+use Rattle.dwz_def_images.proofs.PlanLemmas.{are_parts, has_rep}
+use Rattle.dwz_def_images.proofs.UserLemmas.{moves_self, rep_is, stands_same, used, used_by}
 use Rattle.dwz_def_images.specs.Held.{HasSpaceLike, HasTopLike, IsHeldIn, Kinded, NamesNoRoot, Serves}
 use Rattle.dwz_def_images.proofs.HeldLemmas.{part_found}
 use Rattle.dwz_def_images.proofs.KindLemmas.{part_row_kinded, top_plain}
@@ -43,7 +43,7 @@ use Rattle.dwz_def_taken.proofs.LookTops.{own_look, part_look}
 use Rattle.dwz_def_taken.proofs.OverLemmas.{common_stand, fair, free_none, free_two, image_is, moving_seen, stand, stand_none, taken_seen, taken_stand}
 use Rattle.dwz_def_taken.proofs.PlaceLemmas.{PartTop, in_part, nth_left, nth_move, nth_right, part_inside, part_nth, whole}
 use Rattle.dwz_def_taken.proofs.RowMaps.{has_map, item_map, kinded_map, map_has, top_fixed}
-use Rattle.dwz_def_images.proofs.OldFiles.{nth_cases}
+use Rattle.dwz_def_tops.proofs.FiledTops.{nth_cases}
 
 -- ---- names at the end of a list
 

@@ -8,12 +8,11 @@ use Rattle.dwz_def_reading.specs.Documents.{Attr, Entries, Partial, attr_map, en
 use Rattle.dwz_def_tops.specs.Lists.{Nth}
 use Rattle.dwz_def_tops.specs.Spots.{ASpace, ATop, FileUnit, Nothing, PartialOf, PartialRoot, Row, EntryName, rows_of_root}
 use Rattle.dwz_def_tops.proofs.RowLemmas.{unit_row}
-use Rattle.dwz_def_plan.specs.Moves.{image_in}
+use Rattle.dwz_def_images.specs.Moves.{image_in}
 use Rattle.dwz_def_images.specs.Units.{tree}
 use Rattle.dwz_def_images.proofs.KeyLemmas.{tree_is}
 use Rattle.dwz_def_taken.specs.Beside.{together}
-use Rattle.dwz_def_taken.specs.MoveLaws.{StandingLaw}
-use Rattle.dwz_def_taken.specs.MoveLaws.{SameOn}
+use Rattle.dwz_def_taken.specs.MoveLaws.{StandingLaw, SameOn}
 use Rattle.dwz_def_taken.specs.Over.{as_part, common_root, common_row, move_over, row_map}
 use Rattle.dwz_def_taken.proofs.MapsTwice.{entries_then, node_then}
 use Rattle.dwz_def_taken.proofs.PlaceLemmas.{nth_move, nth_right}

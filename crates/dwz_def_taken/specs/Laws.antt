@@ -8,10 +8,12 @@ use Rattle.dwz_def_tops.specs.Seen.{Closed, SameAlong}
 use Rattle.dwz_def_tops.specs.Shown.{HaveMains, OnePlace, UnitsShown, units_keys}
 use Rattle.dwz_def_tops.specs.Alike.{Movable}
 use Rattle.dwz_def_tops.specs.Spots.{EntryName, FileUnit, Top, file_numbers, tops_of, units_of}
-use Rattle.dwz_def_plan.specs.Homes.{Rule}
-use Rattle.dwz_def_plan.specs.Moves.{Move, image_in, plan}
-use Rattle.dwz_def_plan.specs.Plan.{PartialUnit}
-use Rattle.dwz_def_images.specs.After.{AreAfter, AreOld, ArePlaced, Place, name_of_place, units_placed_from}
+use Rattle.dwz_def_images.specs.Homes.{Rule}
+use Rattle.dwz_def_images.specs.Moves.{Move, image_in, plan}
+use Rattle.dwz_def_images.specs.Plan.{PartialUnit}
+use Rattle.dwz_def_images.specs.After.{AreAfter, AreOld, ArePlaced, units_placed_from}
+use Rattle.dwz_def_tops.specs.UnitNames.{name_of_place}
+use Rattle.dwz_def_reading.specs.Places.{Place}
 use Rattle.dwz_def_images.specs.Images.{units_in}
 use Rattle.dwz_def_images.specs.Units.{all_units, common_units}
 use Rattle.dwz_def_taken.specs.declared.fixed.Fixed.{Fixed}

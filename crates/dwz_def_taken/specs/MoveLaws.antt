@@ -6,8 +6,8 @@ use Rattle.dwz_def_reading.specs.Trees.{End, Entry}
 use Rattle.dwz_def_tops.specs.Lists.{Nth}
 use Rattle.dwz_def_tops.specs.Seen.{SameAlong}
 use Rattle.dwz_def_tops.specs.Spots.{EntryName, FileUnit, RootOf, UnitOf}
-use Rattle.dwz_def_plan.specs.IsPlan.{AreFilesOf}
-use Rattle.dwz_def_plan.specs.Moves.{Move, image_in}
+use Rattle.dwz_def_images.specs.IsPlan.{AreFilesOf}
+use Rattle.dwz_def_images.specs.Moves.{Move, image_in}
 use Rattle.dwz_def_images.specs.After.{AreAfter}
 use Rattle.dwz_def_images.specs.Held.{Serves}
 use Rattle.dwz_def_images.specs.Images.{units_in}

@@ -8,9 +8,9 @@ use Rattle.dwz_def_reading.specs.Rows.{has}
 use Rattle.dwz_def_tops.specs.Alike.{Together}
 use Rattle.dwz_def_tops.specs.Deciding.{Test, alike_test}
 use Rattle.dwz_def_tops.specs.Spots.{ASpace, ATop, FileUnit, Nothing, PartialOf, PartialRoot, RootOf, Row, EntryName, Top, UnitOf, rows_of_root, row_tops}
-use Rattle.dwz_def_plan.specs.Homes.{Common, Rule, moves, numbers_from, rep}
-use Rattle.dwz_def_plan.specs.Moves.{Move, part_at, root_in_part, row_in_part}
-use Rattle.dwz_def_plan.specs.Plan.{PartialUnit, image_by, partials, stand_in}
+use Rattle.dwz_def_images.specs.Homes.{Common, Rule, moves, numbers_from, rep}
+use Rattle.dwz_def_images.specs.Moves.{Move, part_at, root_in_part, row_in_part}
+use Rattle.dwz_def_images.specs.Plan.{PartialUnit, image_by, partials, stand_in}
 use Rattle.dwz_def_taken.specs.declared.fixed.Fixed.{Fixed}
 use Rattle.dwz_def_taken.specs.Beside.{Reused, look_units, own_tops, together}
 use Rattle.dwz_def_taken.specs.Takes.{free_rule, image_at, takes_of}

@@ -11,8 +11,8 @@ use Rattle.dwz_def_tops.specs.Spaces.{IsSpace}
 use Rattle.dwz_def_tops.specs.Alike.{Alike, Apart, Movable, any_attr, any_entry, has_operand, is_number, refers_to, unit_in}
 use Rattle.dwz_def_tops.specs.Deciding.{Test, alike_test}
 use Rattle.dwz_def_tops.specs.Spots.{EntryName, FileUnit, RootOf, SpaceAt, Top, Within, tops_of}
-use Rattle.dwz_def_plan.specs.Gain.{gain_rule}
-use Rattle.dwz_def_plan.specs.Homes.{Rule}
+use Rattle.dwz_def_images.specs.Gain.{gain_rule}
+use Rattle.dwz_def_images.specs.Homes.{Rule}
 use Rattle.dwz_def_taken.specs.declared.fixed.Fixed.{Fixed}
 use Rattle.dwz_def_taken.specs.Beside.{CommonAlike, Reused, reused_beside, together}
 

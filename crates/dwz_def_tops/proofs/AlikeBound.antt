@@ -4,14 +4,14 @@ use Rattle.std.proofs.lemmas.Bool.{cases_Bool, eq-eqb, eqb-true, false≢true, n
 use Rattle.std.proofs.lemmas.Bool.Decides.{Decides-like, Decides-not}
 use Rattle.std.specs.List.{list_any}
 use Rattle.dwz_def_reading.specs.Documents.{Attr, Entries, Node}
-use Rattle.dwz_model.specs.Lists.{In}
+use Rattle.dwz_def_reading.specs.Lists.{In}
 use Rattle.dwz_def_reading.specs.Rows.{has}
 use Rattle.dwz_def_reading.specs.Trees.{End, Entry}
 use Rattle.dwz_def_tops.specs.Alike.{Bound, Movable, any_attr, any_entry, any_in, attr_binds, binding_forms, binds_itself, entry_binds, holds_place, is_in, is_named, is_number, leaves, refers_to}
 use Rattle.dwz_def_tops.specs.Alike.{unit_in}
 use Rattle.dwz_def_tops.specs.Deciding.{bound_test, is_movable}
 use Rattle.dwz_def_tops.specs.Spots.{EntryName, FileUnit, Import, InChain, InType, PartialOf, PartialRoot, RootOf, SpaceAt, Top, UnitOf, Within, tops_of}
-use Rattle.dwz_model.proofs.Members.{any_true, each_of}
+use Rattle.dwz_def_reading.proofs.Members.{any_true, each_of}
 use Rattle.dwz_def_tops.proofs.AlikeCounts.{any_of, passing, passing_most, passing_same, settles}
 use Rattle.dwz_def_tops.proofs.AlikeLooks.{AreClosed}
 use Rattle.dwz_def_tops.proofs.AlikeTests.{Decides-both}

@@ -2,9 +2,9 @@
 use Rattle.std.proofs.Common.{◌≡◌, ◌⊎◌, ℕ, zero, suc, ◌+◌, ◌-◌, ◌<◌, ◌≤◌, Bool, true, false, List, [], ◌∷◌, length, refl, sym, ap, subst, ◌∙◌, inl, inr, ⊎_elim, arith}
 use Rattle.std.proofs.lemmas.Bool.{cases_lt, false≢true, or_cases}
 use Rattle.std.specs.List.{list_any}
-use Rattle.dwz_model.specs.Lists.{In}
+use Rattle.dwz_def_reading.specs.Lists.{In}
 use Rattle.dwz_def_tops.specs.Deciding.{Test}
-use Rattle.dwz_model.proofs.Members.{any_true}
+use Rattle.dwz_def_reading.proofs.Members.{any_true}
 
 -- ---- an element that passes
 

@@ -1,6 +1,6 @@
 -- A look as deep as there are tops decides the looks of every depth.
 use Rattle.std.proofs.Common.{◌≡◌, ℕ, suc, ◌+◌, ◌-◌, ◌≤◌, List, length, subst, arith}
-use Rattle.dwz_model.specs.Lists.{In}
+use Rattle.dwz_def_reading.specs.Lists.{In}
 use Rattle.dwz_def_tops.specs.Alike.{Look}
 use Rattle.dwz_def_tops.specs.Deciding.{look_test}
 use Rattle.dwz_def_tops.specs.Spots.{Top}

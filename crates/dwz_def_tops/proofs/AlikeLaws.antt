@@ -2,7 +2,7 @@
 use Rattle.std.proofs.Common.{◌≡◌, ◌⊎◌, ℕ, suc, ◌≤◌, Bool, true, false, List, [], ◌∷◌, length, Option, Some, None, Decides, refl, sym, ap, subst, ◌∙◌, inl, inr, ⊎_elim, arith}
 use Rattle.std.proofs.lemmas.Bool.{false≢true}
 use Rattle.std.proofs.lemmas.Bool.Decides.{Decides-at, Decides-eqb, Decides-like}
-use Rattle.dwz_model.specs.Lists.{In}
+use Rattle.dwz_def_reading.specs.Lists.{In}
 use Rattle.dwz_def_tops.specs.Alike.{Alike, Apart, InScope, IsAlike, Look, Movable, TopScope, Together}
 use Rattle.dwz_def_tops.specs.Deciding.{alike_test, alike_tops, in_scope, is_movable, look_test, on_tops, top_in}
 use Rattle.dwz_def_tops.specs.Spots.{EntryName, FileUnit, Top, tops_of}

@@ -1,7 +1,7 @@
 -- Looks of one depth, among tops whose references go to each other.
 use Rattle.std.proofs.Common.{◌≡◌, ℕ, zero, suc, ◌+◌, ◌<◌, List, length, Some, Decides, refl, sym, ap, subst, ◌∙◌, arith}
 use Rattle.std.proofs.lemmas.Bool.Decides.{Decides-at, Decides-like}
-use Rattle.dwz_model.specs.Lists.{In}
+use Rattle.dwz_def_reading.specs.Lists.{In}
 use Rattle.dwz_def_tops.specs.Alike.{Look, SameTop}
 use Rattle.dwz_def_tops.specs.Deciding.{look_test, on_tops, same_top, top_in}
 use Rattle.dwz_def_tops.specs.Spots.{Top}

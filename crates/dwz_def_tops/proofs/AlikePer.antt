@@ -1,6 +1,6 @@
 -- A test that finds tops alike exactly where they are is symmetric and transitive, and finds the targets of alike tops alike.
 use Rattle.std.proofs.Common.{◌≡◌, ℕ, suc, true, List, refl, sym, subst, ◌∙◌}
-use Rattle.dwz_model.specs.Lists.{In}
+use Rattle.dwz_def_reading.specs.Lists.{In}
 use Rattle.dwz_def_tops.specs.Alike.{Alike, Apart, InScope, IsAlike, Look, SameTop, TopScope, Together}
 use Rattle.dwz_def_tops.specs.Deciding.{Test}
 use Rattle.dwz_def_tops.specs.Spots.{EntryName, FileUnit, Top, tops_of}

@@ -2,8 +2,8 @@
 use Rattle.std.proofs.Common.{◌≡◌, ℕ, ℤ, pos, negsuc, Bool, true, false, List, [], ◌∷◌, Some, None, Decides, ◌==◌, refl}
 use Rattle.std.proofs.lemmas.Bool.{false≢true}
 use Rattle.std.proofs.lemmas.Bool.Decides.{Decides-eqb, Decides-like}
-use Rattle.dwz_model.specs.declared.place.Base.{Base}
-use Rattle.dwz_model.specs.declared.place.Base.TheVariants.{Unit as FromUnit, Info as FromInfo}
+use Rattle.dwz_def_reading.specs.Base.{Base}
+use Rattle.dwz_def_reading.specs.Base.TheVariants.{Unit as FromUnit, Info as FromInfo}
 use Rattle.dwz_def_reading.specs.Documents.{Addr, Block, Expr, File, Flag, Index, Loc, Num, Operand, Part, Plain, Ref, Same, Sec, Sig, Text}
 use Rattle.dwz_def_tops.specs.Deciding.{same_bool, same_by, same_int, same_option, same_part, same_plain}
 use Rattle.dwz_def_reading.specs.Shared.{same_base}

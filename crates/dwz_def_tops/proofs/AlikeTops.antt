@@ -4,7 +4,7 @@ use Rattle.std.proofs.lemmas.Bool.Decides.{Decides-eqb, Decides-like}
 use Rattle.dwz_def_reading.specs.Documents.{Attr, Entries, Node, Value}
 use Rattle.dwz_def_reading.specs.Trees.{End, Entry}
 use Rattle.dwz_def_tops.specs.Alike.{SameAttrs, SameEntries, SameNode, SameRefs, SameTarget, SameTop, SameValue}
-use Rattle.dwz_model.specs.Lists.{Each}
+use Rattle.dwz_def_reading.specs.Lists.{Each}
 use Rattle.dwz_def_tops.specs.Deciding.{Test, same_attr, same_by, same_entries, same_int, same_node, same_option, same_plain, same_target, same_top, same_value}
 use Rattle.dwz_def_tops.specs.Spots.{EntryName, Top, Within, name_list, same_numbers}
 use Rattle.dwz_def_tops.proofs.AlikeTests.{by_decides, Decides-any, Decides-both, Decides-none, int_decides, numbers_decide, option_decides, plain_decides}

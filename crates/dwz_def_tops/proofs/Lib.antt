@@ -1,5 +1,5 @@
-pub use Rattle.dwz_model.proofs.Members
-pub use Rattle.dwz_model.proofs.OnceLemmas
+pub use Rattle.dwz_def_reading.proofs.Members
+pub use Rattle.dwz_def_reading.proofs.OnceLemmas
 pub mod SpaceLemmas
 pub mod SeenLemmas
 pub mod ShownLemmas
@@ -25,3 +25,6 @@ pub mod Tops
 pub mod NameLists
 pub mod TopOrder
 pub mod FileNumbers
+pub mod OldNames
+pub mod FiledTops
+pub mod UnitKeys

@@ -2,11 +2,11 @@
 use Rattle.std.proofs.Common.{◌≡◌, ℕ, List, [], ◌∷◌, ◌++◌, map, refl, sym, ap, subst, ◌∙◌, inl, inr}
 use Rattle.std.proofs.lemmas.List.{map-append}
 use Rattle.dwz_def_reading.specs.Documents.{Compile, DwUnit, Entries, Kind, OfType, Partial, entries_map, kind_map, unit_map}
-use Rattle.dwz_model.specs.Lists.{In}
+use Rattle.dwz_def_reading.specs.Lists.{In}
 use Rattle.dwz_def_reading.specs.Trees.{End, Entry}
-use Rattle.dwz_model.proofs.ListFacts.{in_map}
+use Rattle.dwz_def_reading.proofs.ListFacts.{in_map}
 use Rattle.dwz_def_tops.specs.Shown.{AreShown, HasMain, HaveMains, UnitsShown, keys}
-use Rattle.dwz_model.proofs.Members.{in_map_from}
+use Rattle.dwz_def_reading.proofs.Members.{in_map_from}
 
 pub keys_map : {P Q : Type 0} (f : P → Q) (g : Entries P) → keys (entries_map f g) ≡ map f (keys g)
 unfolding keys entries_map

@@ -3,7 +3,7 @@ use Rattle.std.proofs.Common.{ℕ, List, [], ◌∷◌}
 use Rattle.dwz_def_reading.specs.Documents.{Attr, Entries}
 use Rattle.dwz_def_reading.specs.Trees.{End, Entry}
 use Rattle.dwz_def_tops.specs.Alike.{SameAttrs, SameEntries, SameRefs, SameTarget, SameTop}
-use Rattle.dwz_model.specs.Lists.{Each}
+use Rattle.dwz_def_reading.specs.Lists.{Each}
 use Rattle.dwz_def_tops.specs.Spots.{EntryName, Top, Within}
 use Rattle.dwz_def_tops.proofs.Targets.{RefTo, RefsOf, RefsOfAttr, RefsOfTop}
 

@@ -3,12 +3,11 @@ use Rattle.std.proofs.Common.{◌≡◌, ℕ, ℤ, suc, ◌+◌, ◌==◌, Bool,
 use Rattle.std.proofs.lemmas.Bool.{ne_eqb}
 use Rattle.std.proofs.lemmas.List.{length-append}
 use Rattle.dwz_def_reading.specs.Documents.{Compile, Entries, Kind, Node, OfType, Partial, language}
-use Rattle.dwz_model.specs.Lists.{In}
+use Rattle.dwz_def_reading.specs.Lists.{In, Nth}
 use Rattle.dwz_def_reading.specs.Trees.{End, Entry}
-use Rattle.dwz_model.proofs.ListFacts.{in_cases, in_left, in_right}
-use Rattle.dwz_model.specs.Lists.{Nth}
+use Rattle.dwz_def_reading.proofs.ListFacts.{in_cases, in_left, in_right}
 use Rattle.dwz_def_tops.specs.Spaces.{space_text, tops_under}
-use Rattle.dwz_model.proofs.Members.{nth_from}
+use Rattle.dwz_def_reading.proofs.Members.{nth_from}
 use Rattle.dwz_def_tops.specs.Spots.{ASpace, ATop, EntryName, FileUnit, Nothing, Row, SpaceName, Top, name_of, row_below, row_from, row_in, row_tops, rows_of_root, top_count, tops_from}
 
 -- ---- a row stands for entries

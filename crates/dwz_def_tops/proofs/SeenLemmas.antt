@@ -2,9 +2,9 @@
 use Rattle.std.proofs.Common.{◌≡◌, ℕ, List, [], ◌∷◌, ◌++◌, Option, Some, None, map, refl, sym, ap, subst, inl, inr}
 use Rattle.std.proofs.lemmas.List.{map-append}
 use Rattle.dwz_def_reading.specs.Documents.{Attr, Compile, DwUnit, Entries, Kind, Node, OfType, Partial, attr_map, entries_map, node_map, value_map}
-use Rattle.dwz_model.specs.Lists.{In}
+use Rattle.dwz_def_reading.specs.Lists.{In}
 use Rattle.dwz_def_reading.specs.Trees.{End, Entry}
-use Rattle.dwz_model.proofs.ListFacts.{in_cases, in_left, in_right}
+use Rattle.dwz_def_reading.proofs.ListFacts.{in_cases, in_left, in_right}
 use Rattle.dwz_def_tops.specs.Seen.{IsChild, Named, Seen, all_seen, heads, named_map, named_value, see, seen, seen_below, seen_inner, seen_inside, seen_map, seen_roots, seen_tops}
 use Rattle.dwz_def_tops.specs.Spaces.{space_text}
 

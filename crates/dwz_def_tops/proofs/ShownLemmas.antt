@@ -2,14 +2,14 @@
 use Rattle.std.proofs.Common.{◌≡◌, ℕ, List, [], ◌∷◌, ◌++◌, Option, Some, None, map, refl, sym, ap, subst, ◌∙◌, inl, inr}
 use Rattle.std.proofs.lemmas.List.{map-append}
 use Rattle.dwz_def_reading.specs.Documents.{Attr, Compile, DwUnit, Entries, Kind, Node, OfType, Partial, entries_map, kind_map, ref, unit_map}
-use Rattle.dwz_model.specs.Lists.{In}
+use Rattle.dwz_def_reading.specs.Lists.{In}
 use Rattle.dwz_def_reading.specs.Trees.{End, Entry}
-use Rattle.dwz_model.proofs.ListFacts.{in_cases, in_left, in_map, in_right}
+use Rattle.dwz_def_reading.proofs.ListFacts.{in_cases, in_left, in_map, in_right}
 use Rattle.dwz_def_tops.specs.Seen.{Closed, EntriesSame, IsChild, IsShown, Named, Seen, TypesSame, all_seen, heads}
 use Rattle.dwz_def_tops.specs.Seen.{named_map, named_value, see, seen, seen_below, seen_inner, seen_inside, seen_map, seen_roots, seen_tops}
 use Rattle.dwz_def_tops.specs.Shown.{AreShown, IsShownUnit, UnitsShown, keys, unit_keys, units_keys}
 use Rattle.dwz_def_tops.specs.Spaces.{IsSpace, IsUnder, space_text}
-use Rattle.dwz_model.proofs.Members.{in_map_from}
+use Rattle.dwz_def_reading.proofs.Members.{in_map_from}
 use Rattle.dwz_def_tops.proofs.SeenLemmas.{entry_seen, root_from, seen_from}
 use Rattle.dwz_def_tops.proofs.SpaceLemmas.{node_shown, shown_text, under_seen}
 

@@ -1,8 +1,8 @@
 -- What holds of units by names holds of them by places: imports, where one place is of one name, and whole units.
 use Rattle.std.proofs.Common.{◌≡◌, ℕ, Bool, false, List, [], ◌∷◌, map, refl, sym, ap, subst, ◌∙◌, inl, inr}
 use Rattle.dwz_def_reading.specs.Documents.{Compile, DwUnit, Entries, Kind, Node, OfType, Partial, Plain, Ref, kind_map, ref}
-use Rattle.dwz_model.specs.Lists.{In}
-use Rattle.dwz_model.proofs.ListFacts.{in_map}
+use Rattle.dwz_def_reading.specs.Lists.{In}
+use Rattle.dwz_def_reading.proofs.ListFacts.{in_map}
 use Rattle.dwz_def_tops.specs.Seen.{Closed, EntriesSame, Expands, HasAt, HasImage, InCompile, InsideSame, IsChild, IsImport, IsPartial, IsShown, Named, Seen, TypesSame, UnitsSame}
 use Rattle.dwz_def_tops.specs.Seen.{named_map, named_value, see, seen_below, seen_inner, seen_map, seen_roots}
 use Rattle.dwz_def_tops.specs.Shown.{IsShownUnit, OnePlace, UnitsShown}

@@ -1,7 +1,7 @@
 -- Small documents, spelled by hand: entries at places of one or more files, from which rows compute what is said of them.
 use Rattle.std.proofs.Common.{ℕ, ◌+◌, pos, Bool, true, false, List, [], ◌∷◌, map}
 use Rattle.std.specs.Prelude.{codes}
-use Rattle.dwz_model.specs.declared.place.Base.TheVariants.{Unit as FromUnit}
+use Rattle.dwz_def_reading.specs.Base.TheVariants.{Unit as FromUnit}
 use Rattle.dwz_def_reading.specs.Documents.{Addr, Attr, Compile, Doc, DwUnit, Entries, Expr, Loc, Node, Num, Operand, Same, Text, only, ref}
 use Rattle.dwz_def_reading.specs.Trees.{End, Entry}
 use Rattle.dwz_def_tops.specs.Spots.{EntryName, FileUnit, units_of}

@@ -1,9 +1,9 @@
 -- Spaces whose places are replaced, and what stands in them.
 use Rattle.std.proofs.Common.{◌≡◌, ℕ, ◌+◌, suc, Bool, true, false, List, [], ◌∷◌, Option, Some, None, map, ◌==◌, if◌then◌else◌, refl, sym, ap, ◌∙◌, inl, inr}
 use Rattle.dwz_def_reading.specs.Documents.{Attr, Entries, Node, entries_map, first_named, node_map}
-use Rattle.dwz_model.specs.Lists.{In}
+use Rattle.dwz_def_reading.specs.Lists.{In}
 use Rattle.dwz_def_reading.specs.Trees.{End, Entry}
-use Rattle.dwz_model.proofs.ListFacts.{in_left, in_right}
+use Rattle.dwz_def_reading.proofs.ListFacts.{in_left, in_right}
 use Rattle.dwz_def_tops.specs.Seen.{IsChild, IsShown, Named, Seen, named_map, named_value, see, seen}
 use Rattle.dwz_def_tops.specs.Spaces.{IsUnder, space_text, text_of_plain, text_value, tops_under}
 use Rattle.dwz_def_tops.proofs.SeenLemmas.{names_map}

@@ -3,14 +3,14 @@ use Rattle.std.proofs.Common.{◌≡◌, ℕ, suc, ◌⊎◌, ◌==◌, ◌||◌
 use Rattle.std.proofs.lemmas.Bool.{or_cases}
 use Rattle.std.specs.List.{list_any}
 use Rattle.dwz_def_reading.specs.Documents.{Attr, Entries, Node}
-use Rattle.dwz_model.specs.Lists.{Each, In}
+use Rattle.dwz_def_reading.specs.Lists.{Each, In}
 use Rattle.dwz_def_reading.specs.Rows.{has}
 use Rattle.dwz_def_reading.specs.Trees.{End, Entry}
 use Rattle.dwz_def_reading.proofs.CaseFacts.{or_left, or_right}
 use Rattle.dwz_def_tops.specs.Alike.{Bound, Movable, any_attr, any_entry, any_in, attr_binds, binding_forms, binds_itself, entry_binds, has_operand, holds_place, is_in, is_named, is_number, leaves, refers_to}
 use Rattle.dwz_def_tops.specs.Alike.{unit_in}
 use Rattle.dwz_def_tops.specs.Spots.{EntryName, FileUnit, Top, Within, tops_of}
-use Rattle.dwz_model.proofs.Members.{any_false, any_from, any_true, each_in, each_of}
+use Rattle.dwz_def_reading.proofs.Members.{any_false, any_from, any_true, each_in, each_of}
 
 -- ---- what holds of the top of each target
 

@@ -1,9 +1,8 @@
 -- The units of tops rise with their numbers.
 use Rattle.std.proofs.Common.{◌≤◌, ℕ, List, ◌≡◌, ◌∷◌, refl, sym, subst, [], arith, inl, inr, suc, ◌+◌, Some, map, slice_get, ap, ◌∙◌}
-use Rattle.dwz_model.specs.Lists.{In}
-use Rattle.dwz_model.proofs.ListFacts.{got_map}
-use Rattle.dwz_model.proofs.Members.{each_of, nth_from, nth_get, pair_append}
-use Rattle.dwz_model.specs.Lists.{EachPair}
+use Rattle.dwz_def_reading.specs.Lists.{In, EachPair}
+use Rattle.dwz_def_reading.proofs.ListFacts.{got_map}
+use Rattle.dwz_def_reading.proofs.Members.{each_of, nth_from, nth_get, pair_append}
 use Rattle.dwz_def_tops.specs.Spots.{EntryName, FileUnit, Row, Top, row_below, row_tops, top_count, tops_from, tops_of}
 use Rattle.dwz_def_tops.proofs.RowLemmas.{from_row, row_here, top_of}
 

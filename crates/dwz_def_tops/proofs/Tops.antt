@@ -1,8 +1,7 @@
 -- Tops by their numbers, and their units.
 use Rattle.std.proofs.Common.{◌≡◌, ℕ, suc, ◌<◌, List, [], ◌∷◌, sym, ap, subst, ◌∙◌, arith}
-use Rattle.dwz_model.specs.Lists.{In}
-use Rattle.dwz_model.specs.Lists.{EachPair, Nth}
-use Rattle.dwz_model.proofs.Members.{each_of, nth_one}
+use Rattle.dwz_def_reading.specs.Lists.{In, EachPair, Nth}
+use Rattle.dwz_def_reading.proofs.Members.{each_of, nth_one}
 use Rattle.dwz_def_tops.specs.Spots.{EntryName, FileUnit, Top, row_tops, rows_of_root, tops_of}
 use Rattle.dwz_def_tops.proofs.RowLemmas.{TopOf, from_row, top_of}
 use Rattle.dwz_def_tops.proofs.TopNumbers.{Numbered, number_from, one_top as one_numbered, tops_numbers}

@@ -4,7 +4,7 @@ use Rattle.std.specs.Prelude.{◌&&◌, ◌||◌, not}
 use Rattle.std.specs.List.{list_any}
 use Rattle.dwz_def_reading.specs.Documents.{Attr, Entries, Expr, Loc, Node, Operand, Part, Plain, Same, Value}
 pub use Rattle.dwz_def_reading.specs.Modes.{binding_forms}
-use Rattle.dwz_model.specs.Lists.{In}
+use Rattle.dwz_def_reading.specs.Lists.{In}
 use Rattle.dwz_def_reading.specs.Rows.{has}
 use Rattle.dwz_def_reading.specs.Trees.{End, Entry}
 use Rattle.dwz_def_tops.specs.Spots.{EntryName, FileUnit, Top, Within, name_list, tops_of}

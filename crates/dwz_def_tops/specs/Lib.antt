@@ -1,4 +1,4 @@
-pub use Rattle.dwz_model.specs.Lists
+pub use Rattle.dwz_def_reading.specs.Lists
 pub mod Spaces
 pub mod Seen
 pub mod Shown
@@ -7,3 +7,4 @@ pub mod SpotLaws
 pub mod Alike
 pub mod Deciding
 pub mod Targets
+pub mod UnitNames

@@ -1,7 +1,7 @@
 -- The same units with other places, and the names that stand in units.
 use Rattle.std.specs.Prelude.{◌≡◌, ℕ, List, [], ◌∷◌, ◌++◌}
 use Rattle.dwz_def_reading.specs.Documents.{DwUnit, Entries, OfType, kind_map}
-use Rattle.dwz_model.specs.Lists.{In}
+use Rattle.dwz_def_reading.specs.Lists.{In}
 use Rattle.dwz_def_reading.specs.Trees.{End, Entry}
 use Rattle.dwz_def_tops.specs.Seen.{IsShown}
 

@@ -1,7 +1,7 @@
 -- Inner: laws on the names of units and entries, and on the numbers of tops.
 use Rattle.std.specs.Prelude.{◌≡◌, ℕ, List, Some, slice_get}
 use Rattle.dwz_def_reading.specs.Documents.{DwUnit}
-use Rattle.dwz_model.specs.Lists.{In}
+use Rattle.dwz_def_reading.specs.Lists.{In}
 use Rattle.dwz_def_tops.specs.Seen.{IsPartial}
 use Rattle.dwz_def_tops.specs.Shown.{units_keys}
 use Rattle.dwz_def_tops.specs.Spots.{EntryName, FileUnit, Top, spot_in, spots_from, tops_of}

@@ -1,7 +1,7 @@
 //! What holds of tops that may move, of looks at them, and of tops that are alike.
 
 ghost use Rattle.std.specs.Prelude.{◌≡◌, ◌↔◌, ℕ, true, List, length};
-ghost use Rattle.dwz_model.specs.Lists.{In};
+ghost use Rattle.dwz_def_reading.specs.Lists.{In};
 ghost use Rattle.dwz_def_tops.specs.Alike.{Alike, Bound, IsAlike, Look, Movable, TopScope, refers_to};
 ghost use Rattle.dwz_def_tops.specs.Deciding.{alike_test, bound_test, is_movable, look_test};
 ghost use Rattle.dwz_def_tops.specs.Spots.{EntryName, FileUnit, Top, tops_of};

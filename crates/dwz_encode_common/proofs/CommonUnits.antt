@@ -20,9 +20,9 @@ use Rattle.dwz_unit.specs.Rows.{EntryRow, rows_of, units_of as raw_units}
 use Rattle.dwz_graph.specs.Parts.{HasLine}
 use Rattle.dwz_graph.specs.declared.file.File.{File}
 use Rattle.dwz_graph.specs.Index.{Index}
-use Rattle.dwz_layout_order.proofs.FileCounts.{are_many}
+use Rattle.dwz_graph.proofs.FileCounts.{are_many}
 use Rattle.dwz_label_entries.proofs.AttrsLemmas.{entry_in}
-use Rattle.dwz_layout_numbers.specs.Images.{starts_from}
+use Rattle.dwz_graph.specs.EntryCounts.{starts_from}
 use Rattle.dwz_def_encoding.specs.Placing.{file_number, has_text}
 use Rattle.dwz_def_readback.specs.Files.{paths, texts}
 use Rattle.dwz_layout_order.specs.Ordered.{PartsPut}

@@ -35,3 +35,4 @@ pub mod EntryNumbers
 pub mod PooledTexts
 pub mod OwnTexts
 pub mod SectionBytes
+mod PlaceLemmas

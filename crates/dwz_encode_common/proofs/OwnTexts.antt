@@ -19,7 +19,7 @@ use Rattle.dwz_unit.specs.Rows.{EntryRow, rows_of, units_of as raw_units}
 use Rattle.dwz_graph.specs.declared.file.File.{File}
 use Rattle.dwz_graph.specs.Index.{Index}
 use Rattle.dwz_layout_numbers.specs.Befores.{is_pair_placed}
-use Rattle.dwz_layout_numbers.specs.Images.{starts_from}
+use Rattle.dwz_graph.specs.EntryCounts.{starts_from}
 use Rattle.dwz_def_encoding.specs.Placing.{has_text, text_place}
 use Rattle.dwz_def_readback.specs.Files.{texts_by}
 use Rattle.dwz_layout.specs.declared.known.FileRows.{FileRows}

@@ -16,22 +16,22 @@ use Rattle.dwz_layout_items.specs.declared.order.ItemKind.{ItemKind}
 use Rattle.dwz_layout_items.specs.declared.order.ItemKind.TheVariants.{Import, InChain, Root, Space, Top as ATopOf, Whole}
 use Rattle.dwz_layout_items.specs.declared.partial.SpaceRow.{SpaceRow as RowOfSpace}
 use Rattle.dwz_layout_items.specs.declared.partial.TopSpaces.{TopSpaces}
-use Rattle.dwz_def_plan.specs.Homes.{Common, same_home}
-use Rattle.dwz_def_plan.specs.Moves.{first_unit, image_in}
-use Rattle.dwz_def_plan.specs.Plan.{PartialUnit, part_row}
-use Rattle.dwz_def_plan.proofs.PlanLemmas.{home_true}
-use Rattle.dwz_def_plan.proofs.PartRows.{part_is}
+use Rattle.dwz_def_images.specs.Homes.{Common, same_home}
+use Rattle.dwz_def_images.specs.Moves.{first_unit, image_in}
+use Rattle.dwz_def_images.specs.Plan.{PartialUnit, part_row}
+use Rattle.dwz_def_images.proofs.PlanLemmas.{home_true}
+use Rattle.dwz_def_images.proofs.PartRows.{part_is}
 use Rattle.dwz_plan.specs.declared.plan.Partial.{Partial as PlannedPart}
 use Rattle.dwz_plan.specs.Shows.{shown_part}
 use Rattle.dwz_def_images.specs.Units.{changes, common_units, partial_unit, tree}
 use Rattle.dwz_def_images.proofs.OldFiles.{files_old}
 use Rattle.dwz_unit.specs.Rows.{EntryRow, rows_below, rows_of, units_of as raw_units}
-use Rattle.dwz_graph.proofs.RowLemmas.{rows-length}
+use Rattle.dwz_unit.proofs.RowsFound.{rows-length}
 use Rattle.dwz_graph.specs.declared.file.File.{File}
 use Rattle.dwz_graph.specs.Index.{Index}
-use Rattle.dwz_layout_order.proofs.FileEntries.{all_entries}
-use Rattle.dwz_layout_numbers.specs.Images.{starts_from}
-use Rattle.dwz_layout_numbers.specs.Names.{all_names}
+use Rattle.dwz_graph.proofs.FileEntries.{all_entries}
+use Rattle.dwz_graph.specs.EntryCounts.{starts_from}
+use Rattle.dwz_graph.specs.AllNames.{all_names}
 use Rattle.dwz_layout_numbers.specs.Owners.{StandsIn, files_written}
 use Rattle.dwz_layout_numbers.proofs.OwnerKeys.{own_keys, top_labelled, tree_top}
 use Rattle.dwz_layout_numbers.proofs.OwnerLemmas.{own_name}

@@ -14,9 +14,9 @@ use Rattle.dwz_layout_items.specs.declared.partial.SpaceRow.{SpaceRow as RowOfSp
 use Rattle.dwz_layout_items.specs.declared.partial.TopSpaces.{TopSpaces}
 use Rattle.dwz_layout_items.specs.Lines.{Line, line, lines, unit_lines}
 use Rattle.dwz_layout_items.specs.Order.{Names, ShowsUnit, order_lines, what_lines}
-use Rattle.dwz_def_plan.specs.Homes.{Common}
-use Rattle.dwz_def_plan.specs.Moves.{first_unit, image_in, line_attr, line_attrs, line_in, names_path}
-use Rattle.dwz_def_plan.specs.Plan.{PartialUnit}
+use Rattle.dwz_def_images.specs.Homes.{Common}
+use Rattle.dwz_def_images.specs.Moves.{first_unit, image_in, line_attr, line_attrs, line_in, names_path}
+use Rattle.dwz_def_images.specs.Plan.{PartialUnit}
 use Rattle.dwz_def_images.specs.Units.{partial_unit}
 use Rattle.dwz_graph.specs.declared.file.File.{File}
 use Rattle.dwz_graph.specs.Index.{Index}

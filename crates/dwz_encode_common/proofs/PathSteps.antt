@@ -10,7 +10,7 @@ use Rattle.dwz_def_reading.specs.Meanings.{path_by}
 use Rattle.dwz_unit.specs.Rows.{EntryRow, rows_of, units_of}
 use Rattle.dwz_graph.specs.declared.file.File.{File}
 use Rattle.dwz_layout.specs.declared.known.Row.{Row}
-use Rattle.dwz_graph.proofs.RowLemmas.{rows-length}
+use Rattle.dwz_unit.proofs.RowsFound.{rows-length}
 use Rattle.dwz_graph.proofs.FileSteps.{none_behind}
 use Rattle.dwz_def_reading.specs.Units.{entries_in}
 use Rattle.dwz_encode_common.specs.Paths.{paths_at, row_paths}

@@ -9,7 +9,7 @@ use Rattle.std.proofs.lemmas.List.Concat.{flat_map-cons}
 use Rattle.dwz_def_reading.proofs.ListFacts.{get_first, got_below, same_got}
 use Rattle.dwz_unit.specs.Rows.{EntryRow}
 use Rattle.dwz_graph.specs.declared.file.File.{File}
-use Rattle.dwz_graph.proofs.RowLemmas.{take_here}
+use Rattle.dwz_unit.proofs.RowsFound.{take_here}
 use Rattle.dwz_graph.proofs.TopLemmas.{get_later}
 use Rattle.dwz_layout.specs.declared.known.EntryTable.{EntryTable}
 use Rattle.dwz_layout.specs.declared.known.TextAt.{TextAt}

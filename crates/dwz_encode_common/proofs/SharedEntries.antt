@@ -6,15 +6,14 @@ use Rattle.std.proofs.lemmas.Option.{get_or_from_slice_get}
 use Rattle.dwz_def_reading.specs.Units.{RawUnit}
 use Rattle.dwz_def_reading.proofs.ListFacts.{got_map}
 use Rattle.dwz_def_reading.specs.Documents.{Attr, Node, node_map}
-use Rattle.dwz_def_reading.specs.Classes.{OfConstant, OfTextBySlot, OfTextInLineStr, OfTextInStr}
-use Rattle.dwz_def_reading.specs.Classes.{Class, class_of, names_file}
+use Rattle.dwz_def_reading.specs.Classes.{OfConstant, OfTextBySlot, OfTextInLineStr, OfTextInStr, Class, class_of, names_file}
 use Rattle.dwz_graph.specs.Resolved.{sources_view}
 use Rattle.dwz_def_tops.specs.Spaces.{space_text}
 use Rattle.dwz_def_tops.specs.Spots.{EntryName, name_of}
 use Rattle.dwz_unit.specs.Rows.{EntryRow, rows_of, units_of as raw_units}
 use Rattle.dwz_graph.specs.declared.file.File.{File}
 use Rattle.dwz_graph.specs.Index.{Index}
-use Rattle.dwz_layout_numbers.specs.Images.{starts_from}
+use Rattle.dwz_graph.specs.EntryCounts.{starts_from}
 use Rattle.dwz_def_encoding.specs.Placing.{CommonUnit, NewUnit, OldUnit, UnitForms, UnitRole, as_constant, as_file, fit_as}
 use Rattle.dwz_def_readback.specs.Files.{shared_if, texts_by}
 use Rattle.dwz_layout.specs.declared.known.FileRows.{FileRows}

@@ -6,14 +6,14 @@ use Rattle.dwz_def_reading.specs.Documents.{Attr, DwUnit}
 use Rattle.dwz_def_reading.specs.Meanings.{IfSo}
 use Rattle.dwz_def_tops.specs.Lists.{Nth}
 use Rattle.dwz_def_tops.specs.Spots.{EntryName}
-use Rattle.dwz_def_plan.specs.Homes.{Common, Home, Local, Stay, is_home, same_home}
-use Rattle.dwz_def_plan.specs.Plan.{PartialUnit, partials}
-use Rattle.dwz_def_plan.proofs.PlanLemmas.{home_true}
+use Rattle.dwz_def_images.specs.Homes.{Common, Home, Local, Stay, is_home, same_home}
+use Rattle.dwz_def_images.specs.Plan.{PartialUnit, partials}
+use Rattle.dwz_def_images.proofs.PlanLemmas.{home_true}
 use Rattle.dwz_plan.specs.declared.plan.Partial.{Partial as PlannedPart}
 use Rattle.dwz_plan.specs.Planned.{Planned, file_of_home}
 use Rattle.dwz_plan.specs.Shows.{shown_part}
 use Rattle.dwz_def_images.specs.Units.{common_units, partial_unit, partial_units}
-use Rattle.dwz_layout_order.proofs.FileCounts.{are_many}
+use Rattle.dwz_graph.proofs.FileCounts.{are_many}
 use Rattle.dwz_layout_order.specs.Orders.{First}
 use Rattle.dwz_layout_order.specs.declared.orders.Settled.{Settled}
 use Rattle.dwz_layout_order.specs.Ordered.{PartPut, PartsPut, line_given}

@@ -11,3 +11,4 @@ pub mod SharedLaws
 pub mod Pooled
 pub mod Sections
 pub mod TextsIn
+pub mod Places

@@ -6,6 +6,7 @@ ghost use Rattle.dwz_law_layout.specs.Facts.{RunFacts};
 ghost use Rattle.dwz_law_layout.specs.Listed.{AreListed, TextsAt};
 ghost use Rattle.dwz_encode_common.specs.WithCommon.{IsWithCommon, IsWithStanding, files_with, kept_numbers, texts_held};
 
+use crate::StandingTexts;
 use crate::numbers::path_numbers;
 use crate::placed::shared_texts;
 use crate::pool::Pool;
@@ -14,7 +15,6 @@ use crate::standing::PlacedTexts;
 use dwz_graph::File;
 use dwz_layout::{EntryTable, FileRows, TextAt};
 use dwz_model::NoMemory;
-use dwz_standing_texts::StandingTexts;
 use std::alloc::Global;
 
 // The rows of a file with other texts and numbers of paths.

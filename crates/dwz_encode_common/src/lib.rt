@@ -2,13 +2,17 @@
 //!
 //! `common_texts` and `common_paths` walk the order of the common file and answer a `Pool` each; `Pool::section` and `Pool::line_table` are
 //! its `.debug_str` and `.debug_line`. `with_common` gives the lists with these places and numbers, made by `shared_texts`, `shared_names`
-//! and `path_numbers`; nothing else of the lists is copied. Nothing is done where the common file has no unit. Over a common file that
-//! stands `with_standing` gives the lists with the places of its texts.
+//! and `path_numbers`; nothing else of the lists is copied. Nothing is done where the common file has no unit.
+//!
+//! Over a common file that stands `StandingTexts::read` takes its `.debug_str`: the texts are those between the zero bytes; what stands
+//! behind the last zero byte is none. `start_of` gives the place of the first that equals a text. No text is copied, so n bytes take n log n
+//! steps. `with_standing` gives the lists with the places of these texts.
 //!
 //! Laws (`common_laws`, `shared_laws`, `number_laws`, `sharing_laws`, `pooled_laws`, `section_laws`): these are the texts and paths of the
 //! run, and stand where the definition of forms says.
 //!
-//! Read first: `specs/Gathered.antt`, `specs/Shared.antt`, `specs/Paths.antt`.
+//! Read first: `specs/Gathered.antt`, `specs/Shared.antt`, `specs/Paths.antt`; of a common file that stands `specs/Places.antt`, and
+//! `texts_from` in `Files.antt` of `dwz_def_readback`.
 #![tactic(auto)]
 
 mod bases;
@@ -23,6 +27,7 @@ mod sections;
 mod shared;
 mod spaces;
 mod standing;
+mod standing_texts;
 mod stored;
 mod texts;
 
@@ -35,4 +40,5 @@ pub use pool::Pool;
 pub use shared::place_text;
 pub use spaces::shared_names;
 pub use standing::PlacedTexts;
+pub use standing_texts::StandingTexts;
 pub use texts::common_texts;

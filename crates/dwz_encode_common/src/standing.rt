@@ -5,8 +5,8 @@ ghost use Rattle.dwz_def_encoding.specs.Placing.{has_text, text_place};
 ghost use Rattle.dwz_encode_common.specs.TextsIn as Specs;
 ghost use Rattle.dwz_encode_common.specs.TextsIn.{texts_in};
 
+use crate::StandingTexts;
 use crate::pool::Pool;
-use dwz_standing_texts::StandingTexts;
 
 /// The texts of the common file: of one that is made, or of one that stands.
 #[derive(Clone, Copy)]

@@ -13,7 +13,7 @@ use Rattle.dwz_def_reading.proofs.MeaningUnits.{unit_agrees}
 use Rattle.dwz_def_tops.specs.Spots.{EntryName, FileUnit, Top, UnitOf, Within, in_file, tops_of}
 use Rattle.dwz_def_plan.specs.Moves.{image_in}
 use Rattle.dwz_plan.proofs.DistinctLemmas.{get_in}
-use Rattle.dwz_def_images.specs.After.{at_file}
+use Rattle.dwz_def_reading.specs.Places.{at_file}
 use Rattle.dwz_def_readback.specs.Files.{places_by}
 use Rattle.dwz_def_output.specs.Contents.{operand_number_after_by}
 use Rattle.dwz_def_encoding.specs.Writing.{base_place}
@@ -28,12 +28,13 @@ use Rattle.dwz_graph.specs.Index.{Index}
 use Rattle.dwz_graph.specs.Names.{names_from}
 use Rattle.dwz_graph.proofs.TopNameLemmas.{stand_once}
 use Rattle.dwz_graph.proofs.TopLemmas.{get_later}
-use Rattle.dwz_law_files.specs.Across.{file_units, name_at}
-use Rattle.dwz_law_files.specs.AcrossLaws.{IsAmong}
-use Rattle.dwz_law_files.proofs.FileEntries.{all_entries, names_entries, unit_of}
-use Rattle.dwz_law_files.proofs.FileWalk.{is_among}
-use Rattle.dwz_layout_numbers.specs.Images.{AreImages, IsFile, IsImage, starts_from}
-use Rattle.dwz_layout_numbers.specs.Names.{StandFrom, all_names}
+use Rattle.dwz_graph.specs.Across.{file_units, name_at}
+use Rattle.dwz_graph.specs.AcrossLaws.{IsAmong}
+use Rattle.dwz_graph.proofs.FileEntries.{all_entries, names_entries, unit_of}
+use Rattle.dwz_graph.proofs.FileWalk.{is_among}
+use Rattle.dwz_layout_numbers.specs.Images.{AreImages, IsFile, IsImage}
+use Rattle.dwz_graph.specs.EntryCounts.{starts_from}
+use Rattle.dwz_graph.specs.AllNames.{StandFrom, all_names}
 use Rattle.dwz_layout_numbers.specs.Whole.{IsFileAt}
 use Rattle.dwz_layout_numbers.proofs.OwnerLemmas.{own_name}
 use Rattle.dwz_layout_numbers.proofs.Paths.{paths_of}

@@ -9,7 +9,8 @@ use Rattle.dwz_unit.specs.Rows.{units_of as raw_units}
 use Rattle.dwz_graph.specs.ListRows.{operand_view}
 use Rattle.dwz_graph.specs.declared.file.File.{File}
 use Rattle.dwz_graph.specs.Index.{Index}
-use Rattle.dwz_layout_numbers.specs.Images.{IsFile, starts_from}
+use Rattle.dwz_layout_numbers.specs.Images.{IsFile}
+use Rattle.dwz_graph.specs.EntryCounts.{starts_from}
 use Rattle.dwz_def_readback.specs.Files.{sources}
 use Rattle.dwz_def_output.specs.Contents.{lists_after_by, operand_number_after_by, ranges_after_by}
 use Rattle.dwz_encode_sections.specs.Numbers.{with_numbers}

@@ -23,7 +23,8 @@ use Rattle.dwz_def_output.specs.Refusals.{all_of_unit, operands_of_attrs, operan
 use Rattle.dwz_graph.specs.Named.{attrs_refs, entries_refs, unit_refs, units_refs}
 use Rattle.dwz_graph.specs.Resolved.{IsUnitHere}
 use Rattle.dwz_graph.specs.Here.{Here}
-use Rattle.dwz_graph.proofs.UnitThere.{same_unit, unit_there}
+use Rattle.dwz_graph.proofs.UnitThere.{same_unit}
+use Rattle.dwz_unit.proofs.UnitThere.{unit_there}
 use Rattle.dwz_unit.specs.declared.rows.RawUnit.{RawUnit as UnitOfCode}
 use Rattle.dwz_unit.specs.Rows.{EntryRow, rows_below, rows_in, rows_of, shown_units}
 use Rattle.dwz_unit.proofs.ShownLemmas.{rows_in-length}

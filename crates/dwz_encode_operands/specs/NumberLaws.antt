@@ -8,8 +8,9 @@ use Rattle.dwz_graph.specs.declared.file.File.{File}
 use Rattle.dwz_graph.specs.ListRows.{operand_view}
 use Rattle.dwz_graph.specs.Resolved.{place_at}
 use Rattle.dwz_graph.specs.Index.{Index}
-use Rattle.dwz_layout_numbers.specs.Images.{AreImages, IsFile, starts_from}
-use Rattle.dwz_layout_numbers.specs.Names.{all_names}
+use Rattle.dwz_layout_numbers.specs.Images.{AreImages, IsFile}
+use Rattle.dwz_graph.specs.EntryCounts.{starts_from}
+use Rattle.dwz_graph.specs.AllNames.{all_names}
 use Rattle.dwz_def_readback.specs.Files.{name_after, places_by, sources}
 use Rattle.dwz_def_output.specs.Contents.{lists_after_by, operand_number_after_by, ranges_after_by}
 use Rattle.dwz_encode_sections.specs.Numbers.{with_numbers}

@@ -21,7 +21,7 @@ use Rattle.dwz_graph.specs.Index.{Index}
 use Rattle.dwz_def_encoding.specs.Bases.{Bases}
 use Rattle.dwz_def_encoding.specs.Placing.{UnitForms}
 use Rattle.dwz_def_readback.specs.Files.{name_after}
-use Rattle.dwz_layout_numbers.specs.Images.{starts_from}
+use Rattle.dwz_graph.specs.EntryCounts.{starts_from}
 use Rattle.dwz_layout.specs.declared.known.FileRows.{FileRows}
 use Rattle.dwz_layout.specs.declared.known.ValueCounts.{ValueCounts}
 use Rattle.dwz_layout.specs.declared.known.EntryTable.{EntryTable}

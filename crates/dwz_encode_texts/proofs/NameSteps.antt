@@ -10,7 +10,7 @@ use Rattle.dwz_def_reading.specs.Files.{Limits, around_of, file_meaning, limits_
 use Rattle.dwz_def_reading.specs.Meanings.{alone}
 use Rattle.dwz_unit.specs.Rows.{EntryRow, rows_of, units_of as raw_units}
 use Rattle.dwz_graph.specs.Resolved.{around}
-use Rattle.dwz_graph.proofs.RowLemmas.{found_in_map}
+use Rattle.dwz_unit.proofs.RowsFound.{found_in_map}
 use Rattle.dwz_graph.specs.declared.file.File.{File}
 use Rattle.dwz_graph.specs.Files.{AreKept, AreRead, HasFile, IsRead}
 use Rattle.dwz_graph.proofs.GraphLemmas.{same_raw}

@@ -8,7 +8,7 @@ use Rattle.dwz_def_reading.proofs.ListFacts.{got_there}
 use Rattle.dwz_def_reading.specs.Meanings.{Around}
 use Rattle.dwz_unit.specs.declared.rows.RawEntry.{RawEntry as EntryOfCode}
 use Rattle.dwz_unit.specs.Rows.{EntryRow, rows_of, shown_entries}
-use Rattle.dwz_graph.proofs.RowLemmas.{row_is}
+use Rattle.dwz_unit.proofs.RowsFound.{row_is}
 use Rattle.dwz_encode_texts.specs.Texts.{slots_base, slots_base_at}
 
 -- the unit with that number is there

@@ -20,8 +20,8 @@ use Rattle.dwz_graph.specs.Steps.{all_spaces, below_root, is_compile, is_space, 
 use Rattle.dwz_graph.proofs.AmongLemmas.{spaces_space, spaces_top}
 use Rattle.dwz_graph.proofs.TopNameLemmas.{read_whole}
 use Rattle.dwz_graph.proofs.ShowLemmas.{unit_many, unit_names}
-use Rattle.dwz_law_files.specs.Across.{IsFileAmong}
-use Rattle.dwz_law_files.proofs.FileEntries.{all_entries}
+use Rattle.dwz_graph.specs.Across.{IsFileAmong}
+use Rattle.dwz_graph.proofs.FileEntries.{all_entries}
 
 -- of a list whose first entry has that number
 among_within : (outer k first : ℕ) (f : Entries ℕ) (s : SpaceEntry) → In s (spaces_among is_space outer k first f) → s.entry < first + size f

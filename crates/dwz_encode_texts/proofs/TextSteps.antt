@@ -13,7 +13,7 @@ use Rattle.dwz_def_reading.proofs.WrittenLemmas.{le_value-less}
 use Rattle.dwz_def_reading.specs.Meanings.{number_of}
 use Rattle.dwz_def_reading.specs.Classes.{OfTextInStr}
 use Rattle.dwz_def_reading.specs.Classes.{class_of}
-use Rattle.dwz_graph.proofs.RowLemmas.{take_here}
+use Rattle.dwz_unit.proofs.RowsFound.{take_here}
 use Rattle.dwz_def_encoding.proofs.StoredClasses.{strp_form}
 use Rattle.dwz_layout.specs.declared.known.TextAt.{TextAt}
 use Rattle.dwz_layout_numbers.specs.Befores.{is_pair_placed}

@@ -18,7 +18,7 @@ use Rattle.dwz_def_expand.specs.OneFile.{FileRead, OneFile, StoredAttr, around, 
 use Rattle.dwz_def_expand.specs.Output.{Spoken, in_list, in_lists, sites_of_file}
 use Rattle.dwz_def_expand.specs.Refusals.{Site, sites}
 use Rattle.dwz_expand_sources.specs.Imports.{same}
-use Rattle.dwz_graph.proofs.RowLemmas.{rows-length}
+use Rattle.dwz_unit.proofs.RowsFound.{rows-length}
 use Rattle.dwz_unit.specs.Rows.{EntryRow, rows_of}
 use Rattle.dwz_expand_layout.specs.Laid.{Made}
 use Rattle.dwz_expand_passes.specs.Files.{raw_in}

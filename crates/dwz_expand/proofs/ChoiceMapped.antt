@@ -11,8 +11,8 @@ use Rattle.dwz_def_encoding.specs.Placing.{has_key, holder_of}
 use Rattle.dwz_def_readback.proofs.OriginLemmas.{bases_mapped}
 use Rattle.dwz_def_cross.specs.Tops.{WithCommon, whole_units}
 use Rattle.dwz_def_expand.specs.Chosen.{choice, paths_at, paths_of_unit, role_in, slots_of_unit, unit_with_entry}
-use Rattle.dwz_law_copies.specs.Renamed.{SameChoice, renamed}
-use Rattle.dwz_law_copies.proofs.SourceMaps.{whole_mapped}
+use Rattle.dwz_expand_passes.specs.Renamed.{SameChoice, renamed}
+use Rattle.dwz_expand_passes.proofs.SourceMaps.{whole_mapped}
 
 module _ {P Q : Type 0} (f : P → Q) (same : P → P → Bool) (other : Q → Q → Bool) (alike : (p q : P) → other (f p) (f q) ≡ same p q) where
   has_mapped : (p : P) (ks : List P) → has_key other (f p) (map f ks) ≡ has_key same p ks

@@ -22,16 +22,16 @@ use Rattle.dwz_expand_layout.specs.Lines.{Line, line, lines}
 use Rattle.dwz_expand_layout.specs.declared.layout.LaidUnit.{LaidUnit}
 use Rattle.dwz_expand_sources.specs.declared.sources.NewUnit.{NewUnit}
 use Rattle.dwz_expand_sources.specs.Sources.{Sources, in_range, ranges_of}
-use Rattle.dwz_law_copies.proofs.SourceMaps.{copy_mapped, places_mapped}
-use Rattle.dwz_law_copies.specs.Renamed.{copy_map}
-use Rattle.dwz_law_copies.proofs.FileLemmas.{file_law}
-use Rattle.dwz_law_copies.proofs.LineLemmas.{key_of, unit_line_keys}
-use Rattle.dwz_law_copies.proofs.NumberLemmas.{lengths, named_in, one_of_all}
-use Rattle.dwz_law_copies.proofs.StandLemmas.{lines_law}
-use Rattle.dwz_law_copies.specs.Copied.{HaveCopies, IsCopyOf}
-use Rattle.dwz_law_copies.specs.Lined.{StandsAs, all_lines}
-use Rattle.dwz_law_copies.specs.Numbered.{key_in}
-use Rattle.dwz_law_copies.specs.OfFile.{IsNewFile}
+use Rattle.dwz_expand_passes.proofs.SourceMaps.{copy_mapped, places_mapped}
+use Rattle.dwz_expand_passes.specs.Renamed.{copy_map}
+use Rattle.dwz_expand_passes.proofs.FileLemmas.{file_law}
+use Rattle.dwz_expand_passes.proofs.LineLemmas.{key_of, unit_line_keys}
+use Rattle.dwz_expand_passes.proofs.NumberLemmas.{lengths, named_in, one_of_all}
+use Rattle.dwz_expand_passes.proofs.StandLemmas.{lines_law}
+use Rattle.dwz_expand_passes.specs.CopiesOf.{HaveCopies, IsCopyOf}
+use Rattle.dwz_expand_passes.specs.Lined.{StandsAs, all_lines}
+use Rattle.dwz_expand_passes.specs.Numbered.{key_in}
+use Rattle.dwz_expand_passes.specs.OfFile.{IsNewFile}
 use Rattle.dwz_expand_passes.specs.declared.new_file.NewFile.{NewFile}
 use Rattle.dwz_expand_passes.specs.Passes.{forms_in}
 use Rattle.dwz_expand.specs.OneKnown.{stands_of}

@@ -16,8 +16,8 @@ use Rattle.dwz_def_reading.specs.Documents.{Attr, DwUnit, Entries, Node, attr_ma
 use Rattle.dwz_def_reading.specs.FirstOf.{OfFirst, OrElse}
 use Rattle.dwz_def_reading.specs.Places.{Place}
 use Rattle.dwz_def_reading.specs.Trees.{End, Entry}
-use Rattle.dwz_law_copies.specs.Renamed.{SameChoice, renamed}
-use Rattle.dwz_law_copies.proofs.SourceMaps.{places_mapped, units_mapped}
+use Rattle.dwz_expand_passes.specs.Renamed.{SameChoice, renamed}
+use Rattle.dwz_expand_passes.proofs.SourceMaps.{places_mapped, units_mapped}
 use Rattle.dwz_expand.specs.Refused.{NumberRefusal, SameWhere, StandForPlaces}
 
 -- ---- the first of a list

@@ -13,7 +13,7 @@ use Rattle.dwz_def_reading.specs.Documents.{Attr, Compile, DwUnit, Kind, Node, O
 use Rattle.dwz_def_reading.specs.Meanings.{Sources}
 use Rattle.dwz_def_reading.specs.Places.{Place}
 use Rattle.dwz_def_tops.specs.Shown.{unit_keys, units_keys}
-use Rattle.dwz_def_images.proofs.ApartOwn.{keys_joined}
+use Rattle.dwz_def_tops.proofs.UnitKeys.{keys_joined}
 use Rattle.dwz_def_tops.proofs.ShownLemmas.{unit_key}
 use Rattle.dwz_law_expand.proofs.SiteLemmas.{node_from, node_key, owner_is, owner_none}
 use Rattle.dwz_expand_sources.proofs.ForLemmas.{tests}

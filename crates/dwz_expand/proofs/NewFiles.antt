@@ -2,7 +2,7 @@
 use Rattle.dwz_def_expand.specs.Chosen.{choice}
 use Rattle.dwz_graph.specs.Surroundings.{sources_view}
 use Rattle.dwz_expand_sources.specs.Imports.{same}
-use Rattle.dwz_law_copies.proofs.FileLemmas.{file_law}
+use Rattle.dwz_expand_passes.proofs.FileLemmas.{file_law}
 use Rattle.dwz_expand.specs.Plans.{NewFileLaw}
 
 pub new_file : NewFileLaw

@@ -39,8 +39,8 @@ use Rattle.dwz_expand_passes.specs.declared.files.SourceFile.{SourceFile}
 use Rattle.dwz_expand_passes.specs.Files.{around_beside, common_of, raw_in}
 use Rattle.dwz_expand_passes.proofs.PlacesSaid.{said_many, units_joined, units_mapped, units_mean}
 use Rattle.dwz_expand.specs.Refused.{StandForPlaces}
-use Rattle.dwz_law_copies.specs.Renamed.{SameChoice, renamed}
-use Rattle.dwz_law_copies.proofs.RenamedLemmas.{tests_agree}
+use Rattle.dwz_expand_passes.specs.Renamed.{SameChoice, renamed}
+use Rattle.dwz_expand_passes.proofs.RenamedLemmas.{tests_agree}
 use Rattle.dwz_expand.specs.OneKnown.{IsCommonOf, IsOneKnown, IsSourceOf, OneKnownLaw, stands_of, strs_beside}
 use Rattle.dwz_expand.proofs.ChoiceMapped.{choice_mapped}
 use Rattle.dwz_expand.proofs.FileKept.{KeptSays, KeptStand, kept_in, kept_of, kept_says, source_knows, source_ready, source_says, source_stands}

@@ -34,12 +34,12 @@ use Rattle.dwz_expand_layout.specs.Shown.{keys_of}
 use Rattle.dwz_expand_sources.specs.declared.sources.NewUnit.{NewUnit}
 use Rattle.dwz_expand_sources.specs.Sources.{AreSources, Sources, all_entries}
 use Rattle.dwz_expand_passes.specs.Faults.{KnowsBoth, count_in, file_number}
-use Rattle.dwz_law_copies.proofs.SourceMaps.{whole_mapped}
-use Rattle.dwz_law_copies.specs.Renamed.{copy_map, renamed}
+use Rattle.dwz_expand_passes.proofs.SourceMaps.{whole_mapped}
+use Rattle.dwz_expand_passes.specs.Renamed.{copy_map, renamed}
 use Rattle.dwz_expand.specs.Refused.{FaultLaw, NumbersLaw}
-use Rattle.dwz_law_copies.specs.Copied.{HaveCopies}
-use Rattle.dwz_law_copies.specs.Numbered.{key_in}
-use Rattle.dwz_law_copies.specs.OfFile.{FileLaw}
+use Rattle.dwz_expand_passes.specs.CopiesOf.{HaveCopies}
+use Rattle.dwz_expand_passes.specs.Numbered.{key_in}
+use Rattle.dwz_expand_passes.specs.OfFile.{FileLaw}
 use Rattle.dwz_expand_passes.specs.declared.new_file.NewFile.{NewFile}
 use Rattle.dwz_expand_passes.specs.Passes.{AreNew, IsRefused, RefusesFile, Says, forms_in}
 use Rattle.dwz_expand.specs.declared.files.SourceFiles.{SourceFiles}

@@ -33,7 +33,7 @@ use Rattle.dwz_expand_passes.specs.Known.{StandsAt}
 use Rattle.dwz_expand_passes.proofs.FitLemmas.{stands_first}
 use Rattle.dwz_expand_passes.proofs.PlacesSaid.{entry_said}
 use Rattle.dwz_graph.proofs.PlaceLemmas.{places_are, places_many}
-use Rattle.dwz_law_copies.specs.Numbered.{key_in}
+use Rattle.dwz_expand_passes.specs.Numbered.{key_in}
 use Rattle.dwz_model.specs.Lists.{In}
 use Rattle.dwz_expand.specs.declared.entry.AtUnit.{AtUnit}
 use Rattle.dwz_expand.specs.Gathered.{CanTell, LosesOne, Tells, own_around, own_scope, spoken_at}

@@ -21,7 +21,7 @@ use Rattle.dwz_expand_passes.proofs.FitLemmas.{common_source, got_first_entry, g
 use Rattle.dwz_expand_passes.proofs.LineSteps.{node_there}
 use Rattle.dwz_expand_passes.proofs.SaidLemmas.{all_many}
 use Rattle.dwz_expand_passes.specs.declared.new_file.NewFile.{NewFile}
-use Rattle.dwz_law_copies.specs.Lined.{all_lines}
+use Rattle.dwz_expand_passes.specs.Lined.{all_lines}
 use Rattle.dwz_expand.specs.OneKnown.{stands_of}
 use Rattle.dwz_expand.specs.Units.{IsOfOne}
 use Rattle.dwz_expand.proofs.StoredEntries.{common_entry}

@@ -13,8 +13,8 @@ use Rattle.dwz_expand_sources.specs.declared.sources.NewUnit.{NewUnit}
 use Rattle.dwz_expand_sources.specs.declared.sources.SourceRange.{SourceRange}
 use Rattle.dwz_expand_sources.specs.Sources.{AreSources, IsNewUnit, Sources, all_entries}
 use Rattle.dwz_expand_passes.specs.Files.{raw_in}
-use Rattle.dwz_law_copies.specs.Numbered.{key_in}
-use Rattle.dwz_law_copies.proofs.NumberLemmas.{numbers_law}
+use Rattle.dwz_expand_passes.specs.Numbered.{key_in}
+use Rattle.dwz_expand_passes.proofs.NumberLemmas.{numbers_law}
 use Rattle.dwz_expand_sources.proofs.SourceLemmas.{have_ranges}
 use Rattle.dwz_def_tops.specs.Shown.{units_keys}
 use Rattle.dwz_expand.proofs.CopyBounds.{copies_few}

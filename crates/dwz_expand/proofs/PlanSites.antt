@@ -20,9 +20,9 @@ use Rattle.dwz_expand_sources.specs.Sources.{AreSources, IsRange, Sources, all_e
 use Rattle.dwz_expand_sources.proofs.GotLemmas.{sources_got}
 use Rattle.dwz_expand_sources.specs.Walk.{sources_of}
 use Rattle.dwz_expand_sources.specs.Imports.{same}
-use Rattle.dwz_law_copies.proofs.LineLemmas.{all_nodes, listed_node, node_of}
-use Rattle.dwz_law_copies.proofs.StandLemmas.{lines_law}
-use Rattle.dwz_law_copies.specs.Lined.{StandsAs, all_lines}
+use Rattle.dwz_expand_passes.proofs.LineLemmas.{all_nodes, listed_node, node_of}
+use Rattle.dwz_expand_passes.proofs.StandLemmas.{lines_law}
+use Rattle.dwz_expand_passes.specs.Lined.{StandsAs, all_lines}
 
 -- ---- values of entries
 

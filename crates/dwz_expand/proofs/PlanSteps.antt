@@ -10,7 +10,7 @@ use Rattle.dwz_imports.specs.Said.{SaysBeside, raw_beside}
 use Rattle.dwz_expand_sources.specs.Sources.{all_entries}
 use Rattle.dwz_expand_passes.specs.Faults.{count_in}
 use Rattle.dwz_expand_layout.specs.Shown.{keys_of}
-use Rattle.dwz_law_copies.specs.Numbered.{key_in}
+use Rattle.dwz_expand_passes.specs.Numbered.{key_in}
 use Rattle.dwz_expand.specs.OneKnown.{CanBePlanned, IsOneKnown}
 use Rattle.dwz_expand.specs.declared.files.SourceFiles.{SourceFiles}
 use Rattle.dwz_expand.proofs.PlanLemmas.{keys_known}

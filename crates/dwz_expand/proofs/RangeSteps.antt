@@ -6,7 +6,7 @@ use Rattle.dwz_def_reading.specs.Files.{place_if_whole, unit_places}
 use Rattle.dwz_def_reading.specs.Units.{CompileUnit, PartialUnit, RawKind, RawUnit, TypeUnit}
 use Rattle.dwz_unit.specs.declared.rows.RawUnit.{RawUnit as UnitOfCode}
 use Rattle.dwz_unit.specs.Rows.{kind_number, shown_units}
-use Rattle.dwz_graph.proofs.UnitThere.{unit_there}
+use Rattle.dwz_unit.proofs.UnitThere.{unit_there}
 use Rattle.dwz_expand_passes.proofs.OperandLemmas.{take_one}
 use Rattle.dwz_expand_layout.specs.Entries.{NewLine, UnitLines}
 use Rattle.dwz_expand_layout.specs.declared.layout.LaidUnit.{LaidUnit}

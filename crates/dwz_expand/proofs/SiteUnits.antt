@@ -20,7 +20,7 @@ use Rattle.dwz_def_reading.specs.Units.{CompileUnit, PartialUnit, RawKind, RawUn
 use Rattle.dwz_def_reading.proofs.NamedLemmas.{attr_is}
 use Rattle.dwz_def_tops.specs.Shown.{unit_keys, units_keys}
 use Rattle.dwz_def_tops.proofs.ShownLemmas.{unit_key}
-use Rattle.dwz_def_images.proofs.ApartOwn.{keys_joined}
+use Rattle.dwz_def_tops.proofs.UnitKeys.{keys_joined}
 use Rattle.dwz_def_cross.specs.Tops.{WithCommon, unless_partial, units_with_common, whole_units}
 use Rattle.dwz_def_expand.specs.OneFile.{IsStoredAmong, IsStoredIn, OneFile, ReadsOne, StoredAttr, around, rule_for, said_by_file, same_place, stored_attr, with_scope}
 use Rattle.dwz_def_expand.specs.Output.{number_of_unit, sites_of_file, unit_number}

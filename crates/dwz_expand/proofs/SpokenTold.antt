@@ -33,8 +33,8 @@ use Rattle.dwz_expand_passes.specs.Files.{SpeaksAs, around_beside, common_count,
 use Rattle.dwz_expand_sources.specs.Sources.{all_entries}
 use Rattle.dwz_expand_sections.specs.Narrow.{FirstPlace, operand_after}
 use Rattle.dwz_expand.proofs.FaultMaps.{site_map, sites_mapped}
-use Rattle.dwz_law_copies.specs.Lined.{all_lines}
-use Rattle.dwz_law_copies.specs.Numbered.{key_in}
+use Rattle.dwz_expand_passes.specs.Lined.{all_lines}
+use Rattle.dwz_expand_passes.specs.Numbered.{key_in}
 use Rattle.dwz_expand_passes.proofs.LineSteps.{node_there}
 use Rattle.dwz_expand_passes.proofs.SaidLemmas.{all_many}
 use Rattle.dwz_expand_passes.specs.Noted.{AreNoted, IsNoted, IsNotedAt, Noted, plan_sources}

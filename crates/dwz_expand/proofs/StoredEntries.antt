@@ -30,7 +30,7 @@ use Rattle.dwz_expand_passes.proofs.FitLemmas.{common_source, got_first_entry, g
 use Rattle.dwz_expand_passes.proofs.PlacesSaid.{place_said}
 use Rattle.dwz_expand_passes.proofs.LineSteps.{node_there}
 use Rattle.dwz_expand_passes.specs.declared.new_file.NewFile.{NewFile}
-use Rattle.dwz_law_copies.specs.Lined.{all_lines}
+use Rattle.dwz_expand_passes.specs.Lined.{all_lines}
 use Rattle.dwz_expand.specs.OneKnown.{stands_of}
 use Rattle.dwz_expand.specs.Units.{HasRaw, IsOfOne}
 use Rattle.dwz_expand.proofs.EntryPlaces.{common_at, own_at, unit_place}

@@ -28,7 +28,7 @@ use Rattle.dwz_expand_passes.specs.Faults.{AreReady, KnowsBoth, count_in}
 use Rattle.dwz_expand_passes.specs.Files.{IsCommonReady, IsFileReady, raw_in}
 use Rattle.dwz_expand_passes.specs.Known.{KnowsKeys}
 use Rattle.dwz_expand_layout.specs.Shown.{keys_of}
-use Rattle.dwz_law_copies.specs.Numbered.{key_in}
+use Rattle.dwz_expand_passes.specs.Numbered.{key_in}
 use Rattle.dwz_expand.specs.Refused.{InFiles, StandForPlaces}
 use Rattle.dwz_expand.specs.declared.files.SourceFiles.{SourceFiles}
 

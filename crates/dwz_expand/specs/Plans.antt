@@ -19,10 +19,10 @@ use Rattle.dwz_graph.specs.declared.file.File.{File}
 use Rattle.dwz_graph.specs.Files.{FilesRead}
 use Rattle.dwz_graph.specs.Surroundings.{sources_view}
 use Rattle.dwz_expand_layout.specs.Entries.{UnitLines}
-use Rattle.dwz_law_copies.specs.Renamed.{copy_map}
-use Rattle.dwz_law_copies.specs.Copied.{HaveCopies}
-use Rattle.dwz_law_copies.specs.Numbered.{key_in}
-use Rattle.dwz_law_copies.specs.OfFile.{IsNewFile}
+use Rattle.dwz_expand_passes.specs.Renamed.{copy_map}
+use Rattle.dwz_expand_passes.specs.CopiesOf.{HaveCopies}
+use Rattle.dwz_expand_passes.specs.Numbered.{key_in}
+use Rattle.dwz_expand_passes.specs.OfFile.{IsNewFile}
 use Rattle.dwz_expand.specs.OneKnown.{HasUnits, IsOneKnown}
 
 -- It has the sources of what the files say, the numbers of their roots, and the copies that entries stand for.

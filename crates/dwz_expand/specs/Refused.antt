@@ -15,7 +15,7 @@ use Rattle.dwz_def_reading.specs.Meanings.{Sources}
 use Rattle.dwz_def_tops.specs.Shown.{units_keys}
 use Rattle.dwz_expand_sources.specs.Imports.{same}
 use Rattle.dwz_expand_passes.specs.Faults.{file_number}
-use Rattle.dwz_law_copies.specs.Renamed.{SameChoice, renamed}
+use Rattle.dwz_expand_passes.specs.Renamed.{SameChoice, renamed}
 
 -- values stand at the same places
 pub record SameWhere {P Q : Type 0} (f : P → Q) (at : Where P) (to : Where Q) : Type 0 where

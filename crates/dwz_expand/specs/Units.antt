@@ -13,7 +13,7 @@ use Rattle.dwz_expand_layout.specs.Laid.{Made, laid}
 use Rattle.dwz_expand_passes.specs.declared.files.SourceFile.{SourceFile}
 use Rattle.dwz_expand_passes.specs.Files.{raw_in}
 use Rattle.dwz_expand.specs.Refused.{InFiles, StandForPlaces}
-use Rattle.dwz_law_copies.specs.OfFile.{IsNewFile}
+use Rattle.dwz_expand_passes.specs.OfFile.{IsNewFile}
 use Rattle.dwz_expand_passes.specs.declared.new_file.NewFile.{NewFile}
 use Rattle.dwz_expand_passes.specs.Passes.{AreNew, IsReady, Says, forms_in}
 use Rattle.dwz_expand.specs.OneKnown.{stands_of}

@@ -8,8 +8,7 @@ ghost use Rattle.dwz_expand_layout.specs.Laid.{layout_view};
 
 use crate::laws::fault_laws;
 use dwz_expand_layout::NewLayout;
-use dwz_expand_passes::{NewFile, lay, write};
-use dwz_law_copies::file_laws;
+use dwz_expand_passes::{NewFile, file_laws, lay, write};
 use dwz_model::{NoMemory, ReadErr};
 use std::alloc::AllocError;
 

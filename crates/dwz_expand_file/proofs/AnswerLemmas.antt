@@ -25,7 +25,7 @@ use Rattle.dwz_def_output.proofs.Orders.{is_order, same_order}
 use Rattle.dwz_def_expand.specs.Dropped.{table_place, without_sup}
 use Rattle.dwz_def_expand.specs.OneFile.{FileRead, OneFile, ReadsOne, given_common, limits_behind, rule_for}
 use Rattle.dwz_def_expand.specs.Output.{new_sections}
-use Rattle.dwz_def_expanded.specs.NewFile.{FileFault, IsUnplaced, at_header, file_with}
+use Rattle.dwz_def_expand.specs.NewFile.{FileFault, IsUnplaced, at_header, file_with}
 use Rattle.dwz_elf.specs.Reads.{GivesOrRefuses, IsWhole}
 use Rattle.dwz_elf.specs.Rebuilds.{IsRebuilt, IsTooLarge, RebuildView}
 use Rattle.dwz_expand_file.specs.Answers.{AnswersFile}

@@ -11,7 +11,7 @@ use Rattle.dwz_def_output.proofs.Orders.{is_order}
 use Rattle.dwz_def_expand.specs.Dropped.{without_sup}
 use Rattle.dwz_def_expand.specs.OneFile.{OneFile}
 use Rattle.dwz_def_expand.specs.Output.{ExpandRefusal, new_sections}
-use Rattle.dwz_def_expanded.specs.NewFile.{FileFault, IsUnplaced, NewRefusal, at_header, file_with}
+use Rattle.dwz_def_expand.specs.NewFile.{FileFault, IsUnplaced, NewRefusal, at_header, file_with}
 use Rattle.dwz_law_expand.specs.MadeLaws.{CanBeLaid, MadeReadLaw, changes_of}
 use Rattle.dwz_expand_file.specs.Laws.{NewFileReadsLaw}
 

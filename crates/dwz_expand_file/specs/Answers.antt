@@ -4,7 +4,7 @@ use Rattle.dwz_model.specs.declared.fault.Fault.{Fault}
 use Rattle.dwz_model.specs.declared.fault.ReadErr.{ReadErr}
 use Rattle.dwz_model.specs.declared.fault.ReadErr.TheVariants.{NoMemory, Refused}
 use Rattle.dwz_model.specs.declared.sections.Sections.{Sections}
-use Rattle.dwz_def_expanded.specs.NewFile.{FileFault, file_with}
+use Rattle.dwz_def_expand.specs.NewFile.{FileFault, file_with}
 
 -- A file with these bytes has no fault, and is written so with its new sections; or it is refused with its fault. Want of memory is always an
 -- answer.

@@ -4,8 +4,8 @@ use Rattle.dwz_model.specs.declared.fault.Refusal.{Refusal}
 use Rattle.dwz_def_reading.specs.ElfHeaders.{file_header}
 use Rattle.dwz_def_reading.specs.Units.{RawUnit}
 use Rattle.dwz_def_expand.specs.OneFile.{OneFile, ReadsOne}
-use Rattle.dwz_def_expanded.specs.NewFile.{NewRefusal, expanded_bytes}
-use Rattle.dwz_def_expanded.specs.After.{ReadsFreely, units_after}
+use Rattle.dwz_def_expand.specs.NewFile.{NewRefusal, expanded_bytes}
+use Rattle.dwz_def_expand.specs.After.{ReadsFreely, units_after}
 use Rattle.dwz_law_expand.specs.Told.{IsOfBytes}
 
 -- where nothing refuses a file that reads, what is written of it reads by itself, and says the new units

@@ -7,7 +7,7 @@
 //!
 //! What is written reads by itself, but for limits (`new_file_laws`).
 //!
-//! Read first: `specs/Answers.antt` and `specs/Laws.antt`; and `NewFile.antt` of `dwz_def_expanded`.
+//! Read first: `specs/Answers.antt` and `specs/Laws.antt`; and `NewFile.antt` of `dwz_def_expand`.
 #![tactic(auto)]
 
 mod bytes;

@@ -14,7 +14,7 @@ use Rattle.dwz_def_encoding.specs.Bases.{Bases}
 use Rattle.dwz_def_encoding.specs.Meant.{entry_keys}
 use Rattle.dwz_def_encoding.specs.Placing.{CommonUnit, holder_of}
 use Rattle.dwz_def_encoding.proofs.ReadAgain.{bases_read}
-use Rattle.dwz_def_images.proofs.ApartOwn.{keys_joined}
+use Rattle.dwz_def_tops.proofs.UnitKeys.{keys_joined}
 use Rattle.dwz_def_cross.specs.Tops.{WithCommon}
 use Rattle.dwz_def_expand.specs.Chosen.{role_in, slots_of_unit, unit_with_entry}
 use Rattle.dwz_def_expand.specs.Refusals.{Where}

@@ -20,7 +20,7 @@ use Rattle.dwz_expand_passes.specs.declared.files.Known.{Known}
 use Rattle.dwz_expand_passes.specs.declared.files.SourceFile.{SourceFile}
 use Rattle.dwz_expand_passes.specs.Heads.{IsHead, IsHeadOf}
 use Rattle.dwz_expand_passes.specs.declared.heads.Head.{Head}
-use Rattle.dwz_law_copies.specs.Lined.{all_lines, units_lines}
+use Rattle.dwz_expand_passes.specs.Lined.{all_lines, units_lines}
 use Rattle.dwz_unit.proofs.ShownLemmas.{rows_from-length}
 use Rattle.dwz_unit.specs.Rows.{EntryRow, rows_below, rows_from, rows_of}
 

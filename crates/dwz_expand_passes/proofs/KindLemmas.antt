@@ -26,10 +26,10 @@ use Rattle.dwz_expand_passes.proofs.FitLemmas.{stands_first}
 use Rattle.dwz_expand_passes.proofs.PlacesSaid.{entry_said, unit_said, units_mean}
 use Rattle.dwz_expand_passes.specs.Known.{StandsAt}
 use Rattle.dwz_expand_passes.specs.Kinds.{IsMain}
-use Rattle.dwz_law_copies.proofs.NumberLemmas.{numbers_law}
-use Rattle.dwz_law_copies.proofs.StandLemmas.{same_test}
-use Rattle.dwz_law_copies.specs.Copied.{named_copy}
-use Rattle.dwz_law_copies.specs.Numbered.{key_in}
+use Rattle.dwz_expand_passes.proofs.NumberLemmas.{numbers_law}
+use Rattle.dwz_expand_passes.proofs.StandLemmas.{same_test}
+use Rattle.dwz_expand_passes.specs.CopiesOf.{named_copy}
+use Rattle.dwz_expand_passes.specs.Numbered.{key_in}
 use Rattle.dwz_unit.specs.Rows.{kind_number, signature_of, type_offset_of, unit_shown}
 use Rattle.dwz_unit.specs.declared.rows.RawUnit.{RawUnit as UnitOfCode}
 use Rattle.dwz_expand_layout.specs.Shown.{KindShows}

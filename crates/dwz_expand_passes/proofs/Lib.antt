@@ -32,3 +32,14 @@ pub mod UnitLemmas
 pub mod OrderLemmas
 pub mod OneOrder
 mod NotedLemmas
+pub mod SourceMaps
+pub mod UnitMaps
+pub mod ByteMaps
+pub mod RenamedLemmas
+pub mod ListLemmas
+pub mod LineLemmas
+pub mod StandLemmas
+pub mod NumberLemmas
+pub mod ReferLemmas
+pub mod CopiedLemmas
+pub mod FileLemmas

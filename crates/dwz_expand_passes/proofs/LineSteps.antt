@@ -22,10 +22,10 @@ use Rattle.dwz_expand_passes.specs.declared.files.Known.{Known}
 use Rattle.dwz_expand_passes.specs.Heads.{IsHeadOf}
 use Rattle.dwz_expand_passes.specs.Steps.{AnswersLine}
 use Rattle.dwz_expand_passes.specs.declared.heads.Head.{Head}
-use Rattle.dwz_law_copies.proofs.LineLemmas.{all_nodes, listed_node, node_of}
-use Rattle.dwz_law_copies.specs.Copied.{named_copy}
-use Rattle.dwz_law_copies.specs.Lined.{all_lines}
-use Rattle.dwz_law_copies.specs.Numbered.{key_in}
+use Rattle.dwz_expand_passes.proofs.LineLemmas.{all_nodes, listed_node, node_of}
+use Rattle.dwz_expand_passes.specs.CopiesOf.{named_copy}
+use Rattle.dwz_expand_passes.specs.Lined.{all_lines}
+use Rattle.dwz_expand_passes.specs.Numbered.{key_in}
 
 -- an entry by its number, with what is below it
 pub node_there : (w : WithCommon ℕ) (i : ℕ) (l : Line ℕ) → slice_get (all_lines w) i ≡ Some l → (d : ListedEntry ℕ) × (slice_get (all_entries w) i ≡ Some d) × (d.0 ≡ l.node)

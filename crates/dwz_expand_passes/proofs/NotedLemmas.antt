@@ -20,7 +20,7 @@ use Rattle.dwz_expand_passes.specs.Steps.{KnowsHere, NotedTo, rest_of}
 use Rattle.dwz_expand_passes.specs.declared.copied.Source.{Source}
 use Rattle.dwz_expand_passes.specs.declared.new_file.NewFile.{NewFile}
 use Rattle.dwz_model.proofs.ListFacts.{got_there}
-use Rattle.dwz_law_copies.specs.Numbered.{key_in}
+use Rattle.dwz_expand_passes.specs.Numbered.{key_in}
 
 -- ---- lists
 

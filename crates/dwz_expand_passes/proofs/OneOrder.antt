@@ -29,12 +29,12 @@ use Rattle.std.proofs.lemmas.List.{length-map}
 use Rattle.dwz_def_expand.specs.Refusals.{Where}
 use Rattle.dwz_expand_passes.specs.Passes.{AreNew, Says, forms_in}
 use Rattle.dwz_expand_passes.specs.declared.new_file.NewFile.{NewFile}
-use Rattle.dwz_law_copies.proofs.NumberLemmas.{copies_many, lengths}
-use Rattle.dwz_law_copies.proofs.ReferLemmas.{copy_refers, kind_refers}
-use Rattle.dwz_law_copies.proofs.StandLemmas.{same_test}
-use Rattle.dwz_law_copies.specs.Copied.{HasCopies, HaveCopies, IsCopyOf, NamesNoRoot, named_copy}
-use Rattle.dwz_law_copies.specs.Lined.{all_lines}
-use Rattle.dwz_law_copies.specs.Numbered.{copies_from, key_in}
+use Rattle.dwz_expand_passes.proofs.NumberLemmas.{copies_many, lengths}
+use Rattle.dwz_expand_passes.proofs.ReferLemmas.{copy_refers, kind_refers}
+use Rattle.dwz_expand_passes.proofs.StandLemmas.{same_test}
+use Rattle.dwz_expand_passes.specs.CopiesOf.{HasCopies, HaveCopies, IsCopyOf, NamesNoRoot, named_copy}
+use Rattle.dwz_expand_passes.specs.Lined.{all_lines}
+use Rattle.dwz_expand_passes.specs.Numbered.{copies_from, key_in}
 
 -- ---- keys
 

@@ -22,7 +22,7 @@ use Rattle.dwz_expand_passes.specs.Units.{IsNewOf, RefusesAt, RefusesUnit}
 use Rattle.dwz_expand_passes.specs.declared.new_file.NewFile.{NewFile}
 use Rattle.dwz_expand_passes.proofs.StepLemmas.{first_front, free_first}
 use Rattle.dwz_expand_passes.proofs.UnitLemmas.{no_first}
-use Rattle.dwz_law_copies.specs.Copied.{HasCopies, HaveCopies}
+use Rattle.dwz_expand_passes.specs.CopiesOf.{HasCopies, HaveCopies}
 
 pub two_long : {X Y : Type 0} (R : X → Y → Type 0) (xs : List X) (ys : List Y) → EachTwo R xs ys → length xs ≡ length ys
 two_long R [] [] h = refl

@@ -19,8 +19,8 @@ use Rattle.dwz_expand_passes.specs.Files.{forms_of}
 use Rattle.dwz_expand_passes.specs.declared.files.Known.{Known}
 use Rattle.dwz_expand_passes.specs.Steps.{AnswersLine, AreCopied, CopyThere, IsSource, KnowsHere, PassedTo, RefusesIn, RefusesLine, RefusesLines, line_before, lines_before, rest_of}
 use Rattle.dwz_expand_passes.specs.declared.copied.Source.{Source}
-use Rattle.dwz_law_copies.specs.Copied.{NamesNoRoot}
-use Rattle.dwz_law_copies.specs.Lined.{all_lines}
+use Rattle.dwz_expand_passes.specs.CopiesOf.{NamesNoRoot}
+use Rattle.dwz_expand_passes.specs.Lined.{all_lines}
 
 -- ---- lines
 

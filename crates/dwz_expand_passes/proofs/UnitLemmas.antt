@@ -46,12 +46,12 @@ use Rattle.dwz_model.specs.declared.fault.ReadErr.TheVariants.{NoMemory, Refused
 use Rattle.dwz_def_expand.specs.Chosen.{choice}
 use Rattle.dwz_expand_passes.specs.declared.new_file.NewFile.{NewFile}
 use Rattle.dwz_expand_passes.proofs.KindLemmas.{raw_unit}
-use Rattle.dwz_law_copies.proofs.LineLemmas.{all_nodes, listed_node, node_of}
-use Rattle.dwz_law_copies.proofs.NumberLemmas.{numbers_law}
-use Rattle.dwz_law_copies.proofs.StandLemmas.{lines_law}
-use Rattle.dwz_law_copies.specs.Copied.{HasCopies, IsCopyOf, named_copy}
-use Rattle.dwz_law_copies.specs.Lined.{StandsAs, all_lines}
-use Rattle.dwz_law_copies.specs.Numbered.{key_in}
+use Rattle.dwz_expand_passes.proofs.LineLemmas.{all_nodes, listed_node, node_of}
+use Rattle.dwz_expand_passes.proofs.NumberLemmas.{numbers_law}
+use Rattle.dwz_expand_passes.proofs.StandLemmas.{lines_law}
+use Rattle.dwz_expand_passes.specs.CopiesOf.{HasCopies, IsCopyOf, named_copy}
+use Rattle.dwz_expand_passes.specs.Lined.{StandsAs, all_lines}
+use Rattle.dwz_expand_passes.specs.Numbered.{key_in}
 
 -- ---- the plan
 

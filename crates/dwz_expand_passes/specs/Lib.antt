@@ -12,3 +12,8 @@ pub mod Passes
 pub mod Units
 pub mod Tables
 pub mod Noted
+pub mod Renamed
+pub mod Lined
+pub mod Numbered
+pub mod CopiesOf
+pub mod OfFile

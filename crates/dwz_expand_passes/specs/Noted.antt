@@ -15,8 +15,8 @@ use Rattle.dwz_expand_passes.specs.declared.files.SourceFile.{SourceFile}
 use Rattle.dwz_expand_sources.specs.Walk.{sources_of}
 use Rattle.dwz_expand_passes.specs.Passes.{Says}
 use Rattle.dwz_expand_passes.specs.declared.new_file.NewFile.{NewFile}
-use Rattle.dwz_law_copies.specs.Lined.{all_lines}
-use Rattle.dwz_law_copies.specs.Numbered.{key_in}
+use Rattle.dwz_expand_passes.specs.Lined.{all_lines}
+use Rattle.dwz_expand_passes.specs.Numbered.{key_in}
 
 -- those of the copy of the entry with a number, which may be one of the common file, in the new unit with a number
 pub record Noted : Type 0 where

@@ -19,7 +19,7 @@ use Rattle.dwz_expand_sources.specs.Sources.{AreSources, all_entries}
 use Rattle.dwz_expand_passes.specs.Files.{IsCommonReady, IsFileReady, KnowsCommon, KnowsFile, StandSo}
 use Rattle.dwz_expand_passes.specs.Files.{around_beside, common_count, common_of, raw_in}
 use Rattle.dwz_expand_passes.specs.declared.new_file.NewFile.{NewFile}
-use Rattle.dwz_law_copies.specs.Copied.{HaveCopies}
+use Rattle.dwz_expand_passes.specs.CopiesOf.{HaveCopies}
 
 -- how many entries both files have
 abbrev pub entry_many : NewFile → ℕ

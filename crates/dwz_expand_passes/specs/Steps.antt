@@ -22,9 +22,9 @@ use Rattle.dwz_expand_passes.specs.Heads.{IsHeadOf}
 use Rattle.dwz_expand_passes.specs.Noted.{AreNotedOf, Noted}
 use Rattle.dwz_expand_passes.specs.declared.copied.CopiedEntry.{CopiedEntry}
 use Rattle.dwz_expand_passes.specs.declared.copied.Source.{Source}
-use Rattle.dwz_law_copies.specs.Copied.{IsCopyOf, NamesNoRoot}
-use Rattle.dwz_law_copies.specs.Lined.{all_lines}
-use Rattle.dwz_law_copies.specs.Numbered.{key_in}
+use Rattle.dwz_expand_passes.specs.CopiesOf.{IsCopyOf, NamesNoRoot}
+use Rattle.dwz_expand_passes.specs.Lined.{all_lines}
+use Rattle.dwz_expand_passes.specs.Numbered.{key_in}
 
 -- ---- what is known
 

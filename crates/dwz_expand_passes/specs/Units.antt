@@ -13,7 +13,7 @@ use Rattle.dwz_expand_layout.specs.Entries.{UnitLines}
 use Rattle.dwz_expand_sources.specs.declared.sources.NewUnit.{NewUnit}
 use Rattle.dwz_expand_passes.specs.Passes.{Says, forms_in}
 use Rattle.dwz_expand_passes.specs.declared.new_file.NewFile.{NewFile}
-use Rattle.dwz_law_copies.specs.Copied.{HasCopies}
+use Rattle.dwz_expand_passes.specs.CopiesOf.{HasCopies}
 
 -- the first value in the n-th new unit that can't be copied has that fault
 abbrev pub RefusesUnit : NewFile → WithCommon ℕ → Where ℕ → ℕ → DwUnit ℕ → Fault → Type 0

@@ -9,8 +9,8 @@ ghost use Rattle.dwz_expand_passes.specs.Steps.{AnswersLine, CanBeWritten, IsSou
 ghost use Rattle.dwz_expand_passes.specs.Steps.{copied_deep, copied_line, depth_at, line_before};
 ghost use Rattle.dwz_expand_layout.specs.Shown.{keys_of};
 ghost use Rattle.dwz_expand_passes.specs.Files.{IsKnownReady, SpeaksEntry, entry_count};
-ghost use Rattle.dwz_law_copies.specs.Lined.{all_lines};
-ghost use Rattle.dwz_law_copies.specs.Numbered.{key_in};
+ghost use Rattle.dwz_expand_passes.specs.Lined.{all_lines};
+ghost use Rattle.dwz_expand_passes.specs.Numbered.{key_in};
 ghost use Rattle.dwz_model.specs.Lists.{Each};
 
 use crate::files::Known;

@@ -9,7 +9,7 @@ ghost use Rattle.dwz_expand_layout.specs.Lines.{Line};
 ghost use Rattle.dwz_expand_layout.specs.Shown.{Keys};
 ghost use Rattle.dwz_expand_passes.specs.Files.{IsKnownReady, Knows, entry_count};
 ghost use Rattle.dwz_expand_passes.specs.Heads.{IsHead, IsHeadOf};
-ghost use Rattle.dwz_law_copies.specs.Lined.{all_lines};
+ghost use Rattle.dwz_expand_passes.specs.Lined.{all_lines};
 ghost use Rattle.dwz_unit.specs.Rows.{EntryRow, rows_of, units_of};
 
 use crate::files::Known;

@@ -12,8 +12,8 @@ ghost use Rattle.dwz_expand_passes.specs.Kinds.{IsMain};
 ghost use Rattle.dwz_expand_passes.specs.Passes.{IsReady, Says, entry_many};
 ghost use Rattle.dwz_expand_passes.specs.Files.{IsFileReady, raw_in};
 ghost use Rattle.dwz_expand_sources.specs.Imports.{same};
-ghost use Rattle.dwz_law_copies.specs.Copied.{named_copy};
-ghost use Rattle.dwz_law_copies.specs.Numbered.{key_in};
+ghost use Rattle.dwz_expand_passes.specs.CopiesOf.{named_copy};
+ghost use Rattle.dwz_expand_passes.specs.Numbered.{key_in};
 ghost use Rattle.dwz_model.specs.Lists.{In};
 
 use crate::files::SourceFile;

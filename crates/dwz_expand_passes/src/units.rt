@@ -17,8 +17,8 @@ ghost use Rattle.dwz_expand_sources.specs.Numbers.{HasRanges, root_numbers};
 ghost use Rattle.dwz_expand_sources.specs.declared.sources.NewUnit.{NewUnit as UnitInPlan};
 ghost use Rattle.dwz_expand_sources.specs.Walk.{sources_of};
 ghost use Rattle.dwz_expand_passes.specs.Files.{IsKnownReady, common_count, entry_count};
-ghost use Rattle.dwz_law_copies.specs.Copied.{named_copy};
-ghost use Rattle.dwz_law_copies.specs.Numbered.{key_in};
+ghost use Rattle.dwz_expand_passes.specs.CopiesOf.{named_copy};
+ghost use Rattle.dwz_expand_passes.specs.Numbered.{key_in};
 ghost use Rattle.dwz_model.specs.Lists.{Each};
 
 use crate::copied::CopiedEntry;

@@ -11,7 +11,8 @@ use Rattle.dwz_unit.specs.declared.rows.RawEntry.{RawEntry as EntryOfCode}
 use Rattle.dwz_unit.specs.declared.rows.RawUnit.{RawUnit as UnitOfCode}
 use Rattle.dwz_unit.specs.Rows.{kind_number, shown_entries, shown_from, shown_units, unit_shown}
 use Rattle.dwz_graph.proofs.UnitBuilding.{NextUnit, kind_in, kind_is, next_unit}
-use Rattle.dwz_graph.proofs.UnitThere.{root_ends, same_unit, unit_ends, unit_there}
+use Rattle.dwz_graph.proofs.UnitThere.{same_unit}
+use Rattle.dwz_unit.proofs.UnitThere.{root_ends, unit_ends, unit_there}
 use Rattle.dwz_expand_sources.specs.declared.sources.NewUnit.{NewUnit}
 use Rattle.dwz_expand_sources.specs.declared.sources.SourceRange.{SourceRange}
 use Rattle.dwz_expand_sources.specs.Building.{Known, kept_ranges, part_ranges, range_if, ranges_in, stored_shape, with_new, with_unit, with_units}

@@ -3,7 +3,7 @@ use Rattle.std.proofs.Common.{◌≡◌, ℕ, zero, suc, ◌==◌, Bool, true, f
 use Rattle.std.specs.Prelude.{if◌then◌else◌, not}
 use Rattle.std.specs.List.{filter}
 use Rattle.std.specs.Option.{option_map}
-use Rattle.dwz_bytes.specs.Input.{Input}
+use Rattle.dwz_def_reading.specs.Input.{Input}
 use Rattle.dwz_model.specs.declared.place.Pair.{Pair}
 use Rattle.dwz_def_reading.specs.Documents.{Attr, Node, attr_map}
 use Rattle.dwz_def_reading.specs.Entries.{RawAttr}

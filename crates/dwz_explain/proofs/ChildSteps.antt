@@ -11,7 +11,7 @@ use Rattle.dwz_def_explain.specs.What.{Subtree, subtree}
 use Rattle.dwz_def_explain.specs.Texts.{child_at, entry_along}
 use Rattle.dwz_graph.specs.Building.{HasList, IsList}
 use Rattle.dwz_graph.proofs.ListLemmas.{list_next, some_entry, within}
-use Rattle.dwz_graph.proofs.RowLemmas.{row_there}
+use Rattle.dwz_unit.proofs.RowsFound.{row_there}
 use Rattle.dwz_unit.specs.declared.rows.RawEntry.{RawEntry as EntryOfCode}
 use Rattle.dwz_unit.specs.Rows.{EntryRow, entry_shown, rows_below, rows_of, shown_entries}
 use Rattle.dwz_explain.specs.Shown.{HasSubtree, MeansList, MeansSubtree}

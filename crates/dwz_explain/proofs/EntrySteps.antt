@@ -6,14 +6,14 @@ use Rattle.dwz_def_reading.specs.Meanings.{MeaningContext, scope_of}
 use Rattle.dwz_def_reading.specs.Trees.{End, Entry}
 use Rattle.dwz_def_reading.proofs.ListFacts.{got_below}
 use Rattle.dwz_def_tops.specs.Spots.{EntryName}
-use Rattle.dwz_def_images.specs.After.{at_file}
+use Rattle.dwz_def_reading.specs.Places.{at_file}
 use Rattle.dwz_def_explain.specs.Texts.{child_at, entry_along, place_of_name}
 use Rattle.dwz_def_explain.specs.What.{Subtree}
 use Rattle.dwz_graph.specs.declared.file.File.{File}
 use Rattle.dwz_graph.specs.Files.{docs_of}
-use Rattle.dwz_graph.proofs.RowLemmas.{row_is}
+use Rattle.dwz_unit.proofs.RowsFound.{row_is}
 use Rattle.dwz_label_differences.specs.Told.{EachNode}
-use Rattle.dwz_law_files.specs.Across.{name_at}
+use Rattle.dwz_graph.specs.Across.{name_at}
 use Rattle.dwz_unit.specs.declared.rows.RawEntry.{RawEntry as EntryOfCode}
 use Rattle.dwz_unit.specs.Rows.{Source, shown_entries, units_of as raw_units}
 use Rattle.dwz_explain.specs.declared.asked.Spot.{Spot}

@@ -7,10 +7,11 @@ use Rattle.dwz_def_reading.proofs.ListFacts.{got_map, in_cases, in_left, in_map,
 use Rattle.dwz_def_tops.specs.Spots.{EntryName, RootOf, Within, below_spots, same_spot, spot_in, spots_from, top_count, tops_among}
 use Rattle.dwz_def_tops.proofs.Members.{in_map_from}
 use Rattle.dwz_def_tops.proofs.SpotLemmas.{same_spot-same, same_spot-true}
-use Rattle.dwz_def_images.specs.After.{Place, at_file, name_from, name_of_place}
+use Rattle.dwz_def_tops.specs.UnitNames.{name_from, name_of_place}
+use Rattle.dwz_def_reading.specs.Places.{Place, at_file}
 use Rattle.dwz_def_explain.specs.Texts.{files_spots, place_named, place_of_name}
 use Rattle.dwz_graph.specs.Names.{names_from}
-use Rattle.dwz_layout_numbers.specs.Names.{all_names, names_of_files}
+use Rattle.dwz_graph.specs.AllNames.{all_names, names_of_files}
 use Rattle.dwz_layout_numbers.proofs.OnceNames.{one_entry}
 use Rattle.dwz_explain.specs.Reached.{IsEntryName}
 

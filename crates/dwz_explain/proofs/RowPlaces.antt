@@ -9,7 +9,8 @@ use Rattle.dwz_def_tops.specs.Spots.{Top, Within, tops_of, units_of}
 use Rattle.dwz_def_tops.specs.Deciding.{is_movable}
 use Rattle.dwz_def_tops.proofs.AlikeBound.{movable_decides}
 use Rattle.dwz_def_tops.proofs.TopNumbers.{Numbered, top_there, tops_numbers}
-use Rattle.dwz_def_images.specs.After.{Place, at_file, name_of_place}
+use Rattle.dwz_def_tops.specs.UnitNames.{name_of_place}
+use Rattle.dwz_def_reading.specs.Places.{Place, at_file}
 use Rattle.dwz_def_explain.specs.Places.{IsMovableAt, NoneMovableAt}
 use Rattle.dwz_groups.specs.declared.tops.TopRow.{TopRow}
 use Rattle.dwz_groups.specs.declared.tops.Tops.{Tops}

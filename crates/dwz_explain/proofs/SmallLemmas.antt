@@ -35,14 +35,15 @@ use Rattle.dwz_graph.specs.Resolved.{place_at}
 use Rattle.dwz_graph.proofs.FewRefs.{refs_few}
 use Rattle.dwz_graph.proofs.IndexRoom.{info_within}
 use Rattle.dwz_graph.proofs.NamedLemmas.{units_found, units_same}
-use Rattle.dwz_graph.proofs.RowLemmas.{rows-length}
+use Rattle.dwz_unit.proofs.RowsFound.{rows-length}
 use Rattle.dwz_label.proofs.NodeLooks.{top_below}
-use Rattle.dwz_law_files.specs.Across.{IsFileAmong, name_at}
-use Rattle.dwz_law_files.proofs.FileCounts.{found}
-use Rattle.dwz_law_files.proofs.FileEntries.{few_entries, gives_top}
-use Rattle.dwz_law_files.proofs.FileWalk.{is_among}
+use Rattle.dwz_graph.specs.Across.{IsFileAmong, name_at}
+use Rattle.dwz_graph.proofs.FileCounts.{found}
+use Rattle.dwz_graph.proofs.FileEntries.{few_entries, gives_top}
+use Rattle.dwz_graph.proofs.FileWalk.{is_among}
 use Rattle.dwz_move.specs.Bound.{somes}
-use Rattle.dwz_move.specs.Known.{KnowsRefs, StandsAt, tops_of_refs}
+use Rattle.dwz_move.specs.Known.{KnowsRefs, tops_of_refs}
+use Rattle.dwz_graph.specs.Standing.{StandsAt}
 use Rattle.dwz_move_files.proofs.TargetLemmas.{targets_there}
 use Rattle.dwz_unit.specs.Rows.{EntryRow, entry_shown, rows_below, rows_from, rows_in, rows_of, shown_entries, units_of as raw_units}
 use Rattle.dwz_unit.proofs.RowLemmas.{shown-length}

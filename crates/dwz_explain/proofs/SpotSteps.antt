@@ -15,8 +15,9 @@ use Rattle.dwz_def_tops.specs.Seen.{IsPartial}
 use Rattle.dwz_def_tops.specs.Spots.{EntryName, Labelled, LabelledTop, Top, Within, spots_from, tops_of, units_of}
 use Rattle.dwz_def_tops.proofs.NameLists.{spots_firsts}
 use Rattle.dwz_def_tops.proofs.TopNumbers.{top_at, top_there, tops_numbers}
-use Rattle.dwz_def_images.specs.After.{Place, at_file, name_of_place}
-use Rattle.dwz_def_images.proofs.OldNames.{tops_labelled}
+use Rattle.dwz_def_tops.specs.UnitNames.{name_of_place}
+use Rattle.dwz_def_reading.specs.Places.{Place, at_file}
+use Rattle.dwz_def_tops.proofs.OldNames.{tops_labelled}
 use Rattle.dwz_def_explain.specs.Texts.{place_of_name}
 use Rattle.dwz_def_explain.specs.What.{whole_top}
 use Rattle.dwz_graph.specs.declared.file.File.{File}
@@ -28,11 +29,11 @@ use Rattle.dwz_graph.proofs.TopNameLemmas.{read_whole}
 use Rattle.dwz_groups.specs.declared.tops.TopRow.{TopRow}
 use Rattle.dwz_groups.specs.declared.tops.Tops.{Tops}
 use Rattle.dwz_label_differences.specs.Told.{EachNode}
-use Rattle.dwz_law_files.specs.Across.{IsFileAmong, IsTopOf, file_tops, name_at}
-use Rattle.dwz_law_files.proofs.FileCounts.{found}
-use Rattle.dwz_law_files.proofs.FileEntries.{gives_top}
-use Rattle.dwz_law_files.proofs.FileWalk.{is_among}
-use Rattle.dwz_move.specs.Known.{StandsAt}
+use Rattle.dwz_graph.specs.Across.{IsFileAmong, IsTopOf, file_tops, name_at}
+use Rattle.dwz_graph.proofs.FileCounts.{found}
+use Rattle.dwz_graph.proofs.FileEntries.{gives_top}
+use Rattle.dwz_graph.proofs.FileWalk.{is_among}
+use Rattle.dwz_graph.specs.Standing.{StandsAt}
 use Rattle.dwz_move_files.specs.Outlines.{IsOutline}
 use Rattle.dwz_unit.specs.Rows.{rows_below, rows_of, units_of as raw_units}
 use Rattle.dwz_explain.specs.Reached.{HasEntry, HoldsTop, IsEntryName, Shows}

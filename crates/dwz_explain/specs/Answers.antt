@@ -3,7 +3,7 @@ use Rattle.std.specs.Prelude.{◌≡◌, ℕ, List, Result, Ok, Err}
 use Rattle.dwz_model.specs.declared.fault.GraphErr.{GraphErr}
 use Rattle.dwz_model.specs.declared.fault.GraphErr.TheVariants.{NoMemory, Refused}
 use Rattle.dwz_model.specs.declared.fault.Refusal.{Refusal}
-use Rattle.dwz_def_images.specs.After.{Place}
+use Rattle.dwz_def_reading.specs.Places.{Place}
 use Rattle.dwz_def_reading.specs.Documents.{Doc}
 use Rattle.dwz_def_explain.specs.Places.{IsMovableAt, NoneMovableAt, not_movable}
 use Rattle.dwz_text.specs.Lines.{Text}

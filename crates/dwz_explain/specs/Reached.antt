@@ -10,7 +10,7 @@ use Rattle.dwz_graph.specs.Files.{AreKept, docs_of}
 use Rattle.dwz_graph.specs.Index.{Index}
 use Rattle.dwz_graph.specs.Indexed.{AreIndexes}
 use Rattle.dwz_label_differences.specs.Told.{EachNode}
-use Rattle.dwz_law_files.specs.Across.{IsFileAmong, name_at}
+use Rattle.dwz_graph.specs.Across.{IsFileAmong, name_at}
 use Rattle.dwz_move_files.specs.Outlines.{IsOutline}
 use Rattle.dwz_unit.specs.Rows.{units_of as raw_units}
 use Rattle.dwz_explain.specs.declared.asked.Asked.{Asked}

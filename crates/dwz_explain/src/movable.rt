@@ -2,7 +2,7 @@
 
 ghost use Rattle.std.specs.Prelude.{MatchOption};
 ghost use Rattle.dwz_def_explain.specs.Places.{IsMovableAt, NoneMovableAt};
-ghost use Rattle.dwz_def_images.specs.After.{at_file};
+ghost use Rattle.dwz_def_reading.specs.Places.{at_file};
 ghost use Rattle.dwz_graph.specs.Files.{docs_of};
 ghost use Rattle.dwz_move_files.specs.Outlines.{IsOutline};
 

@@ -2,7 +2,7 @@
 
 ghost use Rattle.std.specs.Prelude.{◌<◌, ◌≤◌, ◌^◌, IfOk, length};
 ghost use Rattle.dwz_def_explain.specs.Places.{Explains, IsMovableAt, IsTextOf};
-ghost use Rattle.dwz_def_images.specs.After.{Place as FilePlace, at_file};
+ghost use Rattle.dwz_def_reading.specs.Places.{Place as FilePlace, at_file};
 ghost use Rattle.dwz_def_tops.specs.Alike.{Movable};
 ghost use Rattle.dwz_def_tops.specs.Spots.{units_of};
 ghost use Rattle.dwz_explain.specs.Answers.{Answers, AnswersTop};

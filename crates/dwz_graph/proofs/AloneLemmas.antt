@@ -1,6 +1,6 @@
 -- Files that are read by themselves on one thread are read as by several.
 use Rattle.std.proofs.Common.{◌≡◌, ℕ, suc, List, [], ◌∷◌, Result, Ok, Err, refl, subst}
-use Rattle.dwz_bytes.specs.Reading.{◌>>=◌}
+use Rattle.dwz_def_reading.specs.Reading.{◌>>=◌}
 use Rattle.dwz_model.specs.declared.fault.GraphErr.{GraphErr}
 use Rattle.dwz_model.specs.declared.fault.Refusal.{Refusal}
 use Rattle.dwz_def_reading.specs.Documents.{Doc}

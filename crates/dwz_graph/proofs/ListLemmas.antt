@@ -8,7 +8,7 @@ use Rattle.dwz_def_reading.proofs.ListFacts.{drop_first}
 use Rattle.dwz_unit.specs.declared.rows.RawEntry.{RawEntry as EntryOfCode}
 use Rattle.dwz_unit.specs.Rows.{EntryRow, rows_below, rows_of, shown_entries}
 use Rattle.dwz_unit.proofs.RowLemmas.{shown-length}
-use Rattle.dwz_graph_resolve.proofs.RowLemmas.{row_is, rows-length}
+use Rattle.dwz_unit.proofs.RowsFound.{row_is, rows-length}
 use Rattle.dwz_graph.specs.Building.{HasList, IsList}
 
 pub drop_more : {X : Type 0} (xs : List X) (i j : ℕ) → drop (i + j) xs ≡ drop j (drop i xs)

@@ -11,7 +11,7 @@ use Rattle.dwz_graph.proofs.NameLemmas.{places_target}
 use Rattle.dwz_def_reading.specs.Documents.{Node}
 use Rattle.dwz_def_reading.specs.Meanings.{Around, scope_of}
 use Rattle.dwz_model.proofs.Members.{each_append}
-use Rattle.dwz_graph_resolve.proofs.RowLemmas.{rows-length}
+use Rattle.dwz_unit.proofs.RowsFound.{rows-length}
 use Rattle.dwz_graph_resolve.proofs.SurroundingLemmas.{entries_drop, entries_take, own_places}
 use Rattle.dwz_graph_resolve.specs.Parts.{AreParted}
 use Rattle.dwz_graph_resolve.specs.Resolved.{AreEntries}

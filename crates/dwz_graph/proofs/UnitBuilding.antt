@@ -8,7 +8,8 @@ use Rattle.dwz_def_reading.proofs.ListFacts.{drop_first, drop_here}
 use Rattle.dwz_unit.specs.declared.rows.RawEntry.{RawEntry as EntryOfCode}
 use Rattle.dwz_unit.specs.declared.rows.RawUnit.{RawUnit as UnitOfCode}
 use Rattle.dwz_unit.specs.Rows.{EntryRow, rows_below, rows_of, shown_entries, shown_from, shown_units, unit_shown}
-use Rattle.dwz_graph_resolve.proofs.UnitThere.{UnitThere, root_ends, same_unit, unit_ends, unit_there}
+use Rattle.dwz_graph_resolve.proofs.UnitThere.{same_unit}
+use Rattle.dwz_unit.proofs.UnitThere.{UnitThere, root_ends, unit_ends, unit_there}
 use Rattle.dwz_graph.specs.declared.index.SpaceEntry.{SpaceEntry}
 use Rattle.dwz_graph.specs.declared.index.Starts.{Starts}
 use Rattle.dwz_graph.specs.declared.index.Step.{Step}

@@ -23,3 +23,9 @@ pub use Rattle.dwz_graph_resolve.specs.Surroundings
 pub use Rattle.dwz_graph_resolve.specs.declared.here.Here
 pub use Rattle.dwz_graph_resolve.specs.declared.operands.ListOperand
 pub use Rattle.dwz_graph_resolve.specs.declared.sections.InputSections
+pub mod AllNames
+pub mod EntryCounts
+pub mod Standing
+pub mod Across
+pub mod AcrossLaws
+pub mod Few

@@ -28,7 +28,8 @@ use Rattle.dwz_graph.specs.Named.{entries_of}
 use Rattle.dwz_graph.specs.Parts.{HasLine, numbers_file}
 use Rattle.dwz_graph.specs.Resolved.{IsUnitHere}
 use Rattle.dwz_graph.specs.Here.{Here}
-use Rattle.dwz_graph.proofs.UnitThere.{UnitThere, in_entries, same_unit, unit_there}
+use Rattle.dwz_graph.proofs.UnitThere.{in_entries, same_unit}
+use Rattle.dwz_unit.proofs.UnitThere.{UnitThere, unit_there}
 use Rattle.dwz_def_tops.proofs.Members.{each_of}
 use Rattle.dwz_unit.specs.declared.rows.RawUnit.{RawUnit as UnitOfCode}
 use Rattle.dwz_unit.specs.Rows.{EntryRow, rows_in, rows_of, shown_units}

@@ -22,9 +22,9 @@ use Rattle.dwz_graph_resolve.specs.ListRows.{AreWithin, HasRow, IsKept, IsPieceO
 use Rattle.dwz_graph_resolve.specs.Parts.{AreParted, GoesOn, HasLine, HaveLines}
 use Rattle.dwz_graph_resolve.specs.Stretches.{JoinsLists}
 use Rattle.dwz_graph_resolve.proofs.ListKept.{own_same}
-use Rattle.dwz_graph_resolve.proofs.RowLemmas.{take_here}
+use Rattle.dwz_unit.proofs.RowsFound.{take_here}
 use Rattle.dwz_graph_resolve.proofs.SharedLaw.{from_map, in_map}
-use Rattle.dwz_graph_resolve.proofs.UnitThere.{get_behind, get_front}
+use Rattle.dwz_unit.proofs.UnitThere.{get_behind, get_front}
 
 -- ---- stretches of a list
 

@@ -1,4 +1,3 @@
-pub mod RowLemmas
 pub mod RootLemmas
 pub mod NamedLemmas
 pub mod PlaceLemmas

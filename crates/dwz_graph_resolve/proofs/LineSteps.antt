@@ -16,7 +16,7 @@ use Rattle.dwz_graph_resolve.specs.TablePlaces.{number_in}
 use Rattle.dwz_graph_resolve.specs.FileRows.{IfLearns, KnowTables, Learns, number_at}
 use Rattle.dwz_graph_resolve.specs.Named.{entries_of}
 use Rattle.dwz_graph_resolve.specs.Parts.{HasLine, HaveLines, KnowLines, KnowsLine, numbers_file}
-use Rattle.dwz_graph_resolve.proofs.RowLemmas.{take_here}
+use Rattle.dwz_unit.proofs.RowsFound.{take_here}
 
 -- ---- what is learned
 

@@ -30,7 +30,7 @@ use Rattle.dwz_graph_resolve.specs.ListSteps.{AreOperands, NamesRows}
 use Rattle.dwz_graph_resolve.specs.Operands.{IsUnnamed, is_named}
 use Rattle.dwz_graph_resolve.specs.Places.{place_at}
 use Rattle.dwz_graph_resolve.proofs.OperandSteps.{first_of, one_named, one_unnamed}
-use Rattle.dwz_graph_resolve.proofs.RowLemmas.{take_here}
+use Rattle.dwz_unit.proofs.RowsFound.{take_here}
 
 pub start_is : (raw : List RawUnit) (n : ℕ) (u : RawUnit) → slice_get raw n ≡ Some u → start_of raw n ≡ u.at
 start_is raw n u is = get_or_from_slice_get (map (λ (x : RawUnit). x.at) raw) n u.at 0 (slice_get-map (λ (x : RawUnit). x.at) raw n ∙ ap (option_map (λ (x : RawUnit). x.at)) is)

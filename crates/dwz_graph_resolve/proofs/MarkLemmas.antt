@@ -3,7 +3,7 @@ use Rattle.std.proofs.Common.{◌≡◌, ℕ, ◌+◌, List, [], ◌∷◌, take
 use Rattle.dwz_def_reading.specs.Lists.{In}
 use Rattle.dwz_def_reading.proofs.ListFacts.{in_left, in_right}
 use Rattle.dwz_graph_resolve.specs.ListParts.{Marks, Puts}
-use Rattle.dwz_graph_resolve.proofs.RowLemmas.{take_here}
+use Rattle.dwz_unit.proofs.RowsFound.{take_here}
 
 still_in : (places : List ℕ) (k p q : ℕ) → slice_get places k ≡ Some p → In q (take k places) → In q (take (k + 1) places)
 still_in places k p q there is = subst (λ (xs : List ℕ). In q xs) (sym (take_here places k p there)) (in_left q (take k places) (p ∷ []) is)

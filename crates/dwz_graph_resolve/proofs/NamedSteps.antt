@@ -19,7 +19,7 @@ use Rattle.dwz_graph_resolve.specs.Resolved.{Adds, Goes, NamesEntry, place_at}
 use Rattle.dwz_graph_resolve.specs.Surroundings.{entries_among, place_among}
 use Rattle.dwz_def_reading.specs.Lists.{Each}
 use Rattle.dwz_graph_resolve.proofs.NamedLemmas.{collect_append, joined_none, none_joined}
-use Rattle.dwz_graph_resolve.proofs.RowLemmas.{take_here}
+use Rattle.dwz_unit.proofs.RowsFound.{take_here}
 use Rattle.dwz_graph_resolve.proofs.SurroundingLemmas.{common_place, own_place, own_within}
 use Rattle.dwz_model.proofs.Members.{each_append}
 

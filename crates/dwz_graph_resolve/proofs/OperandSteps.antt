@@ -27,7 +27,7 @@ use Rattle.dwz_graph_resolve.specs.Named.{Found, found, found_in, map_ok}
 use Rattle.dwz_def_reading.specs.Shared.{NamedList}
 use Rattle.dwz_model.proofs.Members.{each_append}
 use Rattle.dwz_graph_resolve.proofs.PlaceLemmas.{among_none, among_there}
-use Rattle.dwz_graph_resolve.proofs.RowLemmas.{take_here}
+use Rattle.dwz_unit.proofs.RowsFound.{take_here}
 use Rattle.dwz_graph_resolve.proofs.SurroundingLemmas.{own_all, own_places}
 
 pub looks_up : (raw : List RawUnit) (s : MeaningContext ℕ) (o : Operand) (first end place : ℕ) (r : Option ℕ) → slice_range (places raw) first end ≡ entries_for s o.base → end ≤ entries_in raw

@@ -24,8 +24,8 @@ use Rattle.dwz_graph_resolve.specs.declared.surroundings.Surroundings.{Surroundi
 use Rattle.dwz_graph_resolve.proofs.LineSteps.{no_lines}
 use Rattle.dwz_graph_resolve.proofs.NamedLemmas.{node_found, node_lists, node_same}
 use Rattle.dwz_model.proofs.Members.{each_append}
-use Rattle.dwz_graph_resolve.proofs.RowLemmas.{take_here}
-use Rattle.dwz_graph_resolve.proofs.UnitThere.{get_behind, get_front}
+use Rattle.dwz_unit.proofs.RowsFound.{take_here}
+use Rattle.dwz_unit.proofs.UnitThere.{get_behind, get_front}
 use Rattle.dwz_unit.specs.declared.rows.RawUnit.{RawUnit as UnitOfCode}
 use Rattle.dwz_unit.specs.Rows.{EntryRow, rows_below, rows_from, rows_in, rows_of, shown_from, shown_units}
 use Rattle.dwz_unit.proofs.ShownLemmas.{rows_in-length}

@@ -14,7 +14,7 @@ use Rattle.dwz_model.specs.declared.place.Base.TheVariants.{Unit as FromUnit, In
 use Rattle.dwz_graph_resolve.specs.declared.operands.ListOperand.{ListOperand}
 use Rattle.dwz_graph_resolve.specs.Apart.{AreWide, FindsApart, FindsForeign, HasClash, HasForeign, IsCause, IsLesser, Overlaps, Rise, Rows, Same, Test, Tested, owns_place}
 use Rattle.dwz_graph_resolve.specs.Apart.{repeats_last, same_operand}
-use Rattle.dwz_graph_resolve.proofs.RowLemmas.{take_here}
+use Rattle.dwz_unit.proofs.RowsFound.{take_here}
 use Rattle.dwz_graph_resolve.proofs.ApartLemmas.{in_at, in_take, rows_lower, rows_push}
 
 -- ---- operands in order, of which each is kept once

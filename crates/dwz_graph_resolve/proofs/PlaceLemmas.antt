@@ -16,7 +16,7 @@ use Rattle.dwz_def_reading.proofs.UnitListLemmas.{units_found}
 use Rattle.dwz_unit.specs.declared.rows.RawEntry.{RawEntry as EntryOfCode}
 use Rattle.dwz_unit.specs.Modes.{mode_of}
 use Rattle.dwz_unit.specs.Rows.{EntryRow, Source, or_none, rows_below, rows_from, rows_in, rows_of, shown_entries, units_of}
-use Rattle.dwz_graph_resolve.proofs.RowLemmas.{entry_row, rows-length}
+use Rattle.dwz_unit.proofs.RowsFound.{entry_row, rows-length}
 use Rattle.dwz_graph_resolve.proofs.SearchLemmas.{Rise, has_none, has_there}
 use Rattle.dwz_graph_resolve.specs.Resolved.{place_at, places}
 

@@ -20,7 +20,7 @@ use Rattle.dwz_unit.specs.declared.mode.FileKind.{FileKind}
 use Rattle.dwz_graph_resolve.specs.Given.{AreGiven}
 use Rattle.dwz_graph_resolve.specs.ListRows.{AreDistinct}
 use Rattle.dwz_graph_resolve.proofs.PlaceLemmas.{Ascend, ascend_at}
-use Rattle.dwz_graph_resolve.proofs.RowLemmas.{unit_there}
+use Rattle.dwz_unit.proofs.RowsFound.{unit_there}
 use Rattle.dwz_graph_resolve.proofs.SearchLemmas.{Rise}
 
 -- where units begin

@@ -19,7 +19,7 @@ use Rattle.dwz_def_reading.proofs.AttrPairs.{read_pairs}
 use Rattle.dwz_def_reading.proofs.ListFacts.{drop_here, got_there}
 use Rattle.dwz_graph.specs.declared.file.File.{File}
 use Rattle.dwz_graph.specs.Files.{AreKept, docs_of}
-use Rattle.dwz_graph.proofs.RowLemmas.{attr_there, found_in_map}
+use Rattle.dwz_unit.proofs.RowsFound.{attr_there, found_in_map}
 use Rattle.dwz_unit.specs.Rows.{EntryRow, attr_count, attr_of, rows_of, units_of}
 use Rattle.dwz_unit.specs.Values.{Reads}
 use Rattle.dwz_graph_view.specs.AttrViews.{attr_at, form_view}

@@ -13,7 +13,7 @@ use Rattle.dwz_def_reading.proofs.ListFacts.{same_got}
 use Rattle.dwz_def_reading.proofs.MeaningLemmas.{value_agrees}
 use Rattle.dwz_graph.specs.declared.file.File.{File}
 use Rattle.dwz_graph.specs.Files.{AreKept, IsRead, docs_of}
-use Rattle.dwz_graph.proofs.RowLemmas.{attr_there}
+use Rattle.dwz_unit.proofs.RowsFound.{attr_there}
 use Rattle.dwz_label_entries.specs.Plain.{KnowsLine}
 use Rattle.dwz_unit.specs.Rows.{EntryRow, attr_of, rows_of, units_of}
 use Rattle.dwz_graph_view.specs.declared.setting.Setting.{Setting}

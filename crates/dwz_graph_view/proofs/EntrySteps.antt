@@ -22,7 +22,7 @@ use Rattle.dwz_graph.specs.Files.{AreKept, docs_of}
 use Rattle.dwz_graph.specs.Places.{place_at, places}
 use Rattle.dwz_graph.proofs.FileLemmas.{files_few}
 use Rattle.dwz_graph.proofs.PlaceLemmas.{entry_place, places_many, places_rise}
-use Rattle.dwz_graph.proofs.RowLemmas.{entry_row, row_is, row_there, rows-length}
+use Rattle.dwz_unit.proofs.RowsFound.{entry_row, row_is, row_there, rows-length}
 use Rattle.dwz_graph.proofs.RowUnits.{unit_within}
 use Rattle.dwz_graph.proofs.SearchLemmas.{Rise}
 use Rattle.dwz_unit.specs.declared.rows.RawEntry.{RawEntry as EntryOfCode}
@@ -31,7 +31,7 @@ use Rattle.dwz_unit.specs.Values.{Reads}
 use Rattle.dwz_graph_view.specs.EntryRows.{IsNumberAt, IsRowOf}
 use Rattle.dwz_graph_view.specs.EntryViews.{EntrySpot, begins_at, entry_at, entry_view, first_offset, spots_from, units_before}
 use Rattle.dwz_graph_view.proofs.FileDocs.{IsFileOf, file_of, same_file}
-use Rattle.dwz_law_files.proofs.FileCounts.{files_many}
+use Rattle.dwz_graph.proofs.FileCounts.{files_many}
 use Rattle.dwz_graph_view.proofs.RowSpots.{InStep, all_in_step, all_long, attrs_many, counts, means_many, step_at}
 use Rattle.dwz_graph_view.proofs.UnitCounts.{before_few}
 

@@ -13,7 +13,7 @@ use Rattle.dwz_graph.specs.Files.{AreKept, AreRead, HasFile, IsRead, docs_of}
 use Rattle.dwz_graph.proofs.FileLemmas.{files_few}
 use Rattle.dwz_graph.proofs.GraphLemmas.{file_there, files_read, same_raw, step}
 use Rattle.dwz_unit.specs.Rows.{units_of}
-use Rattle.dwz_law_files.proofs.FileWalk.{later_docs}
+use Rattle.dwz_graph.proofs.FileWalk.{later_docs}
 
 -- ---- the documents behind one
 

@@ -12,7 +12,7 @@ use Rattle.dwz_def_reading.specs.Units.{RawUnit, entries_in, entry_count}
 use Rattle.dwz_def_reading.proofs.ListFacts.{drop_first, got_below, same_got}
 use Rattle.dwz_graph.proofs.ListLemmas.{drop_more}
 use Rattle.dwz_graph.proofs.ListMeans.{means_size}
-use Rattle.dwz_graph.proofs.RowLemmas.{entry_row}
+use Rattle.dwz_unit.proofs.RowsFound.{entry_row}
 use Rattle.dwz_graph.proofs.TopLemmas.{get_cases}
 use Rattle.dwz_unit.specs.Rows.{EntryRow, rows_below, rows_from, rows_in, rows_of, shown_entries}
 use Rattle.dwz_unit.specs.declared.rows.RawEntry.{RawEntry as EntryOfCode}

@@ -15,7 +15,7 @@ use Rattle.dwz_graph.specs.Files.{IsRead}
 use Rattle.dwz_graph.specs.Resolved.{IsHere, IsUnitHere, sources_view}
 use Rattle.dwz_label_entries.specs.Plain.{KnowsLine}
 use Rattle.dwz_label_entries.proofs.AttrsLemmas.{entry_in, line_for}
-use Rattle.dwz_graph.proofs.RowLemmas.{entry_row}
+use Rattle.dwz_unit.proofs.RowsFound.{entry_row}
 use Rattle.dwz_graph.proofs.RowUnits.{unit_within}
 use Rattle.dwz_unit.specs.Rows.{EntryRow, rows_of, shown_entries, units_of}
 use Rattle.dwz_unit.specs.declared.rows.RawEntry.{RawEntry as EntryOfCode}

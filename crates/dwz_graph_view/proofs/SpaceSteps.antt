@@ -20,7 +20,7 @@ use Rattle.dwz_graph.specs.Files.{IsRead}
 use Rattle.dwz_graph.specs.Index.{Index}
 use Rattle.dwz_graph.specs.Resolved.{IsHere, IsUnitHere}
 use Rattle.dwz_graph.specs.Spaces.{IsOwn}
-use Rattle.dwz_graph.proofs.RowLemmas.{row_is, rows-length}
+use Rattle.dwz_unit.proofs.RowsFound.{row_is, rows-length}
 use Rattle.dwz_unit.specs.declared.rows.RawEntry.{RawEntry as EntryOfCode}
 use Rattle.dwz_unit.specs.declared.rows.RawUnit.{RawUnit as UnitOfCode}
 use Rattle.dwz_unit.specs.Rows.{EntryRow, rows_of, shown_entries, units_of}

@@ -15,11 +15,11 @@ use Rattle.dwz_graph.specs.Index.{Index}
 use Rattle.dwz_graph.specs.Indexed.{AreIndexes}
 use Rattle.dwz_graph.proofs.ChainLemmas.{leads_out}
 use Rattle.dwz_def_reading.specs.Files.{Limits, around_of}
-use Rattle.dwz_law_files.specs.Across.{name_at}
-use Rattle.dwz_law_files.specs.AcrossLaws.{GivesTop, IsAmong}
-use Rattle.dwz_law_files.proofs.FileCounts.{are_many, found}
-use Rattle.dwz_law_files.proofs.FileEntries.{gives_top}
-use Rattle.dwz_law_files.proofs.FileWalk.{is_among}
+use Rattle.dwz_graph.specs.Across.{name_at}
+use Rattle.dwz_graph.specs.AcrossLaws.{GivesTop, IsAmong}
+use Rattle.dwz_graph.proofs.FileCounts.{are_many, found}
+use Rattle.dwz_graph.proofs.FileEntries.{gives_top}
+use Rattle.dwz_graph.proofs.FileWalk.{is_among}
 use Rattle.dwz_unit.specs.Rows.{units_of as raw_units}
 use Rattle.dwz_graph_view.specs.declared.spaces.TopSpot.{TopSpot}
 use Rattle.dwz_graph_view.specs.SpaceRows.{HasTopAt, IsWayOut, own_top}

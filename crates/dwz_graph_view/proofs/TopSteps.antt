@@ -9,21 +9,21 @@ use Rattle.dwz_def_reading.specs.Trees.{End, Entry}
 use Rattle.dwz_def_reading.specs.Units.{entries_in}
 use Rattle.dwz_def_reading.proofs.ListFacts.{in_cases, in_left, in_right}
 use Rattle.dwz_def_tops.specs.Shown.{keys}
-use Rattle.dwz_def_tops.specs.Spots.{EntryName, RootOf, UnitOf, Within, below_spots, spot_in, top_count, tops_among}
-use Rattle.dwz_def_tops.specs.Spots.{spots_from as names_of_units}
+use Rattle.dwz_def_tops.specs.Spots.{EntryName, RootOf, UnitOf, Within, below_spots, spot_in, top_count, tops_among, spots_from as names_of_units}
 use Rattle.dwz_def_tops.proofs.NameLists.{below_firsts, in_firsts}
-use Rattle.dwz_def_images.specs.After.{at_file, name_from, name_of_place}
+use Rattle.dwz_def_tops.specs.UnitNames.{name_from, name_of_place}
+use Rattle.dwz_def_reading.specs.Places.{at_file}
 use Rattle.dwz_graph.specs.declared.file.File.{File}
 use Rattle.dwz_graph.specs.Files.{AreKept, docs_of}
 use Rattle.dwz_graph.specs.Index.{Index}
 use Rattle.dwz_graph.specs.Indexed.{AreIndexes}
 use Rattle.dwz_graph.specs.Names.{names_from, path_in, top_in}
 use Rattle.dwz_graph.specs.Places.{place_at}
-use Rattle.dwz_law_files.specs.Across.{name_at}
-use Rattle.dwz_law_files.specs.AcrossLaws.{IsAmong}
-use Rattle.dwz_law_files.proofs.FileCounts.{are_many}
-use Rattle.dwz_law_files.proofs.FileEntries.{all_entries, names_entries}
-use Rattle.dwz_law_files.proofs.FileWalk.{is_among}
+use Rattle.dwz_graph.specs.Across.{name_at}
+use Rattle.dwz_graph.specs.AcrossLaws.{IsAmong}
+use Rattle.dwz_graph.proofs.FileCounts.{are_many}
+use Rattle.dwz_graph.proofs.FileEntries.{all_entries, names_entries}
+use Rattle.dwz_graph.proofs.FileWalk.{is_among}
 use Rattle.dwz_unit.specs.Rows.{units_of}
 use Rattle.dwz_graph_view.specs.EntryViews.{EntrySpot, begins_at, entry_at, spots_below, spots_from, units_before}
 use Rattle.dwz_graph_view.specs.TopPaths.{IsNamedBy, path_from_top}

@@ -9,14 +9,14 @@ use Rattle.dwz_graph.specs.declared.file.File.{File}
 use Rattle.dwz_graph.specs.Files.{AreKept, AreRead, docs_of}
 use Rattle.dwz_graph.proofs.GraphLemmas.{files_read}
 use Rattle.dwz_graph.proofs.IndexRoom.{entries_few, many_units}
-use Rattle.dwz_graph.proofs.UnitThere.{get_behind, get_front}
+use Rattle.dwz_unit.proofs.UnitThere.{get_behind, get_front}
 use Rattle.dwz_unit.specs.Rows.{units_of}
 use Rattle.dwz_unit.proofs.ShownLemmas.{units_few}
 use Rattle.dwz_graph_view.specs.Finding.{HasUnit}
 use Rattle.dwz_graph_view.specs.EntryViews.{units_before}
 use Rattle.dwz_graph_view.specs.UnitViews.{all_units, units_from}
 use Rattle.dwz_graph_view.proofs.FileDocs.{file_of, first_doc}
-use Rattle.dwz_law_files.proofs.FileCounts.{files_many}
+use Rattle.dwz_graph.proofs.FileCounts.{files_many}
 
 -- ---- how many there are
 

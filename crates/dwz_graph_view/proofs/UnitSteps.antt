@@ -18,11 +18,12 @@ use Rattle.dwz_graph.specs.declared.file.File.{File}
 use Rattle.dwz_graph.specs.Files.{AreKept, docs_of}
 use Rattle.dwz_graph.proofs.IndexRoom.{info_within, many_units}
 use Rattle.dwz_graph.proofs.PlaceLemmas.{Ascend, unit_and_entries, units_and_entries_ascend}
-use Rattle.dwz_graph.proofs.RowLemmas.{row_is}
+use Rattle.dwz_unit.proofs.RowsFound.{row_is}
 use Rattle.dwz_graph.proofs.UnitBuilding.{root_within}
 use Rattle.dwz_graph.proofs.UnitStarts.{all_whole}
 use Rattle.dwz_graph.proofs.UnitsMean.{none_partial, places_number}
-use Rattle.dwz_graph.proofs.UnitThere.{UnitThere, root_found, same_unit, unit_there}
+use Rattle.dwz_graph.proofs.UnitThere.{same_unit}
+use Rattle.dwz_unit.proofs.UnitThere.{UnitThere, root_found, unit_there}
 use Rattle.dwz_unit.specs.declared.rows.RawEntry.{RawEntry as EntryOfCode}
 use Rattle.dwz_unit.specs.declared.rows.RawUnit.{RawUnit as UnitOfCode}
 use Rattle.dwz_unit.specs.Rows.{EntryRow, kind_number, rows_of, shown_entries, shown_units, signature_of, type_offset_of, unit_shown, units_of}

@@ -1,7 +1,8 @@
 //! The tops in which entries stand, by the places of these, and the ways down to them.
 
 ghost use Rattle.std.specs.Prelude.{◌≡◌, ◌<◌, List, IfOk, IfSome, None, Some, length, reverse, slice_get};
-ghost use Rattle.dwz_def_images.specs.After.{at_file, name_of_place};
+ghost use Rattle.dwz_def_tops.specs.UnitNames.{name_of_place};
+ghost use Rattle.dwz_def_reading.specs.Places.{at_file};
 ghost use Rattle.dwz_def_tops.specs.Spots.{EntryName};
 ghost use Rattle.dwz_graph.specs.Files.{docs_of};
 ghost use Rattle.dwz_graph.specs.Index.{IsIndex};

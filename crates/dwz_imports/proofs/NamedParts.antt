@@ -11,7 +11,7 @@ use Rattle.dwz_def_reading.specs.Classes.{Class, OfCommonEntry, OfInfoEntry, OfU
 use Rattle.dwz_def_reading.specs.Entries.{RawAttr}
 use Rattle.dwz_def_reading.specs.Meanings.{offset_of}
 use Rattle.dwz_def_reading.specs.Units.{RawUnit}
-use Rattle.dwz_graph.proofs.RowLemmas.{take_here}
+use Rattle.dwz_unit.proofs.RowsFound.{take_here}
 use Rattle.dwz_imports.specs.Stored.{IsPartNumber, IsPartOf, NamesPart, common_named, common_place, is_part_at, is_partial_kind, named_parts, numbers_where, own_named, own_place}
 use Rattle.dwz_imports.proofs.Grouped.{has_append, not_equal}
 use Rattle.dwz_imports.proofs.Numbers.{RiseFrom, in_where, rise_append, where_below, where_from, where_rises}

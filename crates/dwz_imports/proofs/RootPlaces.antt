@@ -18,9 +18,9 @@ use Rattle.dwz_unit.specs.declared.rows.RawEntry.{RawEntry as EntryOfCode}
 use Rattle.dwz_unit.specs.declared.rows.RawUnit.{RawUnit as UnitOfCode}
 use Rattle.dwz_unit.specs.Rows.{Source, kind_number, or_none, shown_entries, shown_units, units_of}
 use Rattle.dwz_graph.proofs.PlaceLemmas.{Ascend, ascend_at, ascend_lower, unit_and_entries, units_and_entries_ascend}
-use Rattle.dwz_graph.proofs.RowLemmas.{row_is}
+use Rattle.dwz_unit.proofs.RowsFound.{row_is}
 use Rattle.dwz_graph.proofs.SearchLemmas.{Rise}
-use Rattle.dwz_graph.proofs.UnitThere.{root_found, unit_ends, unit_there}
+use Rattle.dwz_unit.proofs.UnitThere.{root_found, unit_ends, unit_there}
 use Rattle.dwz_imports.specs.Stored.{IsPartNumber, is_partial_kind, roots}
 
 -- where units begin

@@ -10,7 +10,7 @@ use Rattle.dwz_model.specs.Lists.{In}
 use Rattle.dwz_model.proofs.ListFacts.{got_index_or, got_map, in_cases}
 use Rattle.dwz_model.proofs.Members.{in_map_from}
 use Rattle.dwz_def_reading.specs.Units.{RawUnit, entries_in}
-use Rattle.dwz_graph.proofs.RowLemmas.{take_here, unit_there}
+use Rattle.dwz_unit.proofs.RowsFound.{take_here, unit_there}
 use Rattle.dwz_groups.specs.declared.groups.Edge.{Edge}
 use Rattle.dwz_groups.specs.Groups.{grouped}
 use Rattle.dwz_groups.proofs.MarkLemmas.{grouped_edge}

@@ -6,7 +6,7 @@ ghost use Rattle.dwz_def_reading.specs.Classes;
 ghost use Rattle.dwz_def_reading.specs.Lists.{In};
 ghost use Rattle.dwz_def_reading.specs.Meanings;
 ghost use Rattle.dwz_def_reading.specs.Units.{entries_in};
-ghost use Rattle.dwz_bytes.specs.Spelling.{reach};
+ghost use Rattle.dwz_def_reading.specs.Spelling.{reach};
 ghost use Rattle.dwz_forms.specs.RawValues.{raw_view};
 ghost use Rattle.dwz_graph.specs.Resolved.{stored};
 ghost use Rattle.dwz_imports.specs.Said.{raw_beside};

@@ -24,7 +24,7 @@ use Rattle.dwz_label_marks.specs.Shown.{ShowApart, TellApart}
 use Rattle.dwz_label_marks.specs.Told.{Adds, Keeps, Tells}
 use Rattle.dwz_label_marks.proofs.AddsLemmas.{adds_kept}
 use Rattle.dwz_label_marks.proofs.ShownLemmas.{marks_apart}
-use Rattle.dwz_label_names.specs.Known.{FileNames, StaysNamed}
+use Rattle.dwz_label_words.specs.Known.{FileNames, StaysNamed}
 use Rattle.dwz_unit.specs.Declarations.{AreOf, Declarations}
 use Rattle.dwz_unit.specs.Rows.{rows_of, units_of as raw_units}
 

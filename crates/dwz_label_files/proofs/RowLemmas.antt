@@ -2,8 +2,8 @@
 use Rattle.std.proofs.Common.{◌≡◌, ℕ, ◌+◌, ◌<◌, List, [], ◌∷◌, ◌++◌, length, Some, slice_get, refl, sym, ap, subst, ◌∙◌, ⊎_elim, arith}
 use Rattle.std.proofs.lemmas.Bool.{cases_lt}
 use Rattle.std.proofs.lemmas.List.{append-nil, append_assoc, length-append}
-use Rattle.dwz_law_files.specs.Across.{starts_at, starts_from}
-use Rattle.dwz_law_files.proofs.FileCounts.{are_many, starts_are}
+use Rattle.dwz_graph.specs.Across.{starts_at, starts_from}
+use Rattle.dwz_graph.proofs.FileCounts.{are_many, starts_are}
 use Rattle.dwz_label_files.specs.declared.unit.UnitRow.{UnitRow}
 use Rattle.dwz_label_files.specs.Unit.{AddsRows, HasRow, HaveRows, IsUnitRow}
 use Rattle.dwz_def_reading.specs.Units.{RawUnit}
@@ -13,7 +13,7 @@ use Rattle.dwz_graph.specs.Files.{AreKept, docs_of}
 use Rattle.dwz_graph.specs.declared.index.Starts.{Starts}
 use Rattle.dwz_graph.specs.Index.{Index, next_starts}
 use Rattle.dwz_graph.specs.Indexed.{AreIndexes}
-use Rattle.dwz_graph.proofs.UnitThere.{get_behind, get_front}
+use Rattle.dwz_unit.proofs.UnitThere.{get_behind, get_front}
 use Rattle.dwz_unit.specs.Rows.{units_of as raw_units}
 
 -- ---- one file

@@ -3,9 +3,9 @@ use Rattle.std.proofs.Common.{◌≡◌, ℕ, ◌+◌, ◌^◌, ◌<◌, ◌≤�
 use Rattle.std.proofs.lemmas.Bool.{cases_lt}
 use Rattle.dwz_def_reading.proofs.ListFacts.{got_there}
 use Rattle.dwz_def_tops.specs.Spots.{tops_of, units_of}
-use Rattle.dwz_law_files.specs.Across.{starts_at, starts_from}
-use Rattle.dwz_law_files.proofs.FileCounts.{all_ends, are_many, starts_are}
-use Rattle.dwz_law_files.proofs.FileRoom.{tops_small}
+use Rattle.dwz_graph.specs.Across.{starts_at, starts_from}
+use Rattle.dwz_graph.proofs.FileCounts.{all_ends, are_many, starts_are}
+use Rattle.dwz_graph.proofs.FileRoom.{tops_small}
 use Rattle.dwz_label_files.specs.Run.{IsInFile}
 use Rattle.dwz_graph.specs.declared.file.File.{File}
 use Rattle.dwz_graph.specs.Files.{AreKept, docs_of}

@@ -2,10 +2,10 @@
 use Rattle.std.proofs.Common.{◌≡◌, ℕ, ◌+◌, ◌-◌, ◌<◌, ◌≤◌, List, [], ◌∷◌, ◌++◌, length, drop, Some, slice_get, Ok, refl, sym, ap, subst, ◌∙◌, arith}
 use Rattle.std.specs.Prelude.{reverse, slice_index}
 use Rattle.std.proofs.lemmas.List.{length-map, reverse-append, reverse-reverse}
-use Rattle.dwz_law_files.specs.Across.{IsFileAmong, name_at}
-use Rattle.dwz_law_files.specs.AcrossLaws.{GivesTop}
-use Rattle.dwz_law_files.proofs.FileEntries.{gives_top, names_entries}
-use Rattle.dwz_law_files.proofs.FileWalk.{is_among}
+use Rattle.dwz_graph.specs.Across.{IsFileAmong, name_at}
+use Rattle.dwz_graph.specs.AcrossLaws.{GivesTop}
+use Rattle.dwz_graph.proofs.FileEntries.{gives_top, names_entries}
+use Rattle.dwz_graph.proofs.FileWalk.{is_among}
 use Rattle.dwz_def_tops.specs.Spots.{EntryName, SpaceName, Top, tops_of, units_of}
 use Rattle.dwz_label_entries.specs.Targets.{KnowsNames}
 use Rattle.dwz_label_files.specs.declared.run.Run.{Run}
@@ -34,8 +34,9 @@ use Rattle.dwz_def_reading.specs.Meant.{unit_meaning}
 use Rattle.dwz_graph.specs.Parts.{HasLine}
 use Rattle.dwz_graph.specs.Resolved.{around}
 use Rattle.dwz_def_reading.specs.Lists.{Each}
-use Rattle.dwz_graph.proofs.RowLemmas.{rows-length}
-use Rattle.dwz_move.specs.Known.{KnowsRefs, StandsAt, tops_of_refs}
+use Rattle.dwz_unit.proofs.RowsFound.{rows-length}
+use Rattle.dwz_move.specs.Known.{KnowsRefs, tops_of_refs}
+use Rattle.dwz_graph.specs.Standing.{StandsAt}
 use Rattle.dwz_move.proofs.FileSteps.{rows_meant}
 use Rattle.dwz_unit.specs.declared.rows.RawEntry.{RawEntry}
 use Rattle.dwz_unit.specs.Rows.{entry_shown, rows_of, shown_entries, units_of as raw_units}

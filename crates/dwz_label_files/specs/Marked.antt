@@ -18,7 +18,7 @@ use Rattle.dwz_label_files.specs.declared.stretch.Stretch.{Stretch}
 use Rattle.dwz_label_files.specs.Run.{IsInFile}
 use Rattle.dwz_label_marks.specs.Marks.{marks_of}
 use Rattle.dwz_label_marks.specs.Told.{Tells}
-use Rattle.dwz_label_names.specs.Known.{FileNames}
+use Rattle.dwz_label_words.specs.Known.{FileNames}
 use Rattle.dwz_unit.specs.Declarations.{AreOf}
 use Rattle.dwz_unit.specs.Rows.{rows_of, units_of as raw_units}
 

@@ -9,15 +9,14 @@ ghost use Rattle.dwz_label_files.specs.Marked.{AreNamesIn, HasPlace, IsPlace};
 ghost use Rattle.dwz_label_files.specs.Run.{IsRun, IsTopIn};
 ghost use Rattle.dwz_label_marks.specs.Marks.{marks_of};
 ghost use Rattle.dwz_label_marks.specs.Told.{Adds};
-ghost use Rattle.dwz_label_names.specs.Known.{StaysNamed};
+ghost use Rattle.dwz_label_words.specs.Known.{StaysNamed};
 
 use crate::run::{Run, file_at, index_at};
 use crate::spaces::put_spaces;
 use crate::unit::UnitRow;
 use dwz_graph::TopEntry;
 use dwz_label_entries::Source;
-use dwz_label_names::FileNames;
-use dwz_label_words::{Room, name_place, put_top_marks};
+use dwz_label_words::{FileNames, Room, name_place, put_top_marks};
 use dwz_model::NoMemory;
 use std::alloc::Global;
 

@@ -9,7 +9,7 @@ ghost use Rattle.dwz_label_files.specs.Marked.{AreInFile, AreNamesIn, HasPlace, 
 ghost use Rattle.dwz_label_files.specs.Run.{AreReady, IsInFile};
 ghost use Rattle.dwz_label_marks.specs.Marks.{marks_of};
 ghost use Rattle.dwz_label_marks.specs.Told.{Adds};
-ghost use Rattle.dwz_label_names.specs.Known.{StaysNamed};
+ghost use Rattle.dwz_label_words.specs.Known.{StaysNamed};
 
 use crate::marks::{MarkRoom, Place, place_of, put_marks_of};
 use crate::run::{Run, file_at};
@@ -17,7 +17,7 @@ use crate::search::{end_of, entry_of, file_of};
 use crate::unit::UnitRow;
 use dwz_label::Labels;
 use dwz_label_marks::Names;
-use dwz_label_names::FileNames;
+use dwz_label_words::FileNames;
 use dwz_model::NoMemory;
 
 /// Labels of tops, with the names by which they tell marks.

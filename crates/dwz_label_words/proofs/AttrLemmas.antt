@@ -14,7 +14,7 @@ use Rattle.dwz_graph.proofs.StepLemmas.{no_value, sibling}
 use Rattle.dwz_label_entries.specs.declared.source.Source.{Source}
 use Rattle.dwz_label_marks.specs.Marks.{Mark, value_marks}
 use Rattle.dwz_label_marks.specs.Told.{Adds, Keeps}
-use Rattle.dwz_label_names.specs.Known.{FileNames, StaysNamed}
+use Rattle.dwz_label_words.specs.Known.{FileNames, StaysNamed}
 use Rattle.dwz_label_words.specs.Told.{AreNamesOf, IsUsual, TellsAttrs, TellsFirst, TellsValue, attrs_marks}
 use Rattle.dwz_label_marks.proofs.AddsLemmas.{adds_both, adds_kept, adds_none}
 use Rattle.dwz_unit.specs.Declarations.{AreOf, Declarations}

@@ -9,3 +9,5 @@ pub mod TopLemmas
 pub mod UsualLemmas
 pub mod UsualTops
 pub mod ValueLemmas
+pub mod FoundLemmas
+pub mod NameLemmas

@@ -15,7 +15,7 @@ use Rattle.dwz_label.specs.Labels.{number}
 use Rattle.dwz_label_entries.specs.Words.{kept}
 use Rattle.dwz_label_marks.specs.Marks.{Named, Plainly, name_label, shape_label}
 use Rattle.dwz_label_marks.specs.Told.{Keeps}
-use Rattle.dwz_label_names.specs.Shapes.{pair_names, pairs_shape}
+use Rattle.dwz_label_words.specs.Shapes.{pair_names, pairs_shape}
 use Rattle.dwz_label_words.specs.Told.{TellsAttrs, TellsEntry, attrs_marks}
 use Rattle.dwz_label_marks.proofs.AddsLemmas.{adds_both, adds_kept, adds_named, adds_plainly}
 use Rattle.dwz_model.specs.declared.place.Pair.{Pair}

@@ -13,7 +13,7 @@ use Rattle.dwz_label_entries.specs.declared.source.Source.{Source}
 use Rattle.dwz_label_entries.specs.Sources.{raw_of}
 use Rattle.dwz_label_marks.specs.Marks.{Mark, node_marks, usual, value_marks}
 use Rattle.dwz_label_marks.specs.Told.{Adds}
-use Rattle.dwz_label_names.specs.Known.{FileNames}
+use Rattle.dwz_label_words.specs.Known.{FileNames}
 use Rattle.dwz_unit.specs.Declarations.{AreOf}
 use Rattle.dwz_unit.specs.Rows.{EntryRow, rows_of}
 

@@ -10,10 +10,11 @@ ghost use Rattle.dwz_graph.specs.Resolved.{stored};
 ghost use Rattle.dwz_graph.specs.Rows.{AreAttrsMeant, IsEntryMeant};
 ghost use Rattle.dwz_label_entries.specs.Plain.{KnowsLine};
 ghost use Rattle.dwz_label_entries.specs.Sources.{IsReady, KnowsUnit, raw_of, scope_at};
-ghost use Rattle.dwz_label_names.specs.Known.{StaysNamed};
+ghost use Rattle.dwz_label_words.specs.Known.{StaysNamed};
 ghost use Rattle.dwz_label_words.specs.Told.{AreNamesOf, IsUsual, TellsAttrs, TellsEntry, TellsFirst};
 ghost use Rattle.dwz_unit.specs.Rows.{EntryRow};
 
+use crate::FileNames;
 use crate::room::Room;
 use crate::values::put_value;
 use dwz_codes::DW_AT_SIBLING;
@@ -21,7 +22,6 @@ use dwz_forms::Raw;
 use dwz_graph::Here;
 use dwz_label_entries::Source;
 use dwz_label_marks::{put_named, put_plainly};
-use dwz_label_names::FileNames;
 use dwz_model::{NoMemory, Pair};
 use dwz_unit::{Values, known_value};
 

@@ -12,12 +12,12 @@ ghost use Rattle.dwz_graph.specs.Parts.{numbers_file};
 ghost use Rattle.dwz_label_entries.specs.Plain.{KnowsLine};
 ghost use Rattle.dwz_label_marks.specs.Marks.{plain_mark};
 ghost use Rattle.dwz_label_marks.specs.Told.{Adds};
-ghost use Rattle.dwz_label_names.specs.Known.{StaysNamed};
+ghost use Rattle.dwz_label_words.specs.Known.{StaysNamed};
 
+use crate::FileNames;
 use dwz_forms::Raw;
 use dwz_label_entries::number_of;
 use dwz_label_marks::{put_named, put_plainly};
-use dwz_label_names::FileNames;
 use dwz_model::NoMemory;
 use std::alloc::Global;
 

@@ -5,11 +5,11 @@ ghost use Rattle.dwz_def_reading.specs.Documents.{Flag, Num};
 ghost use Rattle.dwz_label.specs.Labels.{number};
 ghost use Rattle.dwz_label_marks.specs.Marks.{direct, plain_mark};
 ghost use Rattle.dwz_label_marks.specs.Told.{Adds};
-ghost use Rattle.dwz_label_names.specs.Known.{StaysNamed};
+ghost use Rattle.dwz_label_words.specs.Known.{StaysNamed};
 
+use crate::FileNames;
 use dwz_label::put_num;
 use dwz_label_marks::{put_named, put_plainly};
-use dwz_label_names::FileNames;
 use dwz_model::NoMemory;
 
 // Below this the mark of a number has 63 bits.

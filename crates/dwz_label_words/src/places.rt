@@ -4,7 +4,7 @@ ghost use Rattle.std.specs.Prelude.{◌≡◌, ℕ, ◌<◌, ◌++◌, List, Som
 ghost use Rattle.dwz_def_tops.specs.Spots.{SpaceName};
 ghost use Rattle.dwz_def_reading.specs.TextRows.{text_number};
 ghost use Rattle.dwz_label_entries.specs.Sources.{around_at, raw_of};
-ghost use Rattle.dwz_label_names.specs.Known.{StaysNamed};
+ghost use Rattle.dwz_label_words.specs.Known.{StaysNamed};
 ghost use Rattle.dwz_def_reading.specs.Units.{RawUnit, entries_in};
 ghost use Rattle.dwz_graph.specs.Chains.{AreSpacesAt};
 ghost use Rattle.dwz_label.specs.Labels.{counted, each_counted, place_label};
@@ -15,11 +15,11 @@ ghost use Rattle.dwz_def_reading.specs.Lists.{Each};
 ghost use Rattle.dwz_def_tops.specs.Spaces;
 ghost use Rattle.dwz_unit.specs.Rows.{EntryRow, rows_of, units_of};
 
+use crate::FileNames;
 use crate::room::Room;
 use dwz_graph::{Here, InputSections, space_text};
 use dwz_label::{put_counted, put_language, put_number};
 use dwz_label_entries::Source;
-use dwz_label_names::FileNames;
 use dwz_model::NoMemory;
 use dwz_unit::Units;
 

@@ -5,10 +5,10 @@ ghost use Rattle.dwz_def_reading.specs.Documents.{Text};
 ghost use Rattle.dwz_def_reading.specs.Texts.{text_at};
 ghost use Rattle.dwz_label_marks.specs.Marks.{plain_mark};
 ghost use Rattle.dwz_label_marks.specs.Told.{Adds};
-ghost use Rattle.dwz_label_names.specs.Known.{StaysNamed};
+ghost use Rattle.dwz_label_words.specs.Known.{StaysNamed};
 
+use crate::FileNames;
 use dwz_label_marks::put_named;
-use dwz_label_names::FileNames;
 use dwz_model::NoMemory;
 
 /// Appends the mark of the text at an offset of `.debug_str`, which is there; `strs` is that section.

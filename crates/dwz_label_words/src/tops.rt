@@ -13,16 +13,16 @@ ghost use Rattle.dwz_label.specs.Labels.{place_label};
 ghost use Rattle.dwz_label_entries.specs.Sources.{IsReady, KnowsUnit, raw_of, scope_at};
 ghost use Rattle.dwz_label_marks.specs.Marks.{marks_of};
 ghost use Rattle.dwz_label_marks.specs.Told.{Adds};
-ghost use Rattle.dwz_label_names.specs.Known.{StaysNamed};
+ghost use Rattle.dwz_label_words.specs.Known.{StaysNamed};
 ghost use Rattle.dwz_label_words.specs.Told.{AreNamesOf, AreUsual, rows_marks};
 ghost use Rattle.dwz_unit.specs.Rows.{EntryRow, rows_of};
 
+use crate::FileNames;
 use crate::entries::put_entry_marks;
 use crate::room::Room;
 use dwz_graph::Here;
 use dwz_label_entries::Source;
 use dwz_label_marks::put_named;
-use dwz_label_names::FileNames;
 use dwz_model::NoMemory;
 
 // Appends the marks of the entries of a unit from number `first` to before `end`, each by itself. Their references begin at `next`.

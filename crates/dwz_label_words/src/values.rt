@@ -17,9 +17,10 @@ ghost use Rattle.dwz_label_entries.specs.Sources.{IsReady, KnowsUnit, raw_of, sc
 ghost use Rattle.dwz_label_entries.specs.Targets.{KnowsNames};
 ghost use Rattle.dwz_label_marks.specs.Marks.{direct, plain_mark, target_marks, usual, Plainly};
 ghost use Rattle.dwz_label_marks.specs.Told.{Adds};
-ghost use Rattle.dwz_label_names.specs.Known.{StaysNamed};
+ghost use Rattle.dwz_label_words.specs.Known.{StaysNamed};
 ghost use Rattle.dwz_label_words.specs.Told.{AreNamesOf, TellsValue};
 
+use crate::FileNames;
 use crate::files::put_file_mark;
 use crate::numbers::{put_flag_mark, put_num_mark};
 use crate::room::Room;
@@ -30,7 +31,6 @@ use dwz_forms::Raw;
 use dwz_graph::{Here, offset_of};
 use dwz_label_entries::{Source, is_set, number_of, put_plain, width_of};
 use dwz_label_marks::{put_named, put_plainly};
-use dwz_label_names::FileNames;
 use dwz_model::{NoMemory, Pair};
 use std::alloc::Global;
 

@@ -8,9 +8,9 @@ use Rattle.dwz_run_course.specs.declared.output.TextPart.{TextPart}
 use Rattle.dwz_run_course.specs.Outcome as Run
 use Rattle.dwz_batch.specs.declared.job.Outcome.{Outcome}
 use Rattle.dwz_batch.specs.Jobs as Jobs
-use Rattle.dwz_def_run_over.specs.Reuses.{common_got}
-use Rattle.dwz_def_run_batch.specs.Batches.{AreOutcomes, Batch, Batches, FileGot, IsCommonRead, all_got, batch_of, bytes_together, got_from}
-use Rattle.dwz_def_run_batch.specs.Batches.{is_refused, part_of, puts_of}
+use Rattle.dwz_def_run.specs.Reuses.{common_got}
+use Rattle.dwz_def_run.specs.Batches.{AreOutcomes, Batch, Batches, FileGot, IsCommonRead, all_got, batch_of, bytes_together, got_from}
+use Rattle.dwz_def_run.specs.Batches.{is_refused, part_of, puts_of}
 use Rattle.dwz_law_batch.specs.Jobs.{IsOfJob, batch_of_jobs, gives_of, job_part, job_puts}
 use Rattle.dwz_law_batch.proofs.OneJob.{as_alone}
 

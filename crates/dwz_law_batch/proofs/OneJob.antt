@@ -10,8 +10,8 @@ use Rattle.dwz_run_course.specs.Outcome as Run
 use Rattle.dwz_batch.specs.declared.job.Outcome.{Outcome}
 use Rattle.dwz_batch.specs.declared.job.Outcome.TheVariants.{Nothing, Bytes, Refused}
 use Rattle.dwz_def_run.specs.Out.{put_of}
-use Rattle.dwz_def_run_batch.specs.Batches.{Alone, FileGot, is_refused, options_alone, part_of, puts_of}
-use Rattle.dwz_def_run_batch.proofs.OneFile.{output_alone}
+use Rattle.dwz_def_run.specs.Batches.{Alone, FileGot, is_refused, options_alone, part_of, puts_of}
+use Rattle.dwz_def_run.proofs.OneFile.{output_alone}
 use Rattle.dwz_law_batch.specs.Jobs.{IsOfJob, is_refused_job, job_part, job_puts}
 
 -- what comes of the file alone, of which the same is made

@@ -12,8 +12,8 @@ use Rattle.dwz_batch.specs.declared.job.Outcome.TheVariants.{Nothing, Bytes, Ref
 use Rattle.dwz_batch.specs.Jobs.{AreOutcomes, Gives}
 use Rattle.dwz_batch.specs.Texts.{outcome_text}
 use Rattle.dwz_def_run.specs.Out.{put_of}
-use Rattle.dwz_def_run_over.specs.Reuses.{common_got}
-use Rattle.dwz_def_run_batch.specs.Batches.{Alone, Batch, Batches, FileGot, IsCommonRead, all_got, bytes_together}
+use Rattle.dwz_def_run.specs.Reuses.{common_got}
+use Rattle.dwz_def_run.specs.Batches.{Alone, Batch, Batches, FileGot, IsCommonRead, all_got, bytes_together}
 
 -- ---- one job
 

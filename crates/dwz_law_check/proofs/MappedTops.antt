@@ -1,7 +1,7 @@
 -- Where other things stand for places, imports, tops and spaces are those of the same units.
 use Rattle.std.proofs.Common.{◌≡◌, ℕ, zero, suc, List, [], ◌∷◌, map, refl, sym, ap, subst, ◌∙◌, inl, inr}
-use Rattle.dwz_model.specs.Lists.{In}
-use Rattle.dwz_model.proofs.ListFacts.{in_map}
+use Rattle.dwz_def_reading.specs.Lists.{In}
+use Rattle.dwz_def_reading.proofs.ListFacts.{in_map}
 use Rattle.dwz_def_reading.specs.Documents.{Compile, DwUnit, Entries, Kind, Node, OfType, Partial, entries_map, kind_map, node_map, ref, unit_map}
 use Rattle.dwz_def_reading.specs.Trees.{End, Entry}
 use Rattle.dwz_def_reading.proofs.NamedAgain.{in_map as in_back}

@@ -1,7 +1,7 @@
 -- What numbers stand for: places of a file, and of a common one. They are told apart.
 use Rattle.std.proofs.Common.{◌≡◌, ℕ, ◌+◌, ◌-◌, ◌^◌, ◌<◌, Bool, true, false, cond, ltb, List, map, Some, None, Ok, refl, sym, ap, ◌∙◌, arith}
 use Rattle.std.proofs.lemmas.Bool.{ltb-true, ltb-false}
-use Rattle.dwz_model.specs.Lists.{Each, In}
+use Rattle.dwz_def_reading.specs.Lists.{Each, In}
 use Rattle.dwz_def_reading.specs.Documents.{Doc, DwUnit, unit_map}
 use Rattle.dwz_def_reading.specs.Faults.{map_ok}
 use Rattle.dwz_def_reading.specs.Files.{Limits, debug_abbrev, debug_info, file_meaning_by, longest_file, sources_of}

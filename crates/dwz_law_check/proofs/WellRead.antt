@@ -1,9 +1,9 @@
 -- Files are well read where they are with other places that are told apart.
 use Rattle.std.proofs.Common.{◌≡◌, List, [], ◌∷◌, ◌++◌, map, inl, inr, refl, sym, ap, subst, ◌∙◌}
 use Rattle.std.proofs.lemmas.List.{map-append}
-use Rattle.dwz_model.specs.Lists.{In, NoneTwice}
-use Rattle.dwz_model.proofs.ListFacts.{in_cases, in_map}
-use Rattle.dwz_model.proofs.Members.{in_map_from}
+use Rattle.dwz_def_reading.specs.Lists.{In, NoneTwice}
+use Rattle.dwz_def_reading.proofs.ListFacts.{in_cases, in_map}
+use Rattle.dwz_def_reading.proofs.Members.{in_map_from}
 use Rattle.dwz_def_reading.specs.Documents.{Compile, DwUnit, Kind, OfType, Partial, kind_map, unit_map}
 use Rattle.dwz_def_tops.specs.Seen.{Closed, IsPartial, Seen, all_seen, named_map, see, seen, seen_below, seen_map, seen_roots}
 use Rattle.dwz_def_tops.specs.Shown.{HaveMains, keys, unit_keys, units_keys}

@@ -1,7 +1,7 @@
 -- The entries of all that was written may stand as they do.
 use Rattle.std.proofs.Common.{◌≡◌, ℕ, suc, ◌<◌, ◌≤◌, ◌^◌, Bool, true, false, List, [], Option, Some, None, length, refl, sym, ap, subst, ◌∙◌, arith, inl, inr}
-use Rattle.dwz_model.specs.Lists.{Each, In, Nth}
-use Rattle.dwz_model.proofs.Members.{nth_in}
+use Rattle.dwz_def_reading.specs.Lists.{Each, In, Nth}
+use Rattle.dwz_def_reading.proofs.Members.{nth_in}
 use Rattle.dwz_def_reading.specs.Documents.{Doc, DwUnit}
 use Rattle.dwz_def_reading.specs.Entries.{given}
 use Rattle.dwz_def_reading.specs.Files.{around_of, debug_abbrev, debug_info, sources_of}
@@ -16,9 +16,9 @@ use Rattle.dwz_def_tops.specs.Seen.{Named, Seen, all_seen}
 use Rattle.dwz_def_tops.specs.Shown.{units_keys}
 use Rattle.dwz_def_tops.specs.Spots.{EntryName, FileUnit, Top, tops_of, units_of}
 use Rattle.dwz_def_tops.proofs.AlikeLaws.{alike_decides}
-use Rattle.dwz_def_plan.specs.Homes.{IsChoice, Rule}
-use Rattle.dwz_def_plan.specs.Plan.{PartialUnit}
-use Rattle.dwz_def_plan.proofs.GainLemmas.{gain_choice}
+use Rattle.dwz_def_images.specs.Homes.{IsChoice, Rule}
+use Rattle.dwz_def_images.specs.Plan.{PartialUnit}
+use Rattle.dwz_def_images.proofs.GainLemmas.{gain_choice}
 use Rattle.dwz_def_images.specs.After.{Replaces}
 use Rattle.dwz_def_images.specs.Units.{all_units, changes, common_units, kept_unit, out_units, partial_unit}
 use Rattle.dwz_def_images.proofs.FileLemmas.{replaced}

@@ -1,8 +1,8 @@
 -- A file that imports nothing from the common file means by itself what it meant.
 use Rattle.std.proofs.Common.{◌≡◌, ℕ, false, List, [], ◌∷◌, ◌++◌, map, refl, sym, ap, subst, ◌∙◌}
-use Rattle.dwz_model.specs.Lists.{Each, In, NoneTwice, Nth}
-use Rattle.dwz_model.proofs.Members.{each_in, in_map_from, nth_in}
-use Rattle.dwz_model.proofs.OnceLemmas.{none_left}
+use Rattle.dwz_def_reading.specs.Lists.{Each, In, NoneTwice, Nth}
+use Rattle.dwz_def_reading.proofs.Members.{each_in, in_map_from, nth_in}
+use Rattle.dwz_def_reading.proofs.OnceLemmas.{none_left}
 use Rattle.dwz_def_reading.specs.Documents.{Doc, DwUnit, unit_map}
 use Rattle.dwz_def_reading.specs.Places.{Place, at_file}
 use Rattle.dwz_def_tops.specs.Alike.{IsAlike, TopScope}
@@ -11,8 +11,9 @@ use Rattle.dwz_def_tops.specs.Shown.{OnePlace, UnitsShown, units_keys}
 use Rattle.dwz_def_tops.specs.Spots.{EntryName, units_of}
 use Rattle.dwz_def_tops.proofs.MainLemmas.{mains_map}
 use Rattle.dwz_def_tops.proofs.ShownLemmas.{closed_shown, map_shown, shown_then}
-use Rattle.dwz_def_plan.specs.Homes.{IsChoice, Rule}
-use Rattle.dwz_def_images.specs.After.{ArePlaced, name_of_place}
+use Rattle.dwz_def_images.specs.Homes.{IsChoice, Rule}
+use Rattle.dwz_def_images.specs.After.{ArePlaced}
+use Rattle.dwz_def_tops.specs.UnitNames.{name_of_place}
 use Rattle.dwz_def_images.specs.Units.{changes, common_units, out_units, units_of_file}
 use Rattle.dwz_def_readback.specs.Back.{AreAtOld, run_of}
 use Rattle.dwz_def_readback.specs.Files.{Made, Run, Stored, fitted, imports_common, places}

@@ -1,21 +1,21 @@
 -- What is read back of a file means what the file meant.
 use Rattle.std.proofs.Common.{◌≡◌, ◌⊎◌, ℕ, List, [], ◌∷◌, ◌++◌, map, refl, sym, ap, subst, ◌∙◌, inl, inr}
 use Rattle.std.proofs.lemmas.List.{map-append}
-use Rattle.dwz_def_reading.specs.Lists.{Each, In}
+use Rattle.dwz_def_reading.specs.Lists.{Each, In, NoneTwice, Nth}
 use Rattle.dwz_def_reading.specs.Trees.{End, Entry}
-use Rattle.dwz_model.proofs.ListFacts.{in_cases, in_left, in_right}
+use Rattle.dwz_def_reading.proofs.ListFacts.{in_cases, in_left, in_right}
 use Rattle.dwz_def_reading.specs.Documents.{Doc, DwUnit, Entries}
-use Rattle.dwz_model.specs.Lists.{NoneTwice, Nth}
 use Rattle.dwz_def_tops.specs.Seen.{Closed, Seen, all_seen, see, seen, seen_below, seen_roots}
 use Rattle.dwz_def_tops.specs.Shown.{OnePlace, keys, unit_keys, units_keys}
-use Rattle.dwz_model.proofs.Members.{in_map_from}
-use Rattle.dwz_model.proofs.OnceLemmas.{none_append, none_both, none_left, none_right}
+use Rattle.dwz_def_reading.proofs.Members.{in_map_from}
+use Rattle.dwz_def_reading.proofs.OnceLemmas.{none_append, none_both, none_left, none_right}
 use Rattle.dwz_def_tops.specs.Alike.{IsAlike, TopScope}
 use Rattle.dwz_def_tops.specs.Spots.{EntryName, units_of}
-use Rattle.dwz_def_plan.specs.Homes.{IsChoice, Rule}
-use Rattle.dwz_def_images.specs.After.{ArePlaced, Place}
+use Rattle.dwz_def_images.specs.Homes.{IsChoice, Rule}
+use Rattle.dwz_def_images.specs.After.{ArePlaced}
+use Rattle.dwz_def_reading.specs.Places.{Place}
 use Rattle.dwz_def_images.specs.Units.{all_units, common_units, file_units, out_units}
-use Rattle.dwz_def_images.proofs.ApartOwn.{keys_joined}
+use Rattle.dwz_def_tops.proofs.UnitKeys.{keys_joined}
 use Rattle.dwz_def_images.proofs.FileLemmas.{files_same}
 use Rattle.dwz_def_encoding.specs.Meant.{all_entry_keys, placed_entries, placed_unit, placed_units}
 use Rattle.dwz_def_encoding.specs.Writing.{Numbering}

@@ -1,7 +1,7 @@
 -- What was read of a file, and what is read back of it, mean the same.
 use Rattle.std.proofs.Common.{◌≡◌, ◌≢◌, ℕ, suc, Bool, true, false, List, [], ◌∷◌, ◌==◌, map, Option, Some, None, refl, sym, ap, subst, ◌∙◌, arith, eq-eqb}
 use Rattle.std.proofs.lemmas.Bool.{ne_eqb}
-use Rattle.dwz_model.specs.Lists.{Each, In, Nth}
+use Rattle.dwz_def_reading.specs.Lists.{Each, In, Nth}
 use Rattle.dwz_def_reading.specs.Documents.{Doc, DwUnit, Partial, kind_map, unit_map}
 use Rattle.dwz_def_reading.specs.Finished.{given_by}
 use Rattle.dwz_def_reading.specs.Meanings.{Common}
@@ -11,9 +11,9 @@ use Rattle.dwz_def_reading.specs.Units.{RawUnit}
 use Rattle.dwz_def_tops.specs.Alike.{IsAlike, TopScope}
 use Rattle.dwz_def_tops.specs.Shown.{units_keys}
 use Rattle.dwz_def_tops.specs.Spots.{EntryName, units_of}
-use Rattle.dwz_def_plan.specs.Homes.{Common as InCommonFile, Home, IsChoice, Rule, same_home}
-use Rattle.dwz_def_plan.specs.Moves.{Move}
-use Rattle.dwz_def_plan.specs.Plan.{PartialUnit}
+use Rattle.dwz_def_images.specs.Homes.{Common as InCommonFile, Home, IsChoice, Rule, same_home}
+use Rattle.dwz_def_images.specs.Moves.{Move}
+use Rattle.dwz_def_images.specs.Plan.{PartialUnit}
 use Rattle.dwz_def_images.specs.After.{ArePlaced}
 use Rattle.dwz_def_images.specs.Units.{changes, common_units, partial_unit, partial_units}
 use Rattle.dwz_def_encoding.specs.Meant.{placed_unit, placed_units}

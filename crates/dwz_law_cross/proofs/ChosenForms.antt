@@ -2,15 +2,15 @@
 use Rattle.std.proofs.Common.{◌≡◌, ◌≢◌, ◌⊎◌, ℕ, Bool, true, false, List, [], ◌∷◌, ◌==◌, cond, map, refl, sym, ap, subst, ◌∙◌, arith, inl, inr}
 use Rattle.std.specs.List.{list_all}
 use Rattle.std.proofs.lemmas.Bool.{and_parts, eqb-true}
-use Rattle.dwz_codes.specs.Rows.{has}
-use Rattle.dwz_model.specs.Lists.{Each, In}
+use Rattle.dwz_def_reading.specs.Rows.{has}
+use Rattle.dwz_def_reading.specs.Lists.{Each, In}
 use Rattle.dwz_def_reading.specs.Classes.{Class, ClassRow, OfAddress, OfBlock, OfCommonEntry, OfCommonText, OfConstant, OfExpression, OfFlag, OfIndex, OfInfoEntry, OfListIndex, OfOffset}
 use Rattle.dwz_def_reading.specs.Classes.{OfSignature, OfText, OfTextBySlot, OfTextInLineStr, OfTextInStr, OfUnitEntry, Unread, class_in, class_of, class_rows, names_file}
 use Rattle.dwz_def_reading.specs.Documents.{Attr, Entries}
 use Rattle.dwz_def_reading.specs.Entries.{codes_of_all}
 use Rattle.dwz_def_reading.specs.Modes.{binding_forms}
 use Rattle.dwz_def_reading.specs.Trees.{End, Entry}
-use Rattle.dwz_bytes.specs.Spelling.{reach}
+use Rattle.dwz_def_reading.specs.Spelling.{reach}
 use Rattle.dwz_def_encoding.specs.Carried.{IsBuilt, IsBuiltAs}
 use Rattle.dwz_def_encoding.specs.Fitting.{EachAttr}
 use Rattle.dwz_def_encoding.specs.Placing.{Chosen, CommonUnit, InCommon, InFile, InUnit, NewUnit, OldUnit, Reach, UnitForms, UnitRole, as_constant, as_file, as_line_text, as_read, as_slot}

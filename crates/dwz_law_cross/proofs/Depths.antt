@@ -2,28 +2,27 @@
 use Rattle.std.proofs.Common.{◌≡◌, ℕ, ℤ, suc, ◌+◌, ◌-◌, ◌≤◌, Bool, true, false, List, [], ◌∷◌, ◌++◌, length, map, Option, refl, sym, ap, subst, ◌∙◌, arith, inl, inr, length-append}
 use Rattle.std.specs.Prelude.{max}
 use Rattle.std.proofs.lemmas.List.{length-map}
-use Rattle.dwz_model.specs.Lists.{Each, In, Nth}
-use Rattle.dwz_model.proofs.ListFacts.{in_cases}
-use Rattle.dwz_model.proofs.Members.{each_in, nth_in}
+use Rattle.dwz_def_reading.specs.Lists.{Each, In, Nth}
+use Rattle.dwz_def_reading.proofs.ListFacts.{in_cases}
+use Rattle.dwz_def_reading.proofs.Members.{each_in, nth_in}
 use Rattle.dwz_def_reading.specs.Documents.{Compile, Doc, DwUnit, Entries, Kind, Node, OfType, Partial, entries_map, language, unit_map}
-use Rattle.dwz_def_reading.specs.Entries.{RawEntry, SpellsFront, UnitContext, root_position}
+use Rattle.dwz_def_reading.specs.Entries.{RawEntry, SpellsFront, UnitContext, root_position, Mode}
 use Rattle.dwz_def_reading.specs.Meanings.{Around, MeanEntries, MeaningContext, MeanUnits, scope_of}
 use Rattle.dwz_def_reading.specs.Trees.{End, Entry, Forest, IfChildren, Position, SpellsForest, behind, first_below}
-use Rattle.dwz_def_reading.specs.Entries.{Mode}
 use Rattle.dwz_def_reading.specs.Units.{RawUnit, SpellsUnit, SpellsUnits, entry_count}
 use Rattle.dwz_def_tops.specs.Spaces.{IsUnder, tops_under}
 use Rattle.dwz_def_tops.specs.Spots.{ASpace, ATop, EntryName, FileUnit, Nothing, Row, SpaceName, Top, in_file, name_list, name_of, named, named_files, row_tops, rows_of_root, spot_in}
 use Rattle.dwz_def_tops.specs.Spots.{spots_from, tops_of}
 use Rattle.dwz_def_tops.proofs.RowLemmas.{RowIs, unit_row}
 use Rattle.dwz_def_tops.proofs.Tops.{unit_of}
-use Rattle.dwz_def_plan.specs.IsPlan.{Has, IsPart, OfSpace, OfTop, row}
-use Rattle.dwz_def_plan.specs.Moves.{Move, image_in, plan}
-use Rattle.dwz_def_plan.specs.Homes.{Rule}
-use Rattle.dwz_def_plan.specs.Plan.{PartialUnit, import_of, imports, kept_row, partials}
-use Rattle.dwz_def_plan.proofs.KeptLemmas.{are_imports}
-use Rattle.dwz_def_plan.proofs.PartRows.{part_is}
-use Rattle.dwz_def_plan.proofs.PlanLemmas.{are_parts}
-use Rattle.dwz_def_plan.proofs.RowParts.{kept_is}
+use Rattle.dwz_def_images.specs.IsPlan.{Has, IsPart, OfSpace, OfTop, row}
+use Rattle.dwz_def_images.specs.Moves.{Move, image_in, plan}
+use Rattle.dwz_def_images.specs.Homes.{Rule}
+use Rattle.dwz_def_images.specs.Plan.{PartialUnit, import_of, imports, kept_row, partials}
+use Rattle.dwz_def_images.proofs.KeptLemmas.{are_imports}
+use Rattle.dwz_def_images.proofs.PartRows.{part_is}
+use Rattle.dwz_def_images.proofs.PlanLemmas.{are_parts}
+use Rattle.dwz_def_images.proofs.RowParts.{kept_is}
 use Rattle.dwz_def_images.specs.Held.{IsHeld, Kinded}
 use Rattle.dwz_def_images.specs.Units.{changes, kept_below, kept_unit, partial_unit, tree}
 use Rattle.dwz_def_images.proofs.HeldLemmas.{row_found}

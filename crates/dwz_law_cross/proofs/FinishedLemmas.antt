@@ -1,6 +1,6 @@
 -- A file before a run and after it are read, and mean the same.
 use Rattle.std.proofs.Common.{◌≡◌, ℕ, ◌+◌, Bool, true, false, List, [], ◌∷◌, Option, Some, None, refl, sym, ap, subst, ◌∙◌, arith}
-use Rattle.dwz_model.specs.Lists.{Each, In, Nth}
+use Rattle.dwz_def_reading.specs.Lists.{Each, In, Nth}
 use Rattle.dwz_def_reading.specs.Documents.{Compile, Doc, DwUnit, OfType, Partial}
 use Rattle.dwz_def_reading.specs.Files.{Limits, ReadsBy, debug_abbrev, debug_info, limits_after, machine_of, no_files_before}
 use Rattle.dwz_def_reading.specs.Finished.{FinishedDocs, GivenCommon, ReadFinished, around_in, given_by, has_sup, rule_of_back, rule_of_common}
@@ -15,8 +15,8 @@ use Rattle.dwz_def_tops.specs.Alike.{IsAlike, TopScope}
 use Rattle.dwz_def_tops.specs.Deciding.{alike_test}
 use Rattle.dwz_def_tops.specs.Spots.{EntryName, units_of}
 use Rattle.dwz_def_tops.proofs.AlikeLaws.{alike_decides}
-use Rattle.dwz_def_plan.specs.Homes.{IsChoice}
-use Rattle.dwz_def_plan.proofs.GainLemmas.{gain_choice}
+use Rattle.dwz_def_images.specs.Homes.{IsChoice}
+use Rattle.dwz_def_images.proofs.GainLemmas.{gain_choice}
 use Rattle.dwz_def_images.specs.After.{ArePlaced}
 use Rattle.dwz_def_images.specs.Units.{changes}
 use Rattle.dwz_def_images.proofs.FileLemmas.{replaced}

@@ -1,8 +1,8 @@
 -- What moves has no form that binds: neither tops of partial units, nor their spaces.
 use Rattle.std.proofs.Common.{◌≡◌, ◌||◌, ℕ, Bool, true, false, List, Some, None, refl, sym, ap, subst, ◌∙◌, inl, inr}
 use Rattle.std.specs.List.{list_any}
-use Rattle.dwz_codes.specs.Rows.{has}
-use Rattle.dwz_model.specs.Lists.{In, Nth}
+use Rattle.dwz_def_reading.specs.Rows.{has}
+use Rattle.dwz_def_reading.specs.Lists.{In, Nth}
 use Rattle.dwz_def_reading.specs.Classes.{Class, OfAddress, OfBlock, OfCommonEntry, OfCommonText, OfConstant, OfExpression, OfFlag, OfIndex, OfInfoEntry, OfListIndex, OfOffset, OfSignature}
 use Rattle.dwz_def_reading.specs.Classes.{OfText, OfTextBySlot, OfTextInLineStr, OfTextInStr, OfUnitEntry, Unread, class_of, names_list}
 use Rattle.dwz_def_reading.specs.Documents.{Attr, Node, Sec, Text, Value, only}
@@ -14,13 +14,13 @@ use Rattle.dwz_def_tops.specs.Alike.{IsAlike, TopScope, holds_place, leaves}
 use Rattle.dwz_def_tops.specs.Spaces.{text_of_plain}
 use Rattle.dwz_def_tops.specs.Spots.{EntryName, FileUnit, SpaceName, Top, tops_of}
 use Rattle.dwz_def_tops.proofs.Targets.{free_attr}
-use Rattle.dwz_def_plan.specs.Homes.{IsChoice, Rule, is_home, moves}
-use Rattle.dwz_def_plan.specs.IsPlan.{Has, OfSpace, OfTop}
-use Rattle.dwz_def_plan.specs.Moves.{Move, plan}
-use Rattle.dwz_def_plan.specs.Plan.{PartialUnit}
-use Rattle.dwz_def_plan.proofs.PartRows.{part_is as part_row_is}
-use Rattle.dwz_def_plan.proofs.StandLemmas.{fair}
-use Rattle.dwz_def_plan.proofs.UserLemmas.{moves_self}
+use Rattle.dwz_def_images.specs.Homes.{IsChoice, Rule, is_home, moves}
+use Rattle.dwz_def_images.specs.IsPlan.{Has, OfSpace, OfTop}
+use Rattle.dwz_def_images.specs.Moves.{Move, plan}
+use Rattle.dwz_def_images.specs.Plan.{PartialUnit}
+use Rattle.dwz_def_images.proofs.PartRows.{part_is as part_row_is}
+use Rattle.dwz_def_images.proofs.StandLemmas.{fair}
+use Rattle.dwz_def_images.proofs.UserLemmas.{moves_self}
 use Rattle.dwz_def_images.specs.Held.{IsHeld}
 use Rattle.dwz_def_images.specs.Units.{partial_unit}
 use Rattle.dwz_def_images.proofs.HeldLemmas.{row_found}

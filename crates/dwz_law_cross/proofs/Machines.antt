@@ -2,7 +2,7 @@
 use Rattle.std.proofs.Common.{◌≡◌, ℕ, zero, suc, ◌+◌, ◌<◌, ◌≤◌, ◌^◌, List, [], ◌∷◌, Option, Some, length, take, drop, get_or, refl, ap, subst, arith, inl, inr, lit<, Bool, true}
 use Rattle.std.proofs.Math.Nat.{pow-le-pow_right}
 use Rattle.std.proofs.lemmas.List.{length-take}
-use Rattle.dwz_model.specs.Lists.{Each, In, Nth}
+use Rattle.dwz_def_reading.specs.Lists.{Each, In, Nth}
 use Rattle.dwz_def_reading.specs.Documents.{Doc}
 use Rattle.dwz_def_reading.specs.declared.elf.FileHeader.{FileHeader}
 use Rattle.dwz_def_reading.specs.ElfHeaders.{file_header, number_at}

@@ -1,23 +1,24 @@
 -- The old file and what is read back of it mean the same, each with a number of its own.
 use Rattle.std.proofs.Common.{◌≡◌, ◌≢◌, ◌⊎◌, ℕ, Bool, true, false, List, [], ◌∷◌, ◌++◌, ◌==◌, map, refl, sym, ap, subst, ◌∙◌, inl, inr, arith, eq-eqb}
 use Rattle.std.proofs.lemmas.Bool.{ne_eqb}
-use Rattle.dwz_def_reading.specs.Lists.{Each, In}
+use Rattle.dwz_def_reading.specs.Lists.{Each, In, NoneTwice, Nth}
 use Rattle.dwz_def_reading.specs.Trees.{End, Entry}
-use Rattle.dwz_model.proofs.ListFacts.{in_cases}
+use Rattle.dwz_def_reading.proofs.ListFacts.{in_cases}
 use Rattle.dwz_def_reading.specs.Documents.{Compile, Doc, DwUnit, Entries, Kind, Node, OfType, Partial, entries_map, kind_map, node_map, unit_map}
-use Rattle.dwz_model.specs.Lists.{NoneTwice, Nth}
 use Rattle.dwz_def_tops.specs.Seen.{IsPartial, IsShown, Seen, all_seen, named_map, named_value, seen_map}
 use Rattle.dwz_def_tops.specs.Shown.{AreShown, OnePlace, UnitsShown, units_keys}
 use Rattle.dwz_def_tops.proofs.MainLemmas.{mains_map}
-use Rattle.dwz_model.proofs.Members.{each_in, in_map_from, nth_in}
+use Rattle.dwz_def_reading.proofs.Members.{each_in, in_map_from, nth_in}
 use Rattle.dwz_def_tops.proofs.ShownLemmas.{all_shown, closed_shown, map_shown, names_then, root_key}
 use Rattle.dwz_def_tops.proofs.SpaceLemmas.{node_shown}
 use Rattle.dwz_def_tops.specs.Alike.{IsAlike, TopScope}
 use Rattle.dwz_def_tops.specs.Spots.{EntryName, same_spot, units_of}
-use Rattle.dwz_def_plan.specs.Homes.{IsChoice, Rule}
-use Rattle.dwz_def_images.specs.After.{ArePlaced, Place, at_file, name_of_place}
+use Rattle.dwz_def_images.specs.Homes.{IsChoice, Rule}
+use Rattle.dwz_def_images.specs.After.{ArePlaced}
+use Rattle.dwz_def_tops.specs.UnitNames.{name_of_place}
+use Rattle.dwz_def_reading.specs.Places.{Place, at_file}
 use Rattle.dwz_def_images.specs.Units.{all_units, common_units, out_units, units_of_file}
-use Rattle.dwz_def_images.proofs.ApartOwn.{keys_joined}
+use Rattle.dwz_def_tops.proofs.UnitKeys.{keys_joined}
 use Rattle.dwz_def_encoding.specs.Meant.{placed_unit, placed_units}
 use Rattle.dwz_def_encoding.proofs.Chosen.{fit_units_fixed}
 use Rattle.dwz_def_encoding.proofs.Places.{numbering_stands}

@@ -1,16 +1,17 @@
 -- By names: a file before, and what stands after in its place.
 use Rattle.std.proofs.Common.{◌≡◌, ℕ, suc, Bool, true, false, List, [], ◌∷◌, ◌++◌, ◌==◌, cond, map, refl, sym, ap, subst, ◌∙◌, inl, inr, eqb-true}
 use Rattle.std.specs.List.{filter}
-use Rattle.dwz_model.specs.Lists.{Each, In, Nth}
+use Rattle.dwz_def_reading.specs.Lists.{Each, In, Nth}
 use Rattle.dwz_def_reading.specs.Documents.{Compile, Doc, DwUnit, Kind, OfType, Partial, kind_map}
 use Rattle.dwz_def_tops.specs.Seen.{EntriesSame, TypesSame, UnitSame, see, seen_inside, seen_map, seen_roots}
 use Rattle.dwz_def_tops.specs.Alike.{IsAlike, TopScope}
 use Rattle.dwz_def_tops.specs.Spots.{EntryName, FileUnit, file_numbers, rows_of_root, units_of}
 use Rattle.dwz_def_tops.proofs.SeenLemmas.{inner_from}
-use Rattle.dwz_def_plan.specs.Homes.{Home, IsChoice, Local, Rule, same_home}
-use Rattle.dwz_def_plan.specs.Moves.{Move, image_in}
-use Rattle.dwz_def_plan.specs.Plan.{PartialUnit}
-use Rattle.dwz_def_images.specs.After.{AreAfterOf, AreOld, ArePlaced, IsNamedBelow, IsOfFile}
+use Rattle.dwz_def_images.specs.Homes.{Home, IsChoice, Local, Rule, same_home}
+use Rattle.dwz_def_images.specs.Moves.{Move, image_in}
+use Rattle.dwz_def_images.specs.Plan.{PartialUnit}
+use Rattle.dwz_def_images.specs.After.{AreAfterOf, AreOld, ArePlaced, IsOfFile}
+use Rattle.dwz_def_tops.specs.UnitNames.{IsNamedBelow}
 use Rattle.dwz_def_images.specs.Held.{Serves}
 use Rattle.dwz_def_images.specs.Units.{kept_unit, kept_units, out_units, partial_unit, partial_units, units_of_file}
 use Rattle.dwz_def_images.proofs.EntryLemmas.{unit_seen}

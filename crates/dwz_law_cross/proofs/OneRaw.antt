@@ -1,7 +1,7 @@
 -- What is written is stored in one way.
 use Rattle.std.proofs.Common.{◌≡◌, ℕ, ◌+◌, ◌<◌, ◌≤◌, Bool, true, false, List, [], ◌∷◌, ◌==◌, length, refl, sym, ap, subst, ◌∙◌, arith}
-use Rattle.dwz_codes.specs.Rows.{RowView, shape_of}
-use Rattle.dwz_model.specs.Lists.{Each}
+use Rattle.dwz_def_reading.specs.Rows.{RowView, shape_of}
+use Rattle.dwz_def_reading.specs.Lists.{Each}
 use Rattle.dwz_def_reading.specs.Entries.{Mode, RawAttr, RawEntry, SpellsEntry, SpellsFront, UnitContext, root_position}
 use Rattle.dwz_def_reading.specs.Files.{debug_abbrev, debug_info}
 use Rattle.dwz_def_reading.specs.Trees.{EachEntry, End, Entry, Forest, IfChildren, Position, SpellsForest, behind, first_below}

@@ -2,21 +2,21 @@
 use Rattle.std.proofs.Common.{refl, ◌≡◌, ℕ, ◌&&◌, ◌==◌, Bool, true, false, List, ◌++◌, sym, ap, subst, ◌∙◌, arith, inl, inr, eq-eqb, eqb-true}
 use Rattle.std.specs.List.{list_any}
 use Rattle.std.proofs.lemmas.Bool.{and_parts}
-use Rattle.dwz_model.specs.Lists.{Each, In, Nth}
-use Rattle.dwz_model.proofs.ListFacts.{in_cases, in_left, in_right}
-use Rattle.dwz_model.proofs.Members.{any_false, any_from, any_true, in_nth, nth_in, nth_one}
+use Rattle.dwz_def_reading.specs.Lists.{Each, In, Nth}
+use Rattle.dwz_def_reading.proofs.ListFacts.{in_cases, in_left, in_right}
+use Rattle.dwz_def_reading.proofs.Members.{any_false, any_from, any_true, in_nth, nth_in, nth_one}
 use Rattle.dwz_def_reading.specs.Documents.{Doc, DwUnit}
 use Rattle.dwz_def_tops.specs.Alike.{IsAlike, TopScope}
 use Rattle.dwz_def_tops.specs.Seen.{Closed}
 use Rattle.dwz_def_tops.specs.Spots.{EntryName, FileUnit, PartialOf, Top, Within, file_numbers, name_list, tops_of, units_of}
-use Rattle.dwz_def_plan.specs.Homes.{Common, Home, IsChoice, Local, Rule, file_of, is_home, moves, same_home}
-use Rattle.dwz_def_plan.specs.IsPlan.{Has, OfTop}
-use Rattle.dwz_def_plan.specs.Moves.{Move, image_in, plan}
-use Rattle.dwz_def_plan.specs.Plan.{PartialUnit, stand_in}
-use Rattle.dwz_def_plan.proofs.HomeLemmas.{file_at, file_of_top}
-use Rattle.dwz_def_plan.proofs.PartRows.{part_is as part_row_is}
-use Rattle.dwz_def_plan.proofs.UserLemmas.{move_stand, stay_fixed}
-use Rattle.dwz_def_plan.proofs.PlanLemmas.{home_own}
+use Rattle.dwz_def_images.specs.Homes.{Common, Home, IsChoice, Local, Rule, file_of, is_home, moves, same_home}
+use Rattle.dwz_def_images.specs.IsPlan.{Has, OfTop}
+use Rattle.dwz_def_images.specs.Moves.{Move, image_in, plan}
+use Rattle.dwz_def_images.specs.Plan.{PartialUnit, stand_in}
+use Rattle.dwz_def_images.proofs.HomeLemmas.{file_at, file_of_top}
+use Rattle.dwz_def_images.proofs.PartRows.{part_is as part_row_is}
+use Rattle.dwz_def_images.proofs.UserLemmas.{move_stand, stay_fixed}
+use Rattle.dwz_def_images.proofs.PlanLemmas.{home_own}
 use Rattle.dwz_def_images.specs.After.{AreAfterOf, AreOld, ArePlaced, IsOfFile}
 use Rattle.dwz_def_images.specs.Held.{IsHeld}
 use Rattle.dwz_def_images.specs.Units.{changes, common_units, kept_unit, kept_units, out_units, partial_unit, partial_units}

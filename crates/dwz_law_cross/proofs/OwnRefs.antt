@@ -14,14 +14,15 @@ use Rattle.dwz_def_tops.specs.Alike.{IsAlike, TopScope}
 use Rattle.dwz_def_tops.specs.Spots.{FileUnit, PartialRoot, EntryName, Top, name_list, rows_of_root, row_tops, tops_of}
 use Rattle.dwz_def_tops.proofs.RowLemmas.{unit_row}
 use Rattle.dwz_def_tops.proofs.Tops.{row_top, unit_of}
-use Rattle.dwz_def_plan.specs.Homes.{IsChoice, Local, Rule}
-use Rattle.dwz_def_plan.specs.IsPlan.{Has, OfSpace, OfTop}
-use Rattle.dwz_def_plan.specs.Moves.{Move, image_in, plan, seen_top}
-use Rattle.dwz_def_plan.specs.Plan.{PartialUnit, import_of, imports, kept_row}
-use Rattle.dwz_def_plan.proofs.KeptLemmas.{are_imports}
-use Rattle.dwz_def_plan.proofs.RowParts.{kept_is}
-use Rattle.dwz_def_plan.proofs.PartRows.{part_is}
-use Rattle.dwz_def_images.specs.After.{AreOld, IsNamedBelow}
+use Rattle.dwz_def_images.specs.Homes.{IsChoice, Local, Rule}
+use Rattle.dwz_def_images.specs.IsPlan.{Has, OfSpace, OfTop}
+use Rattle.dwz_def_images.specs.Moves.{Move, image_in, plan, seen_top}
+use Rattle.dwz_def_images.specs.Plan.{PartialUnit, import_of, imports, kept_row}
+use Rattle.dwz_def_images.proofs.KeptLemmas.{are_imports}
+use Rattle.dwz_def_images.proofs.RowParts.{kept_is}
+use Rattle.dwz_def_images.proofs.PartRows.{part_is}
+use Rattle.dwz_def_images.specs.After.{AreOld, AreAfterOf, IsOfFile}
+use Rattle.dwz_def_tops.specs.UnitNames.{IsNamedBelow}
 use Rattle.dwz_def_images.specs.Held.{IsHeld, NameNone}
 use Rattle.dwz_def_images.specs.Units.{changes, kept_unit, kept_units, out_units, partial_unit, partial_units, tree, units_of_file}
 use Rattle.dwz_def_images.proofs.ClosedLemmas.{none_seen, row_seen}
@@ -34,7 +35,6 @@ use Rattle.std.specs.List.{filter}
 use Rattle.dwz_def_readback.proofs.HomeLemmas.{kept_from, parts_from, top_file}
 use Rattle.dwz_def_readback.proofs.KeptLemmas.{mapped_kept, space_kept, top_kept}
 use Rattle.dwz_def_readback.proofs.WithinLemmas.{none_mapped}
-use Rattle.dwz_def_images.specs.After.{AreAfterOf, IsOfFile}
 
 -- an entry in spaces is seen
 under_seen : (names : List (List ℕ)) (e : Node EntryName) (g : Entries EntryName) → IsUnder names e g → (d : Seen EntryName) × In d (seen g) × (d.attrs ≡ map named_value e.attrs)

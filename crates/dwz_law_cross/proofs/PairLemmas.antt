@@ -2,20 +2,21 @@
 use Rattle.std.proofs.Common.{◌≡◌, ℕ, suc, ◌+◌, Bool, true, false, List, [], ◌∷◌, ◌++◌, ◌==◌, length, map, refl, sym, ap, subst, ◌∙◌, arith, inl, inr, eq-eqb}
 use Rattle.std.proofs.lemmas.Bool.{ne_eqb}
 use Rattle.dwz_def_reading.specs.Documents.{Compile, Doc, DwUnit, Kind, OfType, Partial, kind_map, unit_map}
-use Rattle.dwz_def_reading.specs.Lists.{Each, In}
-use Rattle.dwz_model.proofs.ListFacts.{in_left}
-use Rattle.dwz_model.specs.Lists.{NoneTwice, Nth}
+use Rattle.dwz_def_reading.specs.Lists.{Each, In, NoneTwice, Nth}
+use Rattle.dwz_def_reading.proofs.ListFacts.{in_left}
 use Rattle.dwz_def_tops.specs.Seen.{Closed, IsPartial, Seen, UnitSame, all_seen}
 use Rattle.dwz_def_tops.specs.Shown.{HaveMains, IsShownUnit, OnePlace, UnitsShown, unit_keys, units_keys}
-use Rattle.dwz_model.proofs.Members.{each_in, nth_from, nth_in}
-use Rattle.dwz_model.proofs.OnceLemmas.{none_both, none_right}
+use Rattle.dwz_def_reading.proofs.Members.{each_in, nth_from, nth_in}
+use Rattle.dwz_def_reading.proofs.OnceLemmas.{none_both, none_right}
 use Rattle.dwz_def_tops.proofs.ShownLemmas.{entries_placed, map_shown, root_key, types_placed}
 use Rattle.dwz_def_tops.proofs.ShownUnits.{entries_named, types_named, units_named, units_placed}
 use Rattle.dwz_def_tops.specs.Alike.{IsAlike, TopScope}
 use Rattle.dwz_def_tops.specs.Spots.{EntryName, file_numbers, in_file, named_files, named_in, spot_in, spots_from, tops_among, units_of}
-use Rattle.dwz_def_plan.specs.Homes.{IsChoice, Rule}
-use Rattle.dwz_def_plan.specs.Moves.{Move, image_in}
-use Rattle.dwz_def_images.specs.After.{AreAfterOf, ArePlaced, IsOfFile, Place, at_file, name_from, name_of_place}
+use Rattle.dwz_def_images.specs.Homes.{IsChoice, Rule}
+use Rattle.dwz_def_images.specs.Moves.{Move, image_in}
+use Rattle.dwz_def_images.specs.After.{AreAfterOf, ArePlaced, IsOfFile}
+use Rattle.dwz_def_tops.specs.UnitNames.{name_from, name_of_place}
+use Rattle.dwz_def_reading.specs.Places.{Place, at_file}
 use Rattle.dwz_def_images.specs.Units.{common_units, out_units, units_of_file}
 use Rattle.dwz_def_images.proofs.BackLemmas.{append_none, at_none}
 use Rattle.dwz_def_images.proofs.FileOuts.{file_outs}

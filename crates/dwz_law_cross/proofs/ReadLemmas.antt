@@ -3,10 +3,10 @@ use Rattle.std.proofs.Common.{◌≡◌, ◌≢◌, ℕ, ℤ, ◌+◌, ◌<◌, 
 use Rattle.std.specs.Prelude.{◌&&◌, ◌||◌}
 use Rattle.std.specs.Option.{is_some}
 use Rattle.std.proofs.lemmas.Bool.{eqb-true}
-use Rattle.dwz_codes.specs.Forms.{form_rows}
-use Rattle.dwz_codes.specs.Rows.{shape_of}
-use Rattle.dwz_model.specs.Lists.{Each}
-use Rattle.dwz_model.specs.declared.place.Pair.{Pair}
+use Rattle.dwz_def_reading.specs.Forms.{form_rows}
+use Rattle.dwz_def_reading.specs.Rows.{shape_of}
+use Rattle.dwz_def_reading.specs.Lists.{Each}
+use Rattle.dwz_def_reading.specs.Pair.{Pair}
 use Rattle.dwz_def_reading.specs.ElfFaults.{by_itself}
 use Rattle.dwz_def_reading.specs.ElfHeaders.{headers_in}
 use Rattle.dwz_def_reading.specs.ElfNames.{name_table, sections_in}

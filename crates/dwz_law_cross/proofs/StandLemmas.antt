@@ -3,9 +3,9 @@ use Rattle.std.proofs.Common.{◌≡◌, ◌≢◌, ℕ, ◌+◌, ◌<◌, ◌�
 use Rattle.std.specs.Prelude.{not}
 use Rattle.std.specs.List.{filter}
 use Rattle.std.proofs.lemmas.Bool.{eqb-true}
-use Rattle.dwz_codes.specs.Forms.{form_rows}
-use Rattle.dwz_codes.specs.Rows.{RowView, has, row_of, shape_in, shape_of}
-use Rattle.dwz_model.specs.Lists.{Each}
+use Rattle.dwz_def_reading.specs.Forms.{form_rows}
+use Rattle.dwz_def_reading.specs.Rows.{RowView, has, row_of, shape_in, shape_of}
+use Rattle.dwz_def_reading.specs.Lists.{Each}
 use Rattle.dwz_def_reading.specs.Entries.{Mode, RawAttr, RawEntry, codes_of_common, forms_of_common, of_common, root_position}
 use Rattle.dwz_def_reading.specs.Files.{debug_abbrev, debug_info}
 use Rattle.dwz_def_reading.specs.Modes.{binding_forms, forms_of_back, forms_with, of_back}

@@ -1,10 +1,10 @@
 -- A file of which nothing moves means what it meant, beside the common file.
 use Rattle.std.proofs.Common.{◌≡◌, ◌≢◌, ◌⊎◌, ℕ, false, List, [], ◌∷◌, ◌++◌, map, Option, Some, None, refl, sym, ap, subst, ◌∙◌, arith, inl, inr}
 use Rattle.std.proofs.lemmas.List.{map-append}
-use Rattle.dwz_model.specs.Lists.{Each, In, NoneTwice, Nth}
-use Rattle.dwz_model.proofs.ListFacts.{in_cases, in_right}
-use Rattle.dwz_model.proofs.Members.{each_in, in_map_from, nth_in}
-use Rattle.dwz_model.proofs.OnceLemmas.{none_append, none_right}
+use Rattle.dwz_def_reading.specs.Lists.{Each, In, NoneTwice, Nth}
+use Rattle.dwz_def_reading.proofs.ListFacts.{in_cases, in_right}
+use Rattle.dwz_def_reading.proofs.Members.{each_in, in_map_from, nth_in}
+use Rattle.dwz_def_reading.proofs.OnceLemmas.{none_append, none_right}
 use Rattle.dwz_def_reading.specs.Documents.{Doc, DwUnit, Entries, entries_map, unit_map}
 use Rattle.dwz_def_reading.specs.Finished.{given_by}
 use Rattle.dwz_def_reading.specs.Places.{Place, at_file}
@@ -13,10 +13,10 @@ use Rattle.dwz_def_tops.specs.Alike.{IsAlike, TopScope}
 use Rattle.dwz_def_tops.specs.Shown.{OnePlace, UnitsShown, keys, unit_keys, units_keys}
 use Rattle.dwz_def_tops.specs.Spots.{EntryName, units_of}
 use Rattle.dwz_def_tops.proofs.ShownLemmas.{map_shown, shown_then}
-use Rattle.dwz_def_plan.specs.Homes.{IsChoice, Rule}
+use Rattle.dwz_def_images.specs.Homes.{IsChoice, Rule}
 use Rattle.dwz_def_images.specs.After.{ArePlaced}
 use Rattle.dwz_def_images.specs.Units.{changes, common_units, out_units}
-use Rattle.dwz_def_images.proofs.ApartOwn.{keys_joined}
+use Rattle.dwz_def_tops.proofs.UnitKeys.{keys_joined}
 use Rattle.dwz_def_readback.specs.AllFiles.{AllBack}
 use Rattle.dwz_def_readback.specs.Back.{AreAtOld, IsPlacing, run_of}
 use Rattle.dwz_def_readback.specs.Files.{Run, Stored, common_fitted, places}

@@ -1,8 +1,8 @@
 -- Units whose forms and depth are such as they may be are stored so.
 use Rattle.std.proofs.Common.{◌≡◌, ℕ, pos, cond, suc, ◌+◌, ◌<◌, ◌≤◌, Bool, true, false, List, [], ◌∷◌, ◌==◌, map, refl, sym, subst, arith}
 use Rattle.std.proofs.lemmas.Bool.{eqb-true}
-use Rattle.dwz_model.specs.Lists.{Each}
-use Rattle.dwz_bytes.specs.Spelling.{reach}
+use Rattle.dwz_def_reading.specs.Lists.{Each}
+use Rattle.dwz_def_reading.specs.Spelling.{reach}
 use Rattle.dwz_def_reading.specs.Documents.{Attr, Compile, DwUnit, Entries, Kind, OfType, Partial}
 use Rattle.dwz_def_reading.specs.Trees.{EachEntry, End, Entry, Position, behind, first_below}
 use Rattle.dwz_def_reading.specs.Units.{root_tag}

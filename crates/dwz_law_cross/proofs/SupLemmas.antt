@@ -2,9 +2,9 @@
 use Rattle.std.proofs.Common.{◌≡◌, ℕ, ◌+◌, ◌<◌, Bool, true, false, List, [], ◌∷◌, ◌++◌, cond, Option, Some, None, length, unwrap_or, bytes_eq, length-append, refl, ap, subst, ◌∙◌, arith, eq-eqb}
 use Rattle.std.specs.Prelude.{◌||◌, if◌then◌else◌}
 use Rattle.std.specs.Option.{is_some}
-use Rattle.dwz_model.specs.Lists.{Each, In}
-use Rattle.dwz_bytes.specs.Spelling.{le_bytes, uleb}
-use Rattle.dwz_bytes.proofs.PaddedLemmas.{uleb_small}
+use Rattle.dwz_def_reading.specs.Lists.{Each, In}
+use Rattle.dwz_def_reading.specs.Spelling.{le_bytes, uleb}
+use Rattle.dwz_def_reading.proofs.PaddedLemmas.{uleb_small}
 use Rattle.dwz_def_reading.specs.declared.supplementary.Sup.{Sup}
 use Rattle.dwz_def_reading.specs.Documents.{Doc}
 use Rattle.dwz_def_reading.specs.ElfNames.{sections_in}

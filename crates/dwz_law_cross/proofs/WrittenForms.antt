@@ -1,9 +1,9 @@
 -- Units after have forms, and stand as deep, as entries of files that may have been written may.
 use Rattle.std.proofs.Common.{◌≡◌, ◌≢◌, ℕ, suc, ◌≤◌, Bool, true, false, List, [], ◌∷◌, map, Option, Some, None, refl, sym, ap, subst, ◌∙◌, arith, inl, inr}
-use Rattle.dwz_codes.specs.Rows.{has}
-use Rattle.dwz_model.specs.Lists.{Each, In, Nth}
-use Rattle.dwz_model.proofs.ListFacts.{in_cases, in_left, in_map, in_right}
-use Rattle.dwz_model.proofs.Members.{each_in, each_more, each_of}
+use Rattle.dwz_def_reading.specs.Rows.{has}
+use Rattle.dwz_def_reading.specs.Lists.{Each, In, Nth}
+use Rattle.dwz_def_reading.proofs.ListFacts.{in_cases, in_left, in_map, in_right}
+use Rattle.dwz_def_reading.proofs.Members.{each_in, each_more, each_of}
 use Rattle.dwz_def_reading.specs.Classes.{class_of}
 use Rattle.dwz_def_reading.specs.Documents.{Attr, Compile, DwUnit, Entries, Kind, OfType, Partial, first_named, kind_map}
 use Rattle.dwz_def_reading.specs.Entries.{codes_of_common}
@@ -12,10 +12,11 @@ use Rattle.dwz_def_tops.specs.Seen.{Named, Seen, all_seen, named_value, see, see
 use Rattle.dwz_def_tops.specs.Shown.{units_keys}
 use Rattle.dwz_def_tops.specs.Spots.{EntryName, FileUnit, rows_of_root}
 use Rattle.dwz_def_tops.proofs.SeenLemmas.{entry_seen, root_seen}
-use Rattle.dwz_def_plan.specs.Homes.{Common, Home, Local, Rule, Stay}
-use Rattle.dwz_def_plan.specs.Moves.{Move, first_unit, image_in, line_attrs, line_in, line_of, names_path, plan, root_in_part, root_of}
-use Rattle.dwz_def_plan.specs.Plan.{PartialUnit}
-use Rattle.dwz_def_images.specs.After.{AreOld, IsNamedBelow}
+use Rattle.dwz_def_images.specs.Homes.{Common, Home, Local, Rule, Stay}
+use Rattle.dwz_def_images.specs.Moves.{Move, first_unit, image_in, line_attrs, line_in, line_of, names_path, plan, root_in_part, root_of}
+use Rattle.dwz_def_images.specs.Plan.{PartialUnit}
+use Rattle.dwz_def_images.specs.After.{AreOld}
+use Rattle.dwz_def_tops.specs.UnitNames.{IsNamedBelow}
 use Rattle.dwz_def_images.specs.Units.{common_units, kept_unit, kept_units, out_units, partial_unit, partial_units}
 use Rattle.dwz_def_images.proofs.HeldLemmas.{part_found}
 use Rattle.dwz_def_encoding.specs.Bases.{Bases}

@@ -1,7 +1,7 @@
 -- What is written of files that nothing refuses is stored as its units are.
 use Rattle.std.proofs.Common.{◌≡◌, ℕ, suc, ◌+◌, ◌<◌, ◌≤◌, ◌^◌, Bool, true, false, List, [], length, Option, refl, sym, ap, subst, arith}
-use Rattle.dwz_model.specs.Lists.{Each, In, NoneTwice}
-use Rattle.dwz_model.proofs.Members.{each_more}
+use Rattle.dwz_def_reading.specs.Lists.{Each, In, NoneTwice}
+use Rattle.dwz_def_reading.proofs.Members.{each_more}
 use Rattle.dwz_def_reading.specs.Documents.{DwUnit}
 use Rattle.dwz_def_reading.specs.Entries.{Mode}
 use Rattle.dwz_def_reading.specs.Files.{debug_abbrev, debug_info, sources_of}

@@ -1,12 +1,12 @@
 -- What is read back of a file means what the file meant.
 use Rattle.std.specs.Prelude.{◌≡◌, ◌≢◌, ℕ, List, map}
-use Rattle.dwz_def_reading.specs.Lists.{Each, In}
+use Rattle.dwz_def_reading.specs.Lists.{Each, In, Nth}
 use Rattle.dwz_def_reading.specs.Documents.{Doc, DwUnit, unit_map}
-use Rattle.dwz_model.specs.Lists.{Nth}
 use Rattle.dwz_def_tops.specs.Alike.{IsAlike, TopScope}
 use Rattle.dwz_def_tops.specs.Spots.{EntryName, units_of}
-use Rattle.dwz_def_plan.specs.Homes.{IsChoice, Rule}
-use Rattle.dwz_def_images.specs.After.{ArePlaced, Place, at_file}
+use Rattle.dwz_def_images.specs.Homes.{IsChoice, Rule}
+use Rattle.dwz_def_images.specs.After.{ArePlaced}
+use Rattle.dwz_def_reading.specs.Places.{Place, at_file}
 use Rattle.dwz_def_encoding.specs.Meant.{placed_units}
 use Rattle.dwz_def_readback.specs.Back.{AreAtOld, IsPlacing, run_of}
 use Rattle.dwz_def_readback.specs.Files.{Run, Stored, common_fitted, fitted, places}

@@ -1,7 +1,7 @@
 -- What was read of a file, and what is read back of it, mean the same where the two are read beside the common file, each with a number of
 -- its own.
 use Rattle.std.specs.Prelude.{◌≡◌, ◌≢◌, false, true, ℕ, List, [], Option, Some, None}
-use Rattle.dwz_model.specs.Lists.{Each, Nth}
+use Rattle.dwz_def_reading.specs.Lists.{Each, Nth}
 use Rattle.dwz_def_reading.specs.Documents.{Doc, DwUnit, Partial}
 use Rattle.dwz_def_reading.specs.Finished.{given_by}
 use Rattle.dwz_def_reading.specs.Meanings.{Common}
@@ -9,7 +9,7 @@ use Rattle.dwz_def_reading.specs.Places.{Place}
 use Rattle.dwz_def_reading.specs.Units.{RawUnit}
 use Rattle.dwz_def_tops.specs.Alike.{IsAlike, TopScope}
 use Rattle.dwz_def_tops.specs.Spots.{units_of}
-use Rattle.dwz_def_plan.specs.Homes.{IsChoice, Rule}
+use Rattle.dwz_def_images.specs.Homes.{IsChoice, Rule}
 use Rattle.dwz_def_images.specs.After.{ArePlaced}
 use Rattle.dwz_def_images.specs.Units.{changes}
 use Rattle.dwz_def_readback.specs.AllFiles.{ReadBack}

@@ -1,7 +1,7 @@
 -- A file before a run and after it are read one behind the other, beside the common file that the run made or without it, and mean the
 -- same.
 use Rattle.std.specs.Prelude.{◌≡◌, false, Bool, ℕ, List, [], ◌∷◌, None, Some}
-use Rattle.dwz_model.specs.Lists.{Each, Nth}
+use Rattle.dwz_def_reading.specs.Lists.{Each, Nth}
 use Rattle.dwz_def_reading.specs.Documents.{Doc}
 use Rattle.dwz_def_reading.specs.Finished.{FinishedDocs, ReadFinished, has_sup}
 use Rattle.dwz_def_reading.specs.Places.{Place}

@@ -1,15 +1,16 @@
 -- What is made of a file means what the file meant.
 use Rattle.std.specs.Prelude.{ℕ, List, [], ◌++◌}
 use Rattle.dwz_def_reading.specs.Documents.{Doc, DwUnit}
-use Rattle.dwz_def_reading.specs.Lists.{Each}
-use Rattle.dwz_model.specs.Lists.{NoneTwice, Nth}
+use Rattle.dwz_def_reading.specs.Lists.{Each, NoneTwice, Nth}
 use Rattle.dwz_def_tops.specs.Seen.{Closed}
 use Rattle.dwz_def_tops.specs.Shown.{OnePlace, UnitsShown, units_keys}
 use Rattle.dwz_def_tops.specs.Alike.{IsAlike, TopScope}
 use Rattle.dwz_def_tops.specs.Spots.{EntryName, file_numbers, units_of}
-use Rattle.dwz_def_plan.specs.Homes.{IsChoice, Rule}
-use Rattle.dwz_def_plan.specs.Moves.{Move, image_in, plan}
-use Rattle.dwz_def_images.specs.After.{ArePlaced, Place, at_file, name_of_place}
+use Rattle.dwz_def_images.specs.Homes.{IsChoice, Rule}
+use Rattle.dwz_def_images.specs.Moves.{Move, image_in, plan}
+use Rattle.dwz_def_images.specs.After.{ArePlaced}
+use Rattle.dwz_def_tops.specs.UnitNames.{name_of_place}
+use Rattle.dwz_def_reading.specs.Places.{Place, at_file}
 use Rattle.dwz_def_images.specs.Units.{common_units, out_units}
 use Rattle.dwz_def_cross.specs.CrossLaws.{IsPairing}
 use Rattle.dwz_def_cross.specs.CrossSame.{CrossSame}

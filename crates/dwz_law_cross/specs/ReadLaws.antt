@@ -1,8 +1,8 @@
 -- A file that was given is read as one that may have been written, and says the same; and so is one that was written, where it may be.
 use Rattle.std.specs.Prelude.{◌≡◌, ◌≢◌, ◌==◌, true, false, Bool, ℕ, ◌≤◌, List, map, Option, Some, None}
 use Rattle.std.specs.Option.{is_some}
-use Rattle.dwz_codes.specs.Rows.{has}
-use Rattle.dwz_model.specs.Lists.{Each}
+use Rattle.dwz_def_reading.specs.Rows.{has}
+use Rattle.dwz_def_reading.specs.Lists.{Each}
 use Rattle.dwz_def_reading.specs.Documents.{Doc, DwUnit, unit_map}
 use Rattle.dwz_def_reading.specs.Entries.{RawEntry, codes_of_common}
 use Rattle.dwz_def_reading.specs.Files.{IsForMachine, IsNotTooLong, Limits, Reads, ReadsBy, machine_of}

@@ -1,6 +1,6 @@
 -- The entries of what was written may stand as those of files that may have been written: their forms, and how deep they are.
 use Rattle.std.specs.Prelude.{◌≡◌, true, false, Bool, ℕ, List, Option, Some}
-use Rattle.dwz_model.specs.Lists.{Each, In}
+use Rattle.dwz_def_reading.specs.Lists.{Each, In}
 use Rattle.dwz_def_reading.specs.Documents.{Doc, DwUnit}
 use Rattle.dwz_def_reading.specs.Meanings.{Common}
 use Rattle.dwz_def_reading.specs.Places.{Place}

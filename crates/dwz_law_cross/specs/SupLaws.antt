@@ -1,6 +1,6 @@
 -- Nothing is wrong with the `.debug_sup` of what was written (DWARF 5, 7.3.6).
 use Rattle.std.specs.Prelude.{◌≡◌, true, None, Some, Bool, ℕ, List}
-use Rattle.dwz_model.specs.Lists.{Each, In}
+use Rattle.dwz_def_reading.specs.Lists.{Each, In}
 use Rattle.dwz_def_reading.specs.Documents.{Doc}
 use Rattle.dwz_def_reading.specs.Finished.{common_sup_fault, file_sup_fault}
 use Rattle.dwz_def_reading.specs.Texts.{NoZero}

@@ -1,7 +1,7 @@
 -- Units, spaces and tops of the new file mean what those of the old one meant.
 use Rattle.std.proofs.Common.{◌≡◌, ℕ, suc, Bool, true, false, List, [], ◌∷◌, map, refl, sym, ap, subst, ◌∙◌, inl, inr}
-use Rattle.dwz_model.specs.Lists.{In, NoneTwice, Nth}
-use Rattle.dwz_model.proofs.Members.{nth_one}
+use Rattle.dwz_def_reading.specs.Lists.{In, NoneTwice, Nth}
+use Rattle.dwz_def_reading.proofs.Members.{nth_one}
 use Rattle.dwz_def_reading.specs.Documents.{Compile, DwUnit, Entries, Kind, Node, OfType, Partial, kind_map, ref}
 use Rattle.dwz_def_tops.specs.Seen.{InCompile, IsImport, IsPartial, IsShown, named_map, see}
 use Rattle.dwz_def_tops.specs.Shown.{AreShown, keys, unit_keys, units_keys}

@@ -1,9 +1,9 @@
 -- A value that leads to no supplementary file was read in its unit, as a value of a file by itself.
 use Rattle.std.proofs.Common.{◌≡◌, ℕ, ℤ, Bool, true, false, List, [], ◌∷◌, map, Option, Some, None, refl, sym, ap, subst, ◌∙◌}
-use Rattle.dwz_codes.specs.Forms.{form_rows}
-use Rattle.dwz_codes.specs.Rows.{shape_of}
-use Rattle.dwz_codes.specs.declared.shape.Shape.{Shape}
-use Rattle.dwz_model.specs.Lists.{Each}
+use Rattle.dwz_def_reading.specs.Forms.{form_rows}
+use Rattle.dwz_def_reading.specs.Rows.{shape_of}
+use Rattle.dwz_def_reading.specs.Shape.{Shape}
+use Rattle.dwz_def_reading.specs.Lists.{Each}
 use Rattle.dwz_def_reading.specs.Classes.{Class, OfAddress, OfBlock, OfCommonEntry, OfCommonText, OfConstant, OfExpression, OfFlag, OfIndex, OfInfoEntry, OfListIndex, OfOffset, OfSignature, OfText, OfTextBySlot, OfTextInLineStr, OfTextInStr, OfUnitEntry, Unread, class_of, names_file, names_list}
 use Rattle.dwz_def_reading.specs.Documents.{Attr, Plain, Sec, Value, attr_map, only}
 use Rattle.dwz_def_reading.specs.Entries.{RawAttr, RawEntry}

@@ -1,9 +1,9 @@
 -- The units that are written, one by one: their keys, what their roots say, and where what a copy names stands.
 use Rattle.std.proofs.Common.{◌≡◌, ℕ, pos, suc, ◌==◌, Bool, true, false, List, [], ◌∷◌, ◌++◌, cond, eqb, eqb-true, map, if◌then◌else◌, Option, Some, None, refl, sym, ap, subst, ◌∙◌, arith, inl, inr}
 use Rattle.std.specs.Prelude.{unwrap_or, get_or}
-use Rattle.dwz_model.specs.Lists.{Each, In, NoneTwice, Nth}
-use Rattle.dwz_model.proofs.ListFacts.{in_left, in_map, in_right}
-use Rattle.dwz_model.proofs.Members.{nth_in, nth_one}
+use Rattle.dwz_def_reading.specs.Lists.{Each, In, NoneTwice, Nth}
+use Rattle.dwz_def_reading.proofs.ListFacts.{in_left, in_map, in_right}
+use Rattle.dwz_def_reading.proofs.Members.{nth_in, nth_one}
 use Rattle.dwz_def_reading.specs.Classes.{Class, OfAddress, OfBlock, OfCommonEntry, OfCommonText, OfConstant, OfExpression, OfFlag, OfIndex, OfInfoEntry, OfListIndex, OfOffset, OfSignature, OfText, OfTextBySlot, OfTextInLineStr, OfTextInStr, OfUnitEntry, Unread, class_of, names_file}
 use Rattle.dwz_def_reading.specs.Documents.{Attr, DwUnit, Entries, first_named, unit_map}
 use Rattle.dwz_def_reading.specs.Spelling.{reach}

@@ -1,9 +1,9 @@
 -- Each value of a new unit has room for its operands, where none is too narrow.
 use Rattle.std.proofs.Common.{◌≡◌, ◌⊎◌, ℕ, zero, suc, ◌+◌, ◌-◌, Bool, true, false, List, [], ◌∷◌, map, get_or, Some, None, Ok, refl, sym, ap, subst, ◌∙◌, arith, inl, inr}
-use Rattle.dwz_model.specs.declared.fault.Fault.{Fault}
-use Rattle.dwz_model.specs.Lists.{Each, In, Nth}
-use Rattle.dwz_model.proofs.ListFacts.{in_map}
-use Rattle.dwz_model.proofs.Members.{each_of, nth_from}
+use Rattle.dwz_def_reading.specs.Fault.{Fault}
+use Rattle.dwz_def_reading.specs.Lists.{Each, In, Nth}
+use Rattle.dwz_def_reading.proofs.ListFacts.{in_map}
+use Rattle.dwz_def_reading.proofs.Members.{each_of, nth_from}
 use Rattle.dwz_def_reading.specs.Classes.{Class, OfExpression, OfListIndex, OfOffset, class_of, names_list}
 use Rattle.dwz_def_reading.specs.Documents.{Attr, DwUnit, Expr, Loc, Node, Plain, Value}
 use Rattle.dwz_def_reading.specs.Exprs.{expr_at, parts_of}

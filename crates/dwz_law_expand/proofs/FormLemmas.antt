@@ -1,9 +1,9 @@
 -- What is written of a file that reads, and that nothing refuses, can be written.
 use Rattle.std.proofs.Common.{◌≡◌, ◌⊎◌, ℕ, ◌<◌, ◌≤◌, List, [], ◌∷◌, ◌++◌, ◌==◌, length, refl, sym, ap, subst, ◌∙◌, inl, inr}
 use Rattle.std.proofs.lemmas.Bool.{and_parts, cases_lt, eq-eqb, eqb-true}
-use Rattle.dwz_model.specs.declared.fault.Fault.{Fault}
-use Rattle.dwz_model.specs.declared.fault.Refusal.{Refusal}
-use Rattle.dwz_model.specs.Lists.{Each, NoneTwice}
+use Rattle.dwz_def_reading.specs.Fault.{Fault}
+use Rattle.dwz_def_reading.specs.Refusal.{Refusal}
+use Rattle.dwz_def_reading.specs.Lists.{Each, NoneTwice}
 use Rattle.dwz_def_reading.specs.Documents.{DwUnit}
 use Rattle.dwz_def_reading.specs.ElfLayout.{too_large}
 use Rattle.dwz_def_reading.specs.FirstOf.{OfFirst}
@@ -26,7 +26,7 @@ use Rattle.dwz_def_expand.specs.Written.{expanded_sections, same_copy, written}
 use Rattle.dwz_def_expand.proofs.FileLemmas.{file_whole, test}
 use Rattle.dwz_def_expand.proofs.RefusalLemmas.{all_copied}
 use Rattle.dwz_law_expand.specs.FormLaws.{CanBeExpanded}
-use Rattle.dwz_def_expanded.specs.After.{new_units}
+use Rattle.dwz_def_expand.specs.After.{new_units}
 use Rattle.dwz_law_expand.specs.Told.{IsOfBytes, told}
 use Rattle.dwz_law_expand.proofs.CopyLemmas.{chosen_keys, each_written}
 use Rattle.dwz_law_expand.proofs.FitLemmas.{NoneNarrow}

@@ -2,9 +2,9 @@
 use Rattle.std.proofs.Common.{◌≡◌, ◌≢◌, ℕ, suc, Bool, true, false, List, [], ◌∷◌, cond, eqb, Option, Some, None, refl, ap, subst, ◌∙◌, arith, inl, inr}
 use Rattle.std.specs.Prelude.{slice_get}
 use Rattle.std.proofs.lemmas.Bool.{eqb-false}
-use Rattle.dwz_model.specs.Lists.{Each, In, Nth}
-use Rattle.dwz_model.proofs.ListFacts.{in_cases}
-use Rattle.dwz_model.proofs.Members.{each_in, nth_get, nth_in}
+use Rattle.dwz_def_reading.specs.Lists.{Each, In, Nth}
+use Rattle.dwz_def_reading.proofs.ListFacts.{in_cases}
+use Rattle.dwz_def_reading.proofs.Members.{each_in, nth_get, nth_in}
 use Rattle.dwz_def_reading.specs.Documents.{Attr, DwUnit, Entries, Node}
 use Rattle.dwz_def_reading.specs.Entries.{RawAttr, RawEntry, of_common}
 use Rattle.dwz_def_reading.specs.Files.{debug_abbrev, debug_info, no_files_before, sources_of}

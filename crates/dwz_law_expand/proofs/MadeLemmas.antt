@@ -10,10 +10,10 @@ use Rattle.dwz_def_encoding.specs.Writing.{joined, tables_of, units_bytes}
 use Rattle.dwz_def_cross.specs.Tops.{whole_units}
 use Rattle.dwz_def_expand.specs.Source.{Copy, copies}
 use Rattle.dwz_def_expand.specs.Written.{written}
-use Rattle.dwz_def_expand.specs.OneFile.{FileRead, given_common, limits_behind, rule_for, said_by_file, same_place, units_read}
-use Rattle.dwz_def_expand.specs.Output.{ExpandRefusal, Spoken, forms, in_lists, new_places, new_start, number_of_operand, number_of_unit}
+use Rattle.dwz_def_expand.specs.OneFile.{FileRead, given_common, limits_behind, rule_for, said_by_file, same_place, units_read, OneFile, ReadsOne, around}
+use Rattle.dwz_def_expand.specs.Output.{ExpandRefusal, Spoken, forms, in_lists, new_places, new_start, number_of_operand, number_of_unit, new_lists, new_ranges, new_sections, sets}
 use Rattle.std.specs.List.{list_any}
-use Rattle.dwz_model.specs.declared.sections.Sections.{Sections}
+use Rattle.dwz_def_reading.specs.Sections.{Sections}
 use Rattle.dwz_def_reading.specs.declared.elf.Section.{Section}
 use Rattle.dwz_def_reading.specs.Documents.{Doc, DwUnit}
 use Rattle.dwz_def_reading.specs.ElfNames.{sections_in}
@@ -22,8 +22,8 @@ use Rattle.dwz_def_reading.specs.Files.{Limits, ReadsBy, debug_abbrev, debug_ara
 use Rattle.dwz_def_reading.specs.Meanings.{MeanUnits, Sources}
 use Rattle.dwz_def_reading.specs.Places.{Place}
 use Rattle.dwz_def_reading.specs.Units.{RawUnit, SpellsUnits}
-use Rattle.dwz_model.specs.declared.fault.Fault.{Fault}
-use Rattle.dwz_model.specs.declared.fault.Reason.TheVariants.{FileSize}
+use Rattle.dwz_def_reading.specs.Fault.{Fault}
+use Rattle.dwz_def_reading.specs.Reason.TheVariants.{FileSize}
 use Rattle.dwz_def_reading.specs.Entries.{unless_so}
 use Rattle.dwz_def_reading.specs.Finished.{rule_of_back}
 use Rattle.dwz_def_reading.specs.Rules.{ReadingRule}
@@ -39,16 +39,14 @@ use Rattle.dwz_def_output.proofs.GivenSections.{can_give, can_give_other, none_i
 use Rattle.dwz_def_output.proofs.ListsWritten.{over_len}
 use Rattle.dwz_def_output.proofs.RebuiltLemmas.{reads_back}
 use Rattle.dwz_def_output.proofs.SectionsMade.{units_len}
-use Rattle.dwz_def_expand.specs.OneFile.{OneFile, ReadsOne, around}
-use Rattle.dwz_def_expand.specs.Output.{new_lists, new_ranges, new_sections, sets}
 use Rattle.dwz_def_expand.specs.Dropped.{without_sup}
 use Rattle.dwz_law_expand.specs.MadeLaws.{CanBeLaid, IsMadeOf, MadeLaw, changes_of}
-use Rattle.dwz_def_expanded.specs.After.{ReadsFreely, units_after}
+use Rattle.dwz_def_expand.specs.After.{ReadsFreely, units_after}
 use Rattle.dwz_law_expand.specs.ReadLaws.{HasExpanded}
 use Rattle.dwz_law_expand.specs.Told.{IsOfBytes}
 use Rattle.dwz_def_reading.specs.ElfHeaders.{file_header}
 use Rattle.std.specs.Prelude.{◌+◌, ◌*◌, ◌≤◌, drop, replicate, slice_get, take}
-use Rattle.dwz_model.specs.declared.fault.Refusal.{Refusal}
+use Rattle.dwz_def_reading.specs.Refusal.{Refusal}
 use Rattle.dwz_law_expand.proofs.ReadLemmas.{reads_freely}
 use Rattle.dwz_law_expand.proofs.DropBytes.{header_without_sup, reads_without, section_without}
 

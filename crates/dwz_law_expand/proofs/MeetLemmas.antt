@@ -1,7 +1,7 @@
 -- The new units of a file show its sources, so the file without its partial units means what it meant.
 use Rattle.std.proofs.Common.{◌≡◌, ℕ, suc, Bool, List, [], ◌∷◌, map, refl, sym, ap, subst, ◌∙◌}
-use Rattle.dwz_model.specs.declared.fault.Refusal.{Refusal}
-use Rattle.dwz_model.specs.Lists.{Each, In}
+use Rattle.dwz_def_reading.specs.Refusal.{Refusal}
+use Rattle.dwz_def_reading.specs.Lists.{Each, In}
 use Rattle.dwz_def_reading.specs.Documents.{Attr, Compile, DwUnit, Entries, Kind, OfType, Partial, attr_map, entries_map, kind_map}
 use Rattle.dwz_def_reading.specs.Meanings.{scope_of}
 use Rattle.dwz_def_reading.specs.Places.{Place}
@@ -21,9 +21,7 @@ use Rattle.dwz_def_expand.specs.Written.{written}
 use Rattle.dwz_def_expand.proofs.ChosenLemmas.{chosen_alone}
 use Rattle.dwz_def_expand.proofs.FileLemmas.{places_apart, test}
 use Rattle.dwz_def_expand.proofs.RefusalLemmas.{all_copied}
-use Rattle.dwz_def_expanded.specs.After.{units_after}
-use Rattle.dwz_def_expanded.specs.After.{SpacesFit}
-use Rattle.dwz_def_expanded.specs.After.{new_units}
+use Rattle.dwz_def_expand.specs.After.{units_after, SpacesFit, new_units}
 use Rattle.dwz_law_expand.specs.Told.{IsOfBytes}
 use Rattle.dwz_law_expand.proofs.AlikeLemmas.{cross_same}
 use Rattle.dwz_law_expand.proofs.FoundLemmas.{own_said}

@@ -2,10 +2,10 @@
 use Rattle.std.proofs.Common.{◌≡◌, ◌⊎◌, ℕ, suc, ◌≤◌, Bool, true, false, List, [], ◌∷◌, ◌++◌, ◌==◌, if◌then◌else◌, length, drop, Option, Some, None, refl, sym, ap, subst, ◌∙◌, arith, inl, inr}
 use Rattle.std.proofs.lemmas.Bool.{eq-eqb, eqb-true}
 use Rattle.std.proofs.lemmas.List.{length-drop, length-take}
-use Rattle.dwz_model.specs.Lists.{In, NoneTwice, Nth}
-use Rattle.dwz_model.proofs.ListFacts.{in_cases, in_left, in_right}
-use Rattle.dwz_model.proofs.Members.{nth_in}
-use Rattle.dwz_model.proofs.OnceLemmas.{none_append, none_both, none_left, none_right}
+use Rattle.dwz_def_reading.specs.Lists.{In, NoneTwice, Nth}
+use Rattle.dwz_def_reading.proofs.ListFacts.{in_cases, in_left, in_right}
+use Rattle.dwz_def_reading.proofs.Members.{nth_in}
+use Rattle.dwz_def_reading.proofs.OnceLemmas.{none_append, none_both, none_left, none_right}
 use Rattle.dwz_def_reading.specs.Documents.{Compile, DwUnit, Kind, Node, OfType, Partial}
 use Rattle.dwz_def_reading.specs.ElfNames.{sections_in}
 use Rattle.dwz_def_reading.specs.ElfReading.{bytes_in, section_range}
@@ -20,7 +20,7 @@ use Rattle.dwz_def_encoding.specs.Bases.{Bases, bases_in, bases_of}
 use Rattle.dwz_def_encoding.specs.Meant.{entry_keys, own_of}
 use Rattle.dwz_def_encoding.specs.Placing.{CommonUnit, NewUnit, OldUnit, UnitRole, holder_of}
 use Rattle.dwz_def_encoding.proofs.ReadAgain.{bases_read, section_bytes}
-use Rattle.dwz_def_images.proofs.ApartOwn.{keys_joined}
+use Rattle.dwz_def_tops.proofs.UnitKeys.{keys_joined}
 use Rattle.dwz_def_cross.specs.Tops.{WithCommon, unless_partial, units_with_common, whole_units}
 use Rattle.dwz_def_expand.specs.Chosen.{Choice, role_in, slots_of_unit}
 use Rattle.dwz_def_expand.specs.OneFile.{FileRead, OneFile, ReadsOne, around, part, rule_for, said_by_file, same_place, units_read}

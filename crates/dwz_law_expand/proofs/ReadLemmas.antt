@@ -1,10 +1,10 @@
 -- What has the new sections of a file reads by itself.
 use Rattle.std.proofs.Common.{◌≡◌, ℕ, suc, ◌<◌, ◌^◌, true, List, [], ◌∷◌, ◌++◌, length, map, Option, Some, None, refl, sym, ap, subst, ◌∙◌, arith, inl, inr}
 use Rattle.std.proofs.lemmas.List.{length-append, length-map}
-use Rattle.dwz_model.specs.declared.fault.Refusal.{Refusal}
-use Rattle.dwz_model.specs.Lists.{Each, In, Nth}
-use Rattle.dwz_model.proofs.ListFacts.{in_cases, in_left, in_right}
-use Rattle.dwz_model.proofs.Members.{each_in, in_nth}
+use Rattle.dwz_def_reading.specs.Refusal.{Refusal}
+use Rattle.dwz_def_reading.specs.Lists.{Each, In, Nth}
+use Rattle.dwz_def_reading.proofs.ListFacts.{in_cases, in_left, in_right}
+use Rattle.dwz_def_reading.proofs.Members.{each_in, in_nth}
 use Rattle.dwz_def_reading.specs.Documents.{Compile, DwUnit, Kind, OfType, Partial, kind_map}
 use Rattle.dwz_def_reading.specs.Files.{HaveGoodRanges, around_of, debug_abbrev, debug_aranges, is_place_of, place_if_whole, sources_of, unit_places}
 use Rattle.dwz_def_reading.specs.Input.{input}
@@ -45,9 +45,8 @@ use Rattle.dwz_def_expand.proofs.ChosenLemmas.{chosen_alone}
 use Rattle.dwz_def_expand.proofs.FileLemmas.{own_place, test}
 use Rattle.dwz_def_expand.proofs.RefusalLemmas.{all_copied}
 use Rattle.dwz_law_expand.specs.FormLaws.{CanBeExpanded}
-use Rattle.dwz_def_expanded.specs.After.{ReadsFreely, units_after}
+use Rattle.dwz_def_expand.specs.After.{ReadsFreely, units_after, new_units}
 use Rattle.dwz_law_expand.specs.ReadLaws.{HasExpanded}
-use Rattle.dwz_def_expanded.specs.After.{new_units}
 use Rattle.dwz_law_expand.specs.Told.{IsOfBytes, told}
 use Rattle.dwz_law_expand.proofs.CopyLemmas.{in_written}
 use Rattle.dwz_law_expand.proofs.FitLemmas.{NoneNarrow, start_is}

@@ -2,10 +2,10 @@
 use Rattle.std.proofs.Common.{◌≡◌, ◌⊎◌, ℕ, suc, ◌-◌, Bool, true, false, List, [], ◌∷◌, ◌++◌, ◌==◌, if◌then◌else◌, map, Option, Some, None, refl, sym, ap, subst, ◌∙◌, inl, inr}
 use Rattle.std.proofs.lemmas.List.{map-append}
 use Rattle.std.proofs.lemmas.Bool.{eqb-true}
-use Rattle.dwz_model.specs.declared.place.Base.{Base}
-use Rattle.dwz_model.specs.Lists.{Each, In, Nth}
-use Rattle.dwz_model.proofs.ListFacts.{got_in, in_cases}
-use Rattle.dwz_model.proofs.Members.{each_append}
+use Rattle.dwz_def_reading.specs.Base.{Base}
+use Rattle.dwz_def_reading.specs.Lists.{Each, In, Nth}
+use Rattle.dwz_def_reading.proofs.ListFacts.{got_in, in_cases}
+use Rattle.dwz_def_reading.proofs.Members.{each_append}
 use Rattle.dwz_def_reading.specs.Documents.{Attr, DwUnit, Node}
 use Rattle.dwz_def_reading.specs.Classes.{Class, OfListIndex, OfOffset, class_of, names_list}
 use Rattle.dwz_def_reading.specs.Entries.{RawAttr, RawEntry}

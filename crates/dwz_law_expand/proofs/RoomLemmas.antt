@@ -1,9 +1,9 @@
 -- Operands have room for the numbers of what stands for what they named, where none is too narrow.
 use Rattle.std.proofs.Common.{◌≡◌, ◌⊎◌, ℕ, pos, ◌-◌, ◌≤◌, ◌^◌, Bool, true, false, List, [], ◌∷◌, ◌++◌, ◌==◌, if◌then◌else◌, map, Option, Some, refl, sym, ap, subst, arith, inl, inr}
 use Rattle.std.proofs.lemmas.Bool.{cases_lt, eq-eqb}
-use Rattle.dwz_model.specs.declared.fault.Fault.{Fault}
-use Rattle.dwz_model.specs.Lists.{Each, In}
-use Rattle.dwz_model.proofs.ListFacts.{in_left, in_map, in_right}
+use Rattle.dwz_def_reading.specs.Fault.{Fault}
+use Rattle.dwz_def_reading.specs.Lists.{Each, In}
+use Rattle.dwz_def_reading.proofs.ListFacts.{in_left, in_map, in_right}
 use Rattle.dwz_def_reading.specs.Classes.{Class, OfAddress, OfBlock, OfCommonEntry, OfCommonText, OfConstant, OfExpression, OfFlag, OfIndex, OfInfoEntry, OfListIndex, OfOffset, OfSignature, OfText, OfTextBySlot, OfTextInLineStr, OfTextInStr, OfUnitEntry, Unread, class_in, class_of, class_rows, names_file}
 use Rattle.dwz_def_reading.specs.Documents.{Attr, Part}
 use Rattle.dwz_def_reading.specs.Exprs.{Expression, parts_from, parts_of}

@@ -1,8 +1,8 @@
 -- New units that show the sources of units mean what these meant, imports expanded.
 use Rattle.std.proofs.Common.{◌≡◌, ◌⊎◌, ℕ, suc, Bool, true, false, List, [], ◌∷◌, ◌++◌, map, refl, sym, ap, subst, ◌∙◌, inl, inr}
-use Rattle.dwz_model.specs.Lists.{Each, In, NoneTwice, Nth}
-use Rattle.dwz_model.proofs.ListFacts.{in_cases, in_left, in_right}
-use Rattle.dwz_model.proofs.Members.{each_in, in_map_from, in_nth, nth_in}
+use Rattle.dwz_def_reading.specs.Lists.{Each, In, NoneTwice, Nth}
+use Rattle.dwz_def_reading.proofs.ListFacts.{in_cases, in_left, in_right}
+use Rattle.dwz_def_reading.proofs.Members.{each_in, in_map_from, in_nth, nth_in}
 use Rattle.dwz_def_reading.specs.Documents.{Attr, Compile, DwUnit, Entries, Kind, Node, OfType, Partial, kind_map}
 use Rattle.dwz_def_reading.specs.Trees.{End, Entry}
 use Rattle.dwz_def_tops.specs.Seen.{IsImport, IsPartial, IsShown, Named, Seen, all_seen, named_map, named_value, see, seen}
@@ -21,7 +21,7 @@ use Rattle.dwz_def_expand.specs.Refusals.{AllCopied, CanCopy, IsLost, nodes, sit
 use Rattle.dwz_def_expand.specs.Source.{Copy, copy_for, is_partial, source_places, source_unit, source_units, sources_below}
 use Rattle.dwz_def_expand.proofs.SourceLemmas.{in_whole}
 use Rattle.dwz_def_expand.proofs.WholeLemmas.{entry_there}
-use Rattle.dwz_def_expanded.specs.After.{SpacesFit}
+use Rattle.dwz_def_expand.specs.After.{SpacesFit}
 use Rattle.dwz_law_expand.proofs.CopyLemmas.{copied_to, nth_map, own_copied}
 use Rattle.dwz_law_expand.proofs.SiteLemmas.{site, site_from}
 use Rattle.dwz_law_expand.proofs.TopLemmas.{space_from, top_back, top_from, top_to}

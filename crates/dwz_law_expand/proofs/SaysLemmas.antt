@@ -1,12 +1,12 @@
 -- Each value of a new unit is sound, and says what its form says.
 use Rattle.std.proofs.Common.{◌≡◌, ◌⊎◌, ℕ, ◌+◌, ◌<◌, ◌≤◌, true, false, List, [], ◌∷◌, ◌++◌, ◌==◌, map, Some, None, refl, sym, ap, subst, ◌∙◌, arith, inl, inr}
 use Rattle.std.proofs.lemmas.Bool.{eq-eqb}
-use Rattle.dwz_model.specs.Lists.{Each, In, Nth}
-use Rattle.dwz_model.specs.declared.place.Base.{Base}
-use Rattle.dwz_model.specs.declared.place.Base.TheVariants.{Unit as FromUnit, Info as FromInfo}
-use Rattle.dwz_model.proofs.ListFacts.{in_map}
-use Rattle.dwz_model.proofs.Members.{each_in, nth_get}
-use Rattle.dwz_codes.specs.Rows.{has}
+use Rattle.dwz_def_reading.specs.Lists.{Each, In, Nth}
+use Rattle.dwz_def_reading.specs.Base.{Base}
+use Rattle.dwz_def_reading.specs.Base.TheVariants.{Unit as FromUnit, Info as FromInfo}
+use Rattle.dwz_def_reading.proofs.ListFacts.{in_map}
+use Rattle.dwz_def_reading.proofs.Members.{each_in, nth_get}
+use Rattle.dwz_def_reading.specs.Rows.{has}
 use Rattle.dwz_def_reading.specs.Classes.{Class, OfCommonEntry, OfCommonText, OfExpression, OfListIndex, OfOffset, class_of, names_list}
 use Rattle.dwz_def_reading.specs.Documents.{Attr, DwUnit, Expr, Node, Part, Plain, Text, Value, attr_map, only, ref, value_map}
 use Rattle.dwz_def_reading.specs.Exprs.{AreNamed, Expression, parts_from, parts_of}

@@ -1,8 +1,8 @@
 -- The values of sources are sites; and from which unit what stands in a new unit comes.
 use Rattle.std.proofs.Common.{◌≡◌, ◌⊎◌, ℕ, suc, Bool, true, false, List, [], ◌∷◌, ◌++◌, if◌then◌else◌, Some, None, refl, sym, ap, subst, ◌∙◌, inl, inr}
-use Rattle.dwz_model.specs.Lists.{Each, In, NoneTwice, Nth}
-use Rattle.dwz_model.proofs.ListFacts.{in_cases, in_left, in_right}
-use Rattle.dwz_model.proofs.Members.{each_in}
+use Rattle.dwz_def_reading.specs.Lists.{Each, In, NoneTwice, Nth}
+use Rattle.dwz_def_reading.proofs.ListFacts.{in_cases, in_left, in_right}
+use Rattle.dwz_def_reading.proofs.Members.{each_in}
 use Rattle.dwz_def_reading.specs.Documents.{Attr, Compile, DwUnit, Entries, Kind, Node, OfType, Partial}
 use Rattle.dwz_def_reading.specs.FirstOf.{◌or◌}
 use Rattle.dwz_def_reading.specs.Trees.{End, Entry}

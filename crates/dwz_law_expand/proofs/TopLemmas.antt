@@ -1,6 +1,6 @@
 -- Tops and spaces of the sources of a unit: those of the unit, and those of the partial units that it imports.
 use Rattle.std.proofs.Common.{◌≡◌, ◌⊎◌, ℕ, Bool, true, false, List, [], ◌∷◌, ◌==◌, Option, Some, None, refl, sym, ap, subst, ◌∙◌, inl, inr, arith, ne_eqb}
-use Rattle.dwz_model.specs.Lists.{In, NoneTwice}
+use Rattle.dwz_def_reading.specs.Lists.{In, NoneTwice}
 use Rattle.dwz_def_reading.specs.Documents.{Compile, DwUnit, Entries, Kind, Node, first_named}
 use Rattle.dwz_def_reading.specs.Trees.{End, Entry}
 use Rattle.dwz_def_tops.specs.Seen.{IsChild, IsImport, IsShown}

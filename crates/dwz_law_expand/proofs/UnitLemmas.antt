@@ -1,7 +1,7 @@
 -- The units that are written are sound, say what their forms say, and have room for their operands.
 use Rattle.std.proofs.Common.{◌≡◌, ℕ, suc, ◌<◌, ◌≤◌, List, [], ◌∷◌, map, refl, sym, ap, subst, ◌∙◌, inl, inr}
-use Rattle.dwz_model.specs.Lists.{Each, In, Nth}
-use Rattle.dwz_model.proofs.ListFacts.{in_left, in_right}
+use Rattle.dwz_def_reading.specs.Lists.{Each, In, Nth}
+use Rattle.dwz_def_reading.proofs.ListFacts.{in_left, in_right}
 use Rattle.dwz_def_reading.specs.Documents.{Attr, Compile, DwUnit, Entries, Kind, Node, OfType, Partial, attr_map, entries_map, kind_map}
 use Rattle.dwz_def_reading.specs.Meanings.{MeaningContext, scope_of}
 use Rattle.dwz_def_reading.specs.Places.{Place}

@@ -1,6 +1,6 @@
 -- The file that is made of one that reads has its new sections, and no `.debug_sup`.
 use Rattle.std.specs.Prelude.{◌≡◌, ℕ, ◌+◌, ◌*◌, ◌<◌, ◌≤◌, List, true, None, Some, drop, replicate, slice_get, take}
-use Rattle.dwz_model.specs.declared.fault.Refusal.{Refusal}
+use Rattle.dwz_def_reading.specs.Refusal.{Refusal}
 use Rattle.dwz_def_reading.specs.declared.elf.Section.{Section}
 use Rattle.dwz_def_reading.specs.Units.{RawUnit}
 use Rattle.dwz_def_reading.specs.ElfHeaders.{file_header}
@@ -12,7 +12,7 @@ use Rattle.dwz_def_output.specs.Rebuilt.{CanBeMade, new_file}
 use Rattle.dwz_def_expand.specs.OneFile.{OneFile, ReadsOne}
 use Rattle.dwz_def_expand.specs.Output.{ExpandRefusal, new_sections}
 use Rattle.dwz_def_expand.specs.Dropped.{without_sup}
-use Rattle.dwz_def_expanded.specs.After.{ReadsFreely, units_after}
+use Rattle.dwz_def_expand.specs.After.{ReadsFreely, units_after}
 use Rattle.dwz_law_expand.specs.ReadLaws.{HasExpanded}
 use Rattle.dwz_law_expand.specs.Told.{IsOfBytes}
 

@@ -1,14 +1,14 @@
 -- What is written of a file without its partial units reads by the rule of files that are given, but for limits.
 use Rattle.std.specs.Prelude.{◌≡◌, ℕ, List, false}
-use Rattle.dwz_model.specs.declared.fault.Fault.{Fault}
-use Rattle.dwz_model.specs.declared.fault.Refusal.{Refusal}
+use Rattle.dwz_def_reading.specs.Fault.{Fault}
+use Rattle.dwz_def_reading.specs.Refusal.{Refusal}
 use Rattle.dwz_def_reading.specs.ElfFaults.{ElfManner, IsElfFaultFor}
 use Rattle.dwz_def_reading.specs.Files.{debug_abbrev, debug_aranges, debug_info, sources_of}
 use Rattle.dwz_def_reading.specs.Units.{RawUnit}
 use Rattle.dwz_def_expand.specs.OneFile.{OneFile, ReadsOne, said_by_file, same_place}
 use Rattle.dwz_def_expand.specs.Output.{ExpandRefusal, forms, new_lists, new_ranges}
 use Rattle.dwz_def_expand.specs.Written.{expanded_sections}
-use Rattle.dwz_def_expanded.specs.After.{ReadsFreely, units_after}
+use Rattle.dwz_def_expand.specs.After.{ReadsFreely, units_after}
 use Rattle.dwz_law_expand.specs.Told.{IsOfBytes}
 
 -- an ELF file without `.debug_sup` that has the new sections, and else those of the file

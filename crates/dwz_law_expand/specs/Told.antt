@@ -10,7 +10,7 @@ use Rattle.dwz_def_expand.specs.OneFile.{FileRead, OneFile, StoredAttr, said_by_
 use Rattle.dwz_def_expand.specs.Output.{forms, number_of_unit, sites_of_file, sources_by_file}
 use Rattle.dwz_def_expand.specs.Refusals.{Site}
 use Rattle.dwz_def_expand.specs.Source.{Copy, copy_for}
-use Rattle.dwz_def_expanded.specs.After.{new_units}
+use Rattle.dwz_def_expand.specs.After.{new_units}
 
 -- a file, and the common file beside which it was read, are rows of bytes
 abbrev pub CommonIsBytes : Option FileRead → Type 0

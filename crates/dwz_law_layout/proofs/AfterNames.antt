@@ -5,13 +5,13 @@ use Rattle.dwz_def_reading.proofs.ListFacts.{drop_first}
 use Rattle.dwz_def_reading.specs.Documents.{Entries, Node, entries_map, node_map}
 use Rattle.dwz_def_reading.specs.Meanings.{scope_of}
 use Rattle.dwz_def_tops.specs.Spots.{EntryName}
-use Rattle.dwz_def_plan.specs.Moves.{image_in}
+use Rattle.dwz_def_images.specs.Moves.{image_in}
 use Rattle.dwz_def_readback.specs.Files.{name_after}
 use Rattle.dwz_graph.proofs.TreeLemmas.{parts}
 use Rattle.dwz_graph.specs.declared.file.File.{File}
 use Rattle.dwz_graph.specs.Index.{Index}
 use Rattle.dwz_unit.specs.Rows.{EntryRow, rows_below, rows_of}
-use Rattle.dwz_layout_order.specs.Across.{IsFileAmong, name_at}
+use Rattle.dwz_graph.specs.Across.{IsFileAmong, name_at}
 use Rattle.dwz_layout.specs.declared.known.Row.{Row}
 use Rattle.dwz_law_layout.specs.Knows.{FileRead, ShowsRow, ShowsTree}
 use Rattle.dwz_law_layout.proofs.AfterLemmas.{entries_after, node_after}

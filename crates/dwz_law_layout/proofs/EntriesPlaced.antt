@@ -8,21 +8,20 @@ use Rattle.dwz_def_tops.specs.Lists.{Nth}
 use Rattle.dwz_def_tops.specs.Shown.{units_keys}
 use Rattle.dwz_def_tops.proofs.Members.{each_in}
 use Rattle.dwz_def_tops.specs.Spots.{EntryName, FileUnit, RootOf, UnitOf, file_numbers, same_spot}
-use Rattle.dwz_def_plan.specs.Homes.{Local}
-use Rattle.dwz_def_plan.specs.Moves.{image_in}
+use Rattle.dwz_def_images.specs.Homes.{Local}
+use Rattle.dwz_def_images.specs.Moves.{image_in}
 use Rattle.dwz_def_images.specs.Units.{common_units, file_units, kept_unit, kept_units, out_units, partial_units}
 use Rattle.dwz_def_images.proofs.FileLemmas.{files_are}
-use Rattle.dwz_def_images.proofs.ApartOwn.{keys_joined}
+use Rattle.dwz_def_tops.proofs.UnitKeys.{keys_joined}
 use Rattle.dwz_def_encoding.specs.Placing.{Forms, UnitsStand, files_keys, fit_unit, fit_units, with_keys}
 use Rattle.dwz_def_encoding.specs.Pruned.{renumbered_unit, renumbered_units}
 use Rattle.dwz_def_encoding.specs.Writing.{Numbering, written_header_size, written_unit_size}
 use Rattle.dwz_def_encoding.proofs.Places.{numbering_stands}
 use Rattle.dwz_def_encoding.proofs.SameLemmas.{spots_same}
-use Rattle.dwz_def_readback.specs.Files.{fitted_by, formed_by}
-use Rattle.dwz_def_readback.specs.Files.{file_forms_by, file_out, file_out_by, files_out as all_out, fitted_if_by, sources, uses_by}
+use Rattle.dwz_def_readback.specs.Files.{fitted_by, formed_by, file_forms_by, file_out, file_out_by, files_out as all_out, fitted_if_by, sources, uses_by}
 use Rattle.dwz_def_readback.proofs.NameLemmas.{common_names, fitted_fixed, fitted_names_by, run_once}
 use Rattle.dwz_def_readback.proofs.WithinLemmas.{kept_to}
-use Rattle.dwz_layout_numbers.specs.Names.{all_names}
+use Rattle.dwz_graph.specs.AllNames.{all_names}
 use Rattle.dwz_layout.specs.Entries.{row}
 use Rattle.dwz_layout.specs.Known.{number_of, owner_of}
 use Rattle.dwz_law_layout.proofs.HeldNames.{each_of_map}

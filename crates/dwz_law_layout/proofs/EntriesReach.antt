@@ -11,18 +11,18 @@ use Rattle.dwz_graph.specs.Index.{Index}
 use Rattle.dwz_graph.specs.Names.{top_in}
 use Rattle.dwz_graph.proofs.TopLemmas.{many}
 use Rattle.dwz_graph.specs.Indexed.{first_starts}
-use Rattle.dwz_def_plan.specs.Homes.{Local}
+use Rattle.dwz_def_images.specs.Homes.{Local}
 use Rattle.dwz_def_images.specs.Units.{changes, common_units, kept_unit, kept_units, out_units, partial_units}
 use Rattle.dwz_def_readback.proofs.WithinLemmas.{kept_to}
 use Rattle.dwz_unit.specs.Rows.{EntryRow, rows_of, units_of as raw_units}
 use Rattle.dwz_graph.specs.Resolved.{place_at}
-use Rattle.dwz_graph.proofs.RowLemmas.{row_there}
+use Rattle.dwz_unit.proofs.RowsFound.{row_there}
 use Rattle.dwz_graph.specs.declared.file.File.{File}
-use Rattle.dwz_layout_order.proofs.FileCounts.{are_many}
-use Rattle.dwz_layout_order.proofs.FileEntries.{all_entries, gives_top}
-use Rattle.dwz_layout_order.proofs.OwnNames.{Own, names_own}
-use Rattle.dwz_layout_numbers.specs.Images.{starts_from}
-use Rattle.dwz_layout_numbers.specs.Names.{all_names}
+use Rattle.dwz_graph.proofs.FileCounts.{are_many}
+use Rattle.dwz_graph.proofs.FileEntries.{all_entries, gives_top}
+use Rattle.dwz_graph.proofs.OwnNames.{Own, names_own}
+use Rattle.dwz_graph.specs.EntryCounts.{starts_from}
+use Rattle.dwz_graph.specs.AllNames.{all_names}
 use Rattle.dwz_layout_numbers.specs.Owners.{StandsIn, files_written as units_after}
 use Rattle.dwz_layout_numbers.proofs.OnceNames.{one_entry}
 use Rattle.dwz_layout_numbers.proofs.OwnerKeys.{unit_kept}
@@ -38,7 +38,7 @@ use Rattle.dwz_law_layout.proofs.OwnedEntries.{entry_owned, found_names, name, n
 use Rattle.dwz_law_layout.proofs.Walks.{behind_owner, in_file as file_in}
 use Rattle.dwz_law_layout.specs.Beside.{Beside}
 use Rattle.dwz_law_layout.proofs.EveryNames.{IsBehind, every_cases}
-use Rattle.dwz_def_plan.specs.Moves.{image_in}
+use Rattle.dwz_def_images.specs.Moves.{image_in}
 
 -- ---- the file of a top
 

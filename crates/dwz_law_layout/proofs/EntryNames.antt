@@ -7,7 +7,7 @@ use Rattle.dwz_def_tops.specs.Spaces.{space_text, tops_under}
 use Rattle.dwz_def_tops.proofs.Members.{each_append, each_in}
 use Rattle.dwz_def_tops.specs.Spots.{EntryName, InType, RootOf, SpaceAt, Within, below_spots, entry_spots, top_count, top_spots, tops_among}
 use Rattle.dwz_graph.specs.Names.{names_from}
-use Rattle.dwz_layout_numbers.specs.Names.{all_names, names_of_files}
+use Rattle.dwz_graph.specs.AllNames.{all_names, names_of_files}
 use Rattle.dwz_law_layout.proofs.HeldNames.{each_to_map}
 
 abbrev pub IsOfEntry : EntryName → Type 0

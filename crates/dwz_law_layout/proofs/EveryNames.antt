@@ -5,7 +5,7 @@ use Rattle.dwz_def_reading.specs.Documents.{Doc}
 use Rattle.dwz_def_reading.proofs.ListFacts.{get_first}
 use Rattle.dwz_def_tops.specs.Spots.{EntryName}
 use Rattle.dwz_graph.proofs.TopLemmas.{get_cases}
-use Rattle.dwz_layout_numbers.specs.Names.{StandFrom, all_names}
+use Rattle.dwz_graph.specs.AllNames.{StandFrom, all_names}
 use Rattle.dwz_layout_numbers.specs.OverLaws.{common_names}
 use Rattle.dwz_layout_numbers.proofs.BesideNames.{every_names}
 use Rattle.dwz_law_layout.specs.Beside.{Alone, Beside, Over, every_by}

@@ -11,13 +11,13 @@ use Rattle.dwz_def_reading.specs.Files.{around_of}
 use Rattle.dwz_def_reading.specs.Meanings.{scope_of}
 use Rattle.dwz_def_reading.proofs.MeaningUnits.{node_agrees}
 use Rattle.dwz_def_tops.specs.Spots.{EntryName, no_name}
-use Rattle.dwz_def_plan.specs.Moves.{image_in}
-use Rattle.dwz_def_images.specs.After.{at_file}
+use Rattle.dwz_def_images.specs.Moves.{image_in}
+use Rattle.dwz_def_reading.specs.Places.{at_file}
 use Rattle.dwz_def_readback.specs.Files.{name_after}
 use Rattle.dwz_unit.specs.Rows.{EntryRow, rows_of, units_of as raw_units}
 use Rattle.dwz_graph.specs.Parts.{AreParted}
 use Rattle.dwz_graph.specs.Resolved.{AreEntries, place_at, places}
-use Rattle.dwz_graph.proofs.RowLemmas.{rows-length}
+use Rattle.dwz_unit.proofs.RowsFound.{rows-length}
 use Rattle.dwz_graph.specs.Rows.{AreTargets, node_refs}
 use Rattle.dwz_graph.proofs.PartLemmas.{part_meant}
 use Rattle.dwz_graph.specs.declared.file.File.{File}
@@ -25,11 +25,12 @@ use Rattle.dwz_graph.specs.declared.index.Starts.{Starts}
 use Rattle.dwz_graph.specs.Index.{Index}
 use Rattle.dwz_graph.specs.Names.{names_from}
 use Rattle.dwz_graph.proofs.TopLemmas.{get_later}
-use Rattle.dwz_layout_order.specs.Across.{IsFileAmong, name_at}
-use Rattle.dwz_layout_order.proofs.FileEntries.{names_entries}
-use Rattle.dwz_layout_order.proofs.FileWalk.{is_among}
-use Rattle.dwz_layout_numbers.specs.Images.{IsFile, starts_from}
-use Rattle.dwz_layout_numbers.specs.Names.{StandFrom, all_names}
+use Rattle.dwz_graph.specs.Across.{IsFileAmong, name_at}
+use Rattle.dwz_graph.proofs.FileEntries.{names_entries}
+use Rattle.dwz_graph.proofs.FileWalk.{is_among}
+use Rattle.dwz_layout_numbers.specs.Images.{IsFile}
+use Rattle.dwz_graph.specs.EntryCounts.{starts_from}
+use Rattle.dwz_graph.specs.AllNames.{StandFrom, all_names}
 use Rattle.dwz_layout_numbers.specs.Whole.{IsFileAt}
 use Rattle.dwz_layout_numbers.proofs.ReferenceLemmas.{reference_named}
 use Rattle.dwz_layout_numbers.proofs.WholeLemmas.{file_at}

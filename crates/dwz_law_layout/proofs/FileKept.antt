@@ -5,7 +5,7 @@ use Rattle.dwz_def_reading.specs.Documents.{Doc}
 use Rattle.dwz_def_reading.specs.Files.{around_of}
 use Rattle.dwz_def_reading.proofs.FileLemmas.{file_agrees}
 use Rattle.dwz_def_tops.specs.Spots.{file_numbers}
-use Rattle.dwz_def_plan.specs.Plan.{imports}
+use Rattle.dwz_def_images.specs.Plan.{imports}
 use Rattle.dwz_plan.specs.Planned.{Planned}
 use Rattle.dwz_plan.specs.Shows.{import_row}
 use Rattle.dwz_def_images.specs.Units.{changes}
@@ -14,9 +14,9 @@ use Rattle.dwz_graph.specs.declared.file.File.{File}
 use Rattle.dwz_graph.specs.Index.{Index}
 use Rattle.dwz_graph.specs.Names.{names_from}
 use Rattle.dwz_graph.proofs.TopNameLemmas.{read_whole}
-use Rattle.dwz_layout_order.specs.Across.{IsFileAmong, name_at}
-use Rattle.dwz_layout_order.proofs.FileEntries.{names_entries}
-use Rattle.dwz_layout_numbers.specs.Images.{starts_from}
+use Rattle.dwz_graph.specs.Across.{IsFileAmong, name_at}
+use Rattle.dwz_graph.proofs.FileEntries.{names_entries}
+use Rattle.dwz_graph.specs.EntryCounts.{starts_from}
 use Rattle.dwz_layout_order.specs.Kept.{AreKept, imports_at}
 use Rattle.dwz_layout_order.specs.Orders.{Entered, KeptShown}
 use Rattle.dwz_layout_order.specs.Shown.{IsFile, ShowsImports}

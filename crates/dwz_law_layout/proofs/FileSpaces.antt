@@ -17,8 +17,8 @@ use Rattle.dwz_layout_items.specs.declared.order.ItemKind.{ItemKind}
 use Rattle.dwz_layout_items.specs.declared.order.ItemKind.TheVariants.{Import, InChain, Root, Space as ASpaceOf, Top as ATopOf, Whole}
 use Rattle.dwz_layout_items.specs.declared.partial.SpaceRow.{SpaceRow}
 use Rattle.dwz_layout_items.specs.Chains.{Up, inner_at}
-use Rattle.dwz_def_plan.specs.Moves.{first_unit}
-use Rattle.dwz_def_plan.specs.Plan.{PartialUnit}
+use Rattle.dwz_def_images.specs.Moves.{first_unit}
+use Rattle.dwz_def_images.specs.Plan.{PartialUnit}
 use Rattle.dwz_layout_order.specs.Lists.{all_spaces, all_tops, spaces_at}
 use Rattle.dwz_layout_order.specs.Shown.{Pairs, RowsFrom, named_units}
 use Rattle.dwz_layout_order.specs.Spaces.{said_of, spaces_below, spaces_of}

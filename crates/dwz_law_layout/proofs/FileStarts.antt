@@ -10,7 +10,7 @@ use Rattle.dwz_graph.specs.declared.index.SpaceEntry.{SpaceEntry}
 use Rattle.dwz_graph.specs.declared.index.Starts.{Starts}
 use Rattle.dwz_graph.specs.Index.{Index}
 use Rattle.dwz_graph.specs.Indexed.{AreIndexed, first_starts, starts_behind}
-use Rattle.dwz_layout_order.specs.Across.{IsFileAmong, file_units}
+use Rattle.dwz_graph.specs.Across.{IsFileAmong, file_units}
 use Rattle.dwz_layout_order.specs.Shown.{IsNext, named_units, tops_in}
 use Rattle.dwz_layout_order.specs.Spaces.{spaces_of}
 use Rattle.dwz_layout_order.proofs.UnitRows.{spaces_append, tops_append}

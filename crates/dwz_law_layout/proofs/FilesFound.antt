@@ -14,12 +14,12 @@ use Rattle.dwz_graph.specs.declared.index.Starts.{Starts}
 use Rattle.dwz_graph.specs.Index.{Index}
 use Rattle.dwz_graph.proofs.TopLemmas.{get_cases, get_later}
 use Rattle.dwz_graph.specs.Indexed.{AreIndexed, first_starts, starts_behind}
-use Rattle.dwz_graph.proofs.RowLemmas.{found_in_map}
+use Rattle.dwz_unit.proofs.RowsFound.{found_in_map}
 use Rattle.dwz_unit.specs.Rows.{units_of as raw_units}
-use Rattle.dwz_layout_order.specs.Across.{IsFileAmong, file_units}
-use Rattle.dwz_layout_order.proofs.FileCounts.{are_many}
-use Rattle.dwz_layout_order.proofs.FileWalk.{is_among}
-use Rattle.dwz_layout_order.proofs.TopRows.{units_long}
+use Rattle.dwz_graph.specs.Across.{IsFileAmong, file_units}
+use Rattle.dwz_graph.proofs.FileCounts.{are_many}
+use Rattle.dwz_graph.proofs.FileWalk.{is_among}
+use Rattle.dwz_graph.proofs.TopRows.{units_long}
 use Rattle.dwz_layout_numbers.proofs.NumberingLemmas.{nth_get}
 use Rattle.dwz_layout_order.specs.Shown.{IsOther}
 use Rattle.dwz_law_layout.specs.Beside.{Beside}

@@ -18,8 +18,8 @@ use Rattle.dwz_graph.specs.declared.index.Starts.{Starts}
 use Rattle.dwz_graph.specs.Index.{Index}
 use Rattle.dwz_graph.proofs.TopLemmas.{get_later}
 use Rattle.dwz_graph.specs.Indexed.{AreIndexed, first_starts, starts_behind}
-use Rattle.dwz_layout_order.proofs.FileWalk.{is_among}
-use Rattle.dwz_layout_numbers.specs.Images.{starts_from}
+use Rattle.dwz_graph.proofs.FileWalk.{is_among}
+use Rattle.dwz_graph.specs.EntryCounts.{starts_from}
 use Rattle.dwz_layout_order.specs.Marks.{flag_at}
 use Rattle.dwz_layout_order.specs.declared.orders.Settled.{Settled}
 use Rattle.dwz_layout_order.specs.Ordered.{AreOrders, FilePut, FilesPut, FirstFile, PartsPut, from_index, next_index}

@@ -1,7 +1,7 @@
 -- The way of a value by the class of its form: row by row of the table of classes.
 use Rattle.std.proofs.Common.{◌≡◌, ℕ, ◌⊎◌, Bool, true, false, List, [], ◌∷◌, refl, sym, ap, ◌∙◌, cond, eqb, eqb-true, ne_eqb}
 use Rattle.std.proofs.Math.Logic.{inl, inr}
-use Rattle.dwz_model.specs.declared.place.Pair.{Pair}
+use Rattle.dwz_def_reading.specs.Pair.{Pair}
 use Rattle.dwz_def_reading.specs.Classes.{OfConstant, OfExpression, OfInfoEntry, OfTextBySlot, OfTextInLineStr, OfTextInStr, OfUnitEntry, Unread}
 use Rattle.dwz_def_reading.specs.Classes.{Class, ClassRow, class_in, class_of, class_rows}
 use Rattle.dwz_def_reading.specs.Classes.{names_file}

@@ -10,9 +10,9 @@ use Rattle.dwz_def_tops.specs.Shown.{keys, unit_keys, units_keys}
 use Rattle.dwz_def_tops.proofs.Members.{any_true, nth_of}
 use Rattle.dwz_def_tops.specs.Spots.{EntryName, Import, InChain, InType, PartialOf, PartialRoot, RootOf, SpaceAt, Top, UnitOf, Within, name_list, tops_of}
 use Rattle.dwz_graph.specs.Names.{top_in}
-use Rattle.dwz_def_plan.specs.Homes.{Common, Home, Local}
-use Rattle.dwz_def_plan.specs.Moves.{Move, image_in}
-use Rattle.dwz_def_plan.specs.Plan.{PartialUnit}
+use Rattle.dwz_def_images.specs.Homes.{Common, Home, Local}
+use Rattle.dwz_def_images.specs.Moves.{Move, image_in}
+use Rattle.dwz_def_images.specs.Plan.{PartialUnit}
 use Rattle.dwz_plan.specs.declared.plan.Home.{Home as Place}
 use Rattle.dwz_plan.specs.declared.plan.Home.TheVariants.{Common as InCommon, Local as InOwn, Stay as InUnit}
 use Rattle.dwz_plan.specs.ShowsMove.{HoldsAt, IsPlaceIn}

@@ -11,8 +11,8 @@ use Rattle.dwz_layout_items.specs.declared.order.Item.{Item}
 use Rattle.dwz_layout_items.specs.declared.order.ItemKind.{ItemKind}
 use Rattle.dwz_layout_items.specs.declared.order.ItemKind.TheVariants.{Import, InChain, Root, Space, Top as TopItem, Whole}
 use Rattle.dwz_layout_items.specs.Order.{Names}
-use Rattle.dwz_def_plan.specs.Homes.{Common, Local}
-use Rattle.dwz_def_plan.specs.Moves.{Move, image_in}
+use Rattle.dwz_def_images.specs.Homes.{Common, Local}
+use Rattle.dwz_def_images.specs.Moves.{Move, image_in}
 use Rattle.dwz_def_images.specs.Units.{changes, kept_unit, out_units}
 use Rattle.dwz_def_encoding.specs.Placing.{UnitForms}
 use Rattle.dwz_graph.specs.declared.file.File.{File}

@@ -15,7 +15,7 @@ use Rattle.dwz_layout_items.specs.declared.order.ItemKind.TheVariants.{Import as
 use Rattle.dwz_layout_items.specs.Lines.{Line, line, lines, row_lines}
 use Rattle.dwz_layout_items.specs.Order.{import_lines, order_lines}
 use Rattle.dwz_layout_items.specs.Outline.{View}
-use Rattle.dwz_def_plan.specs.Plan.{pinned_first, row_staying}
+use Rattle.dwz_def_images.specs.Plan.{pinned_first, row_staying}
 use Rattle.dwz_layout_order.specs.declared.marks.Marks.{Marks}
 use Rattle.dwz_layout_order.specs.declared.outline.Next.{Next}
 use Rattle.dwz_layout_order.specs.Kept.{IsKept, IsWhole}

@@ -10,7 +10,7 @@ use Rattle.dwz_def_tops.specs.Spots.{ASpace, ATop, EntryName, Nothing, Row, Spac
 use Rattle.dwz_graph.specs.Steps.{spaces_by, tops_by}
 use Rattle.dwz_layout_items.specs.Lines.{line, lines, row_lines}
 use Rattle.dwz_layout_items.specs.Outline.{ShowsRow, View}
-use Rattle.dwz_def_plan.specs.Plan.{Pinned, pinned_first, row_part, row_pinned, row_staying}
+use Rattle.dwz_def_images.specs.Plan.{Pinned, pinned_first, row_part, row_pinned, row_staying}
 use Rattle.dwz_layout_order.specs.declared.marks.Marks.{Marks}
 use Rattle.dwz_layout_order.specs.declared.outline.Next.{Next}
 use Rattle.dwz_layout_order.specs.Marks.{flag_at, mark_at}

@@ -5,13 +5,13 @@ use Rattle.dwz_def_reading.specs.Lists.{In}
 use Rattle.dwz_def_reading.specs.Documents.{DwUnit, Node}
 use Rattle.dwz_def_tops.specs.Shown.{unit_keys, units_keys}
 use Rattle.dwz_def_tops.specs.Spots.{EntryName, same_spot}
-use Rattle.dwz_def_plan.specs.Moves.{image_in}
+use Rattle.dwz_def_images.specs.Moves.{image_in}
 use Rattle.dwz_def_images.specs.Units.{changes, common_units, out_units}
 use Rattle.dwz_def_encoding.specs.Placing.{has_key}
 use Rattle.dwz_unit.specs.Rows.{EntryRow, Source, rows_of, units_of as raw_units}
 use Rattle.dwz_graph.specs.declared.file.File.{File}
 use Rattle.dwz_graph.specs.Index.{Index}
-use Rattle.dwz_layout_order.specs.Across.{name_at}
+use Rattle.dwz_graph.specs.Across.{name_at}
 use Rattle.dwz_layout_numbers.specs.Owners.{StandsIn}
 use Rattle.dwz_layout.specs.declared.known.FileRows.{FileRows}
 use Rattle.dwz_layout.specs.declared.known.EntryTable.{EntryTable}

@@ -75,3 +75,14 @@ pub mod FileKnown
 pub mod FilesKnown
 pub mod EntriesPlaced
 pub mod OrderOfRun
+pub mod CommonNames
+pub mod StandingRows
+pub mod OverFacts
+pub mod OverMoves
+pub mod OverWhole
+pub mod FilesShown
+pub mod RowsBehind
+pub mod OverPlaces
+pub mod OverOrder
+pub mod OverRoots
+pub mod Either

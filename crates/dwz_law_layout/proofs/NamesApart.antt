@@ -12,16 +12,15 @@ use Rattle.dwz_def_tops.specs.Seen.{IsPartial}
 use Rattle.dwz_def_tops.specs.Shown.{units_keys}
 use Rattle.dwz_def_tops.proofs.Members.{each_append, each_in, each_of, in_map_from}
 use Rattle.dwz_def_tops.specs.Spots.{EntryName, FileUnit, no_name, rows_of_root}
-use Rattle.dwz_def_plan.specs.Homes.{Common, Home, Local}
-use Rattle.dwz_def_plan.specs.Moves.{image_in}
-use Rattle.dwz_def_images.specs.After.{IsNamedBelow}
+use Rattle.dwz_def_images.specs.Homes.{Common, Home, Local}
+use Rattle.dwz_def_images.specs.Moves.{image_in}
+use Rattle.dwz_def_tops.specs.UnitNames.{IsNamedBelow}
 use Rattle.dwz_def_images.specs.Units.{common_units, kept_unit, kept_units, out_units, partial_unit, partial_units}
 use Rattle.dwz_def_encoding.specs.Placing.{FileOut, Forms, fit_unit, fit_units, with_keys}
 use Rattle.dwz_def_encoding.specs.Pruned.{renumbered_unit, renumbered_units}
-use Rattle.dwz_def_readback.specs.Files.{fitted_by, formed_by}
-use Rattle.dwz_def_readback.specs.Files.{CommonFile, common_fitted, common_forms, file_forms_by, file_out_by, fitted_if_by, sources, uses_by}
+use Rattle.dwz_def_readback.specs.Files.{fitted_by, formed_by, CommonFile, common_fitted, common_forms, file_forms_by, file_out_by, fitted_if_by, sources, uses_by}
 use Rattle.dwz_def_readback.proofs.HomeLemmas.{kept_from, parts_from}
-use Rattle.dwz_layout_numbers.specs.Names.{all_names}
+use Rattle.dwz_graph.specs.AllNames.{all_names}
 use Rattle.dwz_layout_numbers.proofs.OnceNames.{no_unit, one_entry}
 use Rattle.dwz_layout.specs.declared.known.EntryTable.{EntryTable}
 use Rattle.dwz_layout.specs.declared.order.UnitItems.{UnitItems}

@@ -6,7 +6,7 @@ use Rattle.dwz_def_reading.proofs.ListFacts.{got_below}
 use Rattle.dwz_def_reading.specs.Documents.{Compile, DwUnit, Kind, OfType, Partial}
 use Rattle.dwz_def_tops.specs.Spots.{EntryName, UnitOf}
 use Rattle.dwz_def_encoding.specs.Placing.{FileOut}
-use Rattle.dwz_layout_numbers.specs.Names.{all_names}
+use Rattle.dwz_graph.specs.AllNames.{all_names}
 use Rattle.dwz_layout.specs.declared.known.EntryTable.{EntryTable}
 use Rattle.dwz_layout.specs.declared.order.Sort.{Sort}
 use Rattle.dwz_layout.specs.declared.order.Sort.TheVariants.{Compile as CompileSort, OfType as TypeSort, Partial as PartialSort}

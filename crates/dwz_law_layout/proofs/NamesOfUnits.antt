@@ -8,9 +8,10 @@ use Rattle.dwz_def_tops.specs.Spots.{EntryName, FileUnit, Row, rows_of_root, uni
 use Rattle.dwz_def_tops.specs.Seen.{IsPartial}
 use Rattle.dwz_def_tops.specs.Shown.{units_keys}
 use Rattle.dwz_def_tops.proofs.Members.{From, in_map_from}
-use Rattle.dwz_def_plan.specs.Homes.{Rule}
-use Rattle.dwz_def_plan.specs.Moves.{Move, image_in}
-use Rattle.dwz_def_images.specs.After.{AreAfter, AreOld, ArePlaced, IsKeptUnit, IsNamedBelow, IsNamedUnit, IsNewUnit}
+use Rattle.dwz_def_images.specs.Homes.{Rule}
+use Rattle.dwz_def_images.specs.Moves.{Move, image_in}
+use Rattle.dwz_def_images.specs.After.{AreAfter, AreOld, ArePlaced, IsKeptUnit, IsNewUnit}
+use Rattle.dwz_def_tops.specs.UnitNames.{IsNamedBelow, IsNamedUnit}
 use Rattle.dwz_def_images.specs.Units.{all_units, common_units, file_units, out_units}
 use Rattle.dwz_def_images.proofs.FileLemmas.{files_are}
 use Rattle.dwz_def_images.proofs.OldFiles.{files_old}
@@ -18,8 +19,7 @@ use Rattle.dwz_def_images.proofs.OutLemmas.{all_outs}
 use Rattle.dwz_def_encoding.specs.Placing.{FileOut, Forms, fit_unit, fit_units, with_keys}
 use Rattle.dwz_def_encoding.specs.Pruned.{renumbered_unit, renumbered_units}
 use Rattle.dwz_def_readback.specs.Back.{run_of}
-use Rattle.dwz_def_readback.specs.Files.{fitted_by, formed_by}
-use Rattle.dwz_def_readback.specs.Files.{Run, Stored, common_fitted, common_forms, file_forms, file_out, files_out, fitted, fitted_if, formed, sources, uses}
+use Rattle.dwz_def_readback.specs.Files.{fitted_by, formed_by, Run, Stored, common_fitted, common_forms, file_forms, file_out, files_out, fitted, fitted_if, formed, sources, uses}
 use Rattle.dwz_law_layout.specs.Apart.{IsUnitName, UnitNamed}
 
 -- the name of a unit, its kind, and the name of its root

@@ -9,10 +9,10 @@ use Rattle.dwz_def_tops.proofs.Members.{each_in, nth_in}
 use Rattle.dwz_def_tops.proofs.OnceLemmas.{none_both, none_right}
 use Rattle.dwz_def_tops.specs.Spots.{EntryName, FileUnit, UnitOf, file_numbers, units_of}
 use Rattle.dwz_def_tops.proofs.Tops.{unit_of}
-use Rattle.dwz_def_plan.specs.Homes.{Common, Home, Local, Rule}
-use Rattle.dwz_def_plan.specs.Moves.{Move, plan}
-use Rattle.dwz_def_plan.specs.IsPlan.{IsPart}
-use Rattle.dwz_def_plan.proofs.PlanLemmas.{are_parts}
+use Rattle.dwz_def_images.specs.Homes.{Common, Home, Local, Rule}
+use Rattle.dwz_def_images.specs.Moves.{Move, plan}
+use Rattle.dwz_def_images.specs.IsPlan.{IsPart}
+use Rattle.dwz_def_images.proofs.PlanLemmas.{are_parts}
 use Rattle.dwz_def_images.specs.Units.{all_units, common_units, file_units, kept_unit, kept_units, out_units, partial_units}
 use Rattle.dwz_def_images.specs.After.{AreOld, ArePlaced}
 use Rattle.dwz_def_images.proofs.ApartUnits.{all_apart}

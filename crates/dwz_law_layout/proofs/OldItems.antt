@@ -20,8 +20,8 @@ use Rattle.dwz_graph.specs.Steps.{is_space, spaces_by, tops_by}
 use Rattle.dwz_layout_items.specs.declared.order.Item.{Item}
 use Rattle.dwz_layout_items.specs.declared.order.ItemKind.{ItemKind}
 use Rattle.dwz_layout_items.specs.declared.order.ItemKind.TheVariants.{Import as Imported, InChain as Chained, Root, Space as ASpaceOf, Top as ATopOf, Whole}
-use Rattle.dwz_def_plan.specs.Moves.{Move}
-use Rattle.dwz_def_plan.specs.Plan.{PartialUnit, import_of, imports, pinned_of}
+use Rattle.dwz_def_images.specs.Moves.{Move}
+use Rattle.dwz_def_images.specs.Plan.{PartialUnit, import_of, imports, pinned_of}
 use Rattle.dwz_layout.specs.declared.order.UnitItems.{UnitItems}
 use Rattle.dwz_plan.specs.Shows.{import_row}
 use Rattle.dwz_layout_order.specs.declared.marks.Marks.{Marks}

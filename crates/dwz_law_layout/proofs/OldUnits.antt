@@ -18,8 +18,8 @@ use Rattle.dwz_graph.proofs.TopNameLemmas.{read_whole}
 use Rattle.dwz_graph.proofs.TopLemmas.{get_later}
 use Rattle.dwz_unit.specs.Rows.{rows_from, rows_in, rows_of, units_of as raw_units}
 use Rattle.dwz_unit.proofs.ShownLemmas.{rows_in-length}
-use Rattle.dwz_layout_order.specs.Across.{IsFileAmong, file_units}
-use Rattle.dwz_layout_numbers.specs.Images.{starts_from}
+use Rattle.dwz_graph.specs.Across.{IsFileAmong, file_units}
+use Rattle.dwz_graph.specs.EntryCounts.{starts_from}
 use Rattle.dwz_layout_order.specs.declared.marks.Marks.{Marks}
 use Rattle.dwz_layout_order.specs.declared.outline.Next.{Next}
 use Rattle.dwz_layout_order.specs.Kept.{AreKept, From, behind_from, behind_unit}

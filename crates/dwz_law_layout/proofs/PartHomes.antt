@@ -9,9 +9,9 @@ use Rattle.dwz_def_reading.specs.Documents.{Attr, Doc, DwUnit, Plain, first_name
 use Rattle.dwz_def_tops.specs.Lists.{Nth}
 use Rattle.dwz_def_tops.proofs.Members.{any_from, any_true, nth_one}
 use Rattle.dwz_def_tops.specs.Spots.{EntryName, FileUnit, PartialOf, Top, file_numbers, tops_of}
-use Rattle.dwz_def_plan.specs.Homes.{Common, Home, Local, Stay, is_home, same_home}
-use Rattle.dwz_def_plan.specs.Moves.{first_unit, line_attr, line_attrs, line_in, line_of, names_path, root_of}
-use Rattle.dwz_def_plan.specs.Plan.{PartialUnit}
+use Rattle.dwz_def_images.specs.Homes.{Common, Home, Local, Stay, is_home, same_home}
+use Rattle.dwz_def_images.specs.Moves.{first_unit, line_attr, line_attrs, line_in, line_of, names_path, root_of}
+use Rattle.dwz_def_images.specs.Plan.{PartialUnit}
 use Rattle.dwz_plan.specs.Planned.{file_of_home}
 use Rattle.dwz_def_images.specs.Units.{changes, common_units, kept_units, out_units, partial_unit, partial_units}
 use Rattle.dwz_def_images.proofs.FileLemmas.{files_are}

@@ -11,8 +11,8 @@ use Rattle.dwz_layout_items.specs.declared.order.ItemKind.TheVariants.{Import, I
 use Rattle.dwz_layout_items.specs.declared.partial.SpaceRow.{SpaceRow as RowOfSpace}
 use Rattle.dwz_layout_items.specs.declared.partial.TopSpaces.{TopSpaces}
 use Rattle.dwz_layout_items.specs.Order.{Names}
-use Rattle.dwz_def_plan.specs.Moves.{first_unit, image_in}
-use Rattle.dwz_def_plan.specs.Plan.{PartialUnit}
+use Rattle.dwz_def_images.specs.Moves.{first_unit, image_in}
+use Rattle.dwz_def_images.specs.Plan.{PartialUnit}
 use Rattle.dwz_def_images.specs.Units.{partial_unit}
 use Rattle.dwz_def_encoding.specs.Placing.{KeyedForms, UnitForms, unit_forms}
 use Rattle.dwz_graph.specs.declared.file.File.{File}

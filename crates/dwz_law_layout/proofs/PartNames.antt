@@ -10,8 +10,8 @@ use Rattle.dwz_def_tops.specs.Spots.{EntryName, FileUnit, Top, no_name, tops_of}
 use Rattle.dwz_def_tops.proofs.TopNumbers.{finds, tops_numbers}
 use Rattle.dwz_layout_items.specs.Chains.{NamesPartial}
 use Rattle.dwz_layout_items.specs.Order.{Names}
-use Rattle.dwz_def_plan.specs.Moves.{Move, image_in}
-use Rattle.dwz_def_plan.specs.Plan.{space_entry}
+use Rattle.dwz_def_images.specs.Moves.{Move, image_in}
+use Rattle.dwz_def_images.specs.Plan.{space_entry}
 use Rattle.dwz_def_images.specs.Units.{partial_root}
 use Rattle.dwz_layout_order.specs.Named.{NamesAll, NamesSpace, NamesTop}
 use Rattle.dwz_layout_order.specs.Spaces.{said_of, spaces_of}

@@ -6,17 +6,17 @@ use Rattle.dwz_def_tops.proofs.Members.{each_in, nth_in}
 use Rattle.dwz_def_tops.specs.Spots.{EntryName, FileUnit, Top, tops_of}
 use Rattle.dwz_def_tops.proofs.Tops.{tops_rise, unit_of}
 use Rattle.dwz_def_tops.proofs.TopOrder.{units_rise}
-use Rattle.dwz_def_plan.specs.Homes.{Rule, is_home, moves, rep, users}
-use Rattle.dwz_def_plan.specs.IsPlan.{IsPart}
-use Rattle.dwz_def_plan.specs.Moves.{first_unit, plan}
-use Rattle.dwz_def_plan.specs.Plan.{PartialUnit, partials}
-use Rattle.dwz_def_plan.proofs.PlanLemmas.{are_parts}
-use Rattle.dwz_def_plan.proofs.UserLemmas.{Fair as IsFair, move_stand, moves_self, rep_is, used, used_by}
+use Rattle.dwz_def_images.specs.Homes.{Rule, is_home, moves, rep, users}
+use Rattle.dwz_def_images.specs.IsPlan.{IsPart}
+use Rattle.dwz_def_images.specs.Moves.{first_unit, plan}
+use Rattle.dwz_def_images.specs.Plan.{PartialUnit, partials}
+use Rattle.dwz_def_images.proofs.PlanLemmas.{are_parts}
+use Rattle.dwz_def_images.proofs.UserLemmas.{Fair as IsFair, move_stand, moves_self, rep_is, used, used_by}
 use Rattle.dwz_def_readback.proofs.OriginLemmas.{first_there, ordered}
-use Rattle.dwz_def_plan.specs.Fair.{Fair}
+use Rattle.dwz_def_images.specs.Fair.{Fair}
 use Rattle.dwz_law_layout.specs.Moving.{MovesFrom}
 use Rattle.dwz_law_layout.specs.New.{TopUnitLaw}
-use Rattle.dwz_def_plan.proofs.FairLemmas.{is_fair}
+use Rattle.dwz_def_images.proofs.FairLemmas.{is_fair}
 
 -- ---- the tops of a partial unit
 

@@ -7,8 +7,8 @@ use Rattle.dwz_def_tops.specs.Spots.{Top, Within}
 use Rattle.dwz_layout_items.specs.declared.order.Item.{Item}
 use Rattle.dwz_layout_items.specs.declared.order.ItemKind.{ItemKind}
 use Rattle.dwz_layout_items.specs.declared.order.ItemKind.TheVariants.{Import, InChain, Root, Space, Top as ATopOf, Whole}
-use Rattle.dwz_def_plan.specs.Moves.{image_in}
-use Rattle.dwz_def_plan.specs.Plan.{PartialUnit}
+use Rattle.dwz_def_images.specs.Moves.{image_in}
+use Rattle.dwz_def_images.specs.Plan.{PartialUnit}
 use Rattle.dwz_graph.specs.declared.file.File.{File}
 use Rattle.dwz_graph.specs.Index.{Index}
 use Rattle.dwz_unit.specs.Rows.{EntryRow}

@@ -6,12 +6,12 @@ use Rattle.dwz_def_tops.specs.Lists.{Nth, Rising}
 use Rattle.dwz_def_tops.proofs.Members.{each_in, in_map_from, nth_in, nth_of}
 use Rattle.dwz_def_tops.specs.Spots.{EntryName, FileUnit, Top, tops_of}
 use Rattle.dwz_def_tops.proofs.Tops.{one_top}
-use Rattle.dwz_def_plan.specs.Homes.{Common, Home, Local, Rule, Stay, candidate, home, is_home, moves, rep, users}
-use Rattle.dwz_def_plan.specs.IsPlan.{IsHome, IsPart}
-use Rattle.dwz_def_plan.specs.Plan.{PartialUnit, partials}
-use Rattle.dwz_def_plan.proofs.HomeLemmas.{file_at, home_is}
-use Rattle.dwz_def_plan.proofs.PlanLemmas.{are_parts, one_place}
-use Rattle.dwz_def_plan.proofs.UserLemmas.{moving, stay_fixed}
+use Rattle.dwz_def_images.specs.Homes.{Common, Home, Local, Rule, Stay, candidate, home, is_home, moves, rep, users}
+use Rattle.dwz_def_images.specs.IsPlan.{IsHome, IsPart}
+use Rattle.dwz_def_images.specs.Plan.{PartialUnit, partials}
+use Rattle.dwz_def_images.proofs.HomeLemmas.{file_at, home_is}
+use Rattle.dwz_def_images.proofs.PlanLemmas.{are_parts, one_place}
+use Rattle.dwz_def_images.proofs.UserLemmas.{moving, stay_fixed}
 use Rattle.dwz_plan.specs.declared.plan.Home.{Home as Place}
 use Rattle.dwz_plan.specs.declared.plan.Home.TheVariants.{Common as InCommon, Local as InFile, Stay as InUnit}
 use Rattle.dwz_plan.specs.Planned.{Planned, place_at}

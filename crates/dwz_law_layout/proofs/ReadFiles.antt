@@ -16,7 +16,7 @@ use Rattle.dwz_unit.specs.Rows.{EntryRow, rows_of, units_of}
 use Rattle.dwz_graph.specs.declared.file.File.{File}
 use Rattle.dwz_graph.specs.Files.{AreKept, AreRead, HasFile, HasRead, docs_of}
 use Rattle.dwz_graph.proofs.GraphLemmas.{files_read}
-use Rattle.dwz_layout_order.proofs.FileWalk.{first_doc}
+use Rattle.dwz_graph.proofs.FileWalk.{first_doc}
 use Rattle.dwz_law_layout.proofs.RowsStored.{rows_stored}
 use Rattle.dwz_law_layout.specs.Beside.{Beside}
 use Rattle.dwz_law_layout.specs.Facts.{AreFacts, RunFacts, docs}

@@ -7,7 +7,7 @@ use Rattle.dwz_def_reading.specs.Lists.{Each, In}
 use Rattle.dwz_def_reading.proofs.ListFacts.{got_in}
 use Rattle.dwz_def_reading.specs.Documents.{Doc}
 use Rattle.dwz_def_tops.specs.Spots.{EntryName, PartialOf, UnitOf}
-use Rattle.dwz_def_plan.specs.Homes.{Rule}
+use Rattle.dwz_def_images.specs.Homes.{Rule}
 use Rattle.dwz_def_images.specs.After.{ArePlaced}
 use Rattle.dwz_def_encoding.specs.Placing.{FileOut}
 use Rattle.dwz_def_readback.specs.Back.{run_of}
@@ -15,7 +15,7 @@ use Rattle.dwz_def_readback.specs.Files.{Stored, files_out}
 use Rattle.dwz_layout.specs.declared.known.EntryTable.{EntryTable}
 use Rattle.dwz_layout.specs.declared.order.UnitItems.{UnitItems}
 use Rattle.dwz_encode.specs.Shown.{Keys}
-use Rattle.dwz_layout_numbers.specs.Names.{all_names}
+use Rattle.dwz_graph.specs.AllNames.{all_names}
 use Rattle.dwz_layout_numbers.proofs.OnceNames.{one_entry}
 use Rattle.dwz_law_layout.specs.Refers.{IsEntryNumber, RowsApart}
 use Rattle.dwz_law_layout.specs.Apart.{KeysOfNames, IsEntryName, IsUnitName}

@@ -13,7 +13,7 @@ use Rattle.dwz_def_reading.specs.Values.{AreBytes, SpellsValue}
 use Rattle.dwz_def_reading.proofs.WrittenLemmas.{front_bytes}
 use Rattle.dwz_def_reading.specs.Meanings.{without_siblings}
 use Rattle.dwz_def_reading.proofs.StandLemmas.{bytes_right}
-use Rattle.dwz_model.specs.declared.place.Pair.{Pair}
+use Rattle.dwz_def_reading.specs.Pair.{Pair}
 use Rattle.dwz_def_tops.proofs.Members.{each_append}
 use Rattle.dwz_unit.specs.Rows.{EntryRow, rows_below, rows_from, rows_in, rows_of}
 use Rattle.dwz_def_encoding.specs.Carried.{IsStored}

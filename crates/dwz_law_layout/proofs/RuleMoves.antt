@@ -4,17 +4,17 @@ use Rattle.dwz_def_reading.specs.Lists.{In}
 use Rattle.dwz_def_tops.specs.Lists.{Nth}
 use Rattle.dwz_def_tops.proofs.Members.{in_map_from, nth_of}
 use Rattle.dwz_def_tops.specs.Spots.{EntryName, FileUnit, Top, tops_of}
-use Rattle.dwz_def_plan.specs.Homes.{Local, Rule, home, moves, rep, users}
-use Rattle.dwz_def_plan.specs.IsPlan.{IsHome}
-use Rattle.dwz_def_plan.specs.Moves.{root_in_part}
-use Rattle.dwz_def_plan.specs.Plan.{partials, stand_in}
-use Rattle.dwz_def_plan.proofs.HomeLemmas.{file_of_top, home_is}
-use Rattle.dwz_def_plan.proofs.UserLemmas.{Fair as IsFair, home_same, move_stand, moves_same, moves_self, moving, rep_is, stands_same, stay_fixed, used}
+use Rattle.dwz_def_images.specs.Homes.{Local, Rule, home, moves, rep, users}
+use Rattle.dwz_def_images.specs.IsPlan.{IsHome}
+use Rattle.dwz_def_images.specs.Moves.{root_in_part}
+use Rattle.dwz_def_images.specs.Plan.{partials, stand_in}
+use Rattle.dwz_def_images.proofs.HomeLemmas.{file_of_top, home_is}
+use Rattle.dwz_def_images.proofs.UserLemmas.{Fair as IsFair, home_same, move_stand, moves_same, moves_self, moving, rep_is, stands_same, stay_fixed, used}
 use Rattle.dwz_plan.specs.ShowsMove.{HoldsAt}
 use Rattle.dwz_def_images.proofs.HeldLemmas.{part_found, row_found}
-use Rattle.dwz_def_plan.specs.Fair.{Fair}
+use Rattle.dwz_def_images.specs.Fair.{Fair}
 use Rattle.dwz_law_layout.specs.Moving.{MovesSoLaw}
-use Rattle.dwz_def_plan.proofs.FairLemmas.{is_fair}
+use Rattle.dwz_def_images.proofs.FairLemmas.{is_fair}
 use Rattle.dwz_law_layout.proofs.PartUnits.{first_uses, part_is, part_tops}
 use Rattle.dwz_law_layout.proofs.Places.{used_homes}
 

@@ -11,7 +11,7 @@ use Rattle.dwz_def_tops.specs.Lists.{Nth}
 use Rattle.dwz_def_tops.specs.Spaces.{space_text}
 use Rattle.dwz_def_tops.proofs.SpaceLemmas.{text_map}
 use Rattle.dwz_def_tops.specs.Spots.{EntryName, FileUnit, in_file, name_of, named_files}
-use Rattle.dwz_def_plan.specs.Moves.{image_in}
+use Rattle.dwz_def_images.specs.Moves.{image_in}
 use Rattle.dwz_graph.specs.declared.file.File.{File}
 use Rattle.dwz_graph.specs.declared.index.SpaceEntry.{SpaceEntry}
 use Rattle.dwz_graph.specs.declared.index.Starts.{Starts}
@@ -20,7 +20,7 @@ use Rattle.dwz_graph.proofs.TopLemmas.{get_cases, get_later}
 use Rattle.dwz_graph.specs.Indexed.{AreIndexed, first_starts, starts_behind}
 use Rattle.dwz_unit.specs.Rows.{EntryRow, units_of as raw_units}
 use Rattle.dwz_graph.proofs.TopThere.{named_same}
-use Rattle.dwz_layout_order.specs.Across.{IsFileAmong, file_units}
+use Rattle.dwz_graph.specs.Across.{IsFileAmong, file_units}
 use Rattle.dwz_layout_numbers.proofs.NumberingLemmas.{nth_get}
 use Rattle.dwz_layout_order.specs.Shown.{Pairs}
 use Rattle.dwz_layout_order.specs.Spaces.{name_in, spaces_below, spaces_of, name_by as name_with}

@@ -16,7 +16,7 @@ use Rattle.dwz_def_tops.proofs.Members.{each_append}
 use Rattle.dwz_def_tops.specs.Spots.{EntryName, FileUnit, Labelled, Within, tops_of}
 use Rattle.dwz_graph.proofs.TopThere.{left_behind}
 use Rattle.dwz_graph.proofs.TreeLemmas.{parts}
-use Rattle.dwz_def_plan.specs.Moves.{Move, image_in}
+use Rattle.dwz_def_images.specs.Moves.{Move, image_in}
 use Rattle.dwz_unit.specs.Rows.{EntryRow, rows_below, rows_of}
 use Rattle.dwz_unit.proofs.RowLemmas.{shown-length}
 use Rattle.dwz_layout.specs.declared.known.EntryTable.{EntryTable}

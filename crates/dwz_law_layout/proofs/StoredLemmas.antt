@@ -8,7 +8,7 @@ use Rattle.dwz_def_reading.specs.Values.{Bytes, Number, SpellsValue, constant_of
 use Rattle.dwz_def_reading.proofs.WrittenLemmas.{same_shape}
 use Rattle.dwz_def_reading.specs.Meanings.{bytes_of, number_of}
 use Rattle.dwz_def_reading.specs.Classes.{Class, class_of, class_rows}
-use Rattle.dwz_model.specs.declared.place.Pair.{Pair}
+use Rattle.dwz_def_reading.specs.Pair.{Pair}
 use Rattle.dwz_def_encoding.specs.Carried.{IsStored}
 use Rattle.dwz_def_encoding.proofs.StoredClasses.{class_agrees, is_bytes, is_number, rows_agree, stores_bytes}
 use Rattle.dwz_def_encoding.proofs.Carrying.{implicit_is}

@@ -18,7 +18,7 @@ use Rattle.dwz_graph.proofs.TopThere.{left_behind}
 use Rattle.dwz_graph.proofs.TreeLemmas.{parts}
 use Rattle.dwz_graph.specs.declared.file.File.{File}
 use Rattle.dwz_graph.specs.Index.{Index}
-use Rattle.dwz_layout_order.specs.Across.{name_at}
+use Rattle.dwz_graph.specs.Across.{name_at}
 use Rattle.dwz_unit.specs.Rows.{EntryRow, rows_below, rows_of, units_of as raw_units}
 use Rattle.dwz_unit.proofs.RowLemmas.{shown-length}
 use Rattle.dwz_layout.specs.declared.known.EntryTable.{EntryTable}

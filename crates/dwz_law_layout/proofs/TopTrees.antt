@@ -8,18 +8,18 @@ use Rattle.dwz_def_reading.proofs.ListFacts.{got_in, got_there, same_got}
 use Rattle.dwz_def_reading.specs.Documents.{entries_map, node_map}
 use Rattle.dwz_def_tops.specs.Spots.{Top, tops_of}
 use Rattle.dwz_def_tops.proofs.TopNumbers.{number_below, one_top, tops_numbers}
-use Rattle.dwz_def_plan.specs.Moves.{image_in}
+use Rattle.dwz_def_images.specs.Moves.{image_in}
 use Rattle.dwz_graph.specs.declared.file.File.{File}
 use Rattle.dwz_graph.specs.declared.index.TopEntry.{TopEntry}
 use Rattle.dwz_graph.specs.Index.{Index}
 use Rattle.dwz_graph.specs.Indexed.{first_starts}
-use Rattle.dwz_graph.proofs.RowLemmas.{rows-length}
+use Rattle.dwz_unit.proofs.RowsFound.{rows-length}
 use Rattle.dwz_unit.specs.declared.rows.RawEntry.{RawEntry as EntryOfCode}
 use Rattle.dwz_unit.specs.Rows.{entry_shown, rows_of, shown_entries, units_of as raw_units}
-use Rattle.dwz_layout_order.specs.Across.{IsFileAmong, IsTopOf}
-use Rattle.dwz_layout_order.proofs.FileCounts.{found}
-use Rattle.dwz_layout_order.proofs.FileEntries.{gives_top}
-use Rattle.dwz_layout_order.proofs.FileWalk.{is_among}
+use Rattle.dwz_graph.specs.Across.{IsFileAmong, IsTopOf}
+use Rattle.dwz_graph.proofs.FileCounts.{found}
+use Rattle.dwz_graph.proofs.FileEntries.{gives_top}
+use Rattle.dwz_graph.proofs.FileWalk.{is_among}
 use Rattle.dwz_layout.specs.declared.known.EntryTable.{EntryTable}
 use Rattle.dwz_layout.specs.Entries.{row}
 use Rattle.dwz_layout.specs.Known.{no_row, top_row}

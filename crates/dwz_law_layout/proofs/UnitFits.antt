@@ -4,15 +4,14 @@ use Rattle.std.proofs.lemmas.List.{map-append}
 use Rattle.dwz_def_reading.specs.Trees.{End, Entry}
 use Rattle.dwz_def_reading.specs.Values.{Number}
 use Rattle.dwz_def_reading.specs.Documents.{Attr, Compile as CompileKind, DwUnit, Entries, Kind, Node, OfType as TypeKind, Partial as PartialKind, Plain, ref}
-use Rattle.dwz_def_reading.specs.Classes.{OfInfoEntry, OfOffset}
-use Rattle.dwz_def_reading.specs.Classes.{Class, class_in, class_of, class_rows}
+use Rattle.dwz_def_reading.specs.Classes.{OfInfoEntry, OfOffset, Class, class_in, class_of, class_rows}
 use Rattle.dwz_def_tops.specs.Spots.{EntryName, name_of}
 use Rattle.dwz_layout_items.specs.declared.order.Item.{Item}
 use Rattle.dwz_layout_items.specs.declared.order.ItemKind.{ItemKind}
 use Rattle.dwz_layout_items.specs.declared.order.ItemKind.TheVariants.{Import, InChain, Root, Space, Top, Whole}
 use Rattle.dwz_layout_items.specs.Lines.{Line, line, lines, unit_lines}
 use Rattle.dwz_layout_items.specs.Order.{Names, ShowsUnit as ShowsOrder, order_lines, what_lines}
-use Rattle.dwz_def_plan.specs.Moves.{line_attr}
+use Rattle.dwz_def_images.specs.Moves.{line_attr}
 use Rattle.dwz_def_reading.specs.Lists.{Each}
 use Rattle.dwz_def_tops.proofs.Members.{each_split}
 use Rattle.dwz_def_tops.specs.Spaces.{space_text}

@@ -7,8 +7,8 @@ use Rattle.dwz_def_tops.specs.Spots.{EntryName, FileUnit, Top, tops_of}
 use Rattle.dwz_def_tops.proofs.TopNumbers.{top_there}
 use Rattle.dwz_layout_items.specs.Order.{Names}
 use Rattle.dwz_layout_items.specs.Shows.{NamesKept}
-use Rattle.dwz_def_plan.specs.Moves.{Move, image_in}
-use Rattle.dwz_def_plan.specs.Plan.{import_of}
+use Rattle.dwz_def_images.specs.Moves.{Move, image_in}
+use Rattle.dwz_def_images.specs.Plan.{import_of}
 use Rattle.dwz_layout_order.specs.Named.{NamesAll, NamesSpace, NamesTop}
 use Rattle.dwz_layout_order.specs.Spaces.{spaces_of}
 use Rattle.dwz_layout_order.proofs.SpaceNumbers.{numbered_by}

@@ -14,9 +14,10 @@ use Rattle.dwz_def_tops.specs.Shown.{keys as places_below}
 use Rattle.dwz_def_tops.proofs.Members.{nth_in}
 use Rattle.dwz_def_reading.proofs.HasLemmas.{in_has}
 use Rattle.dwz_def_tops.specs.Spots.{EntryName, FileUnit, InType, Labelled, RootOf, in_file, rows_of_root as tops_row}
-use Rattle.dwz_def_plan.specs.Moves.{image_in}
-use Rattle.dwz_def_plan.specs.Plan.{image_by}
-use Rattle.dwz_def_images.specs.After.{AreOld, IsNamedBelow}
+use Rattle.dwz_def_images.specs.Moves.{image_in}
+use Rattle.dwz_def_images.specs.Plan.{image_by}
+use Rattle.dwz_def_images.specs.After.{AreOld}
+use Rattle.dwz_def_tops.specs.UnitNames.{IsNamedBelow}
 use Rattle.dwz_def_images.proofs.ApartTrees.{behind}
 use Rattle.dwz_def_images.proofs.OldFiles.{files_old}
 use Rattle.dwz_graph.specs.Resolved.{place_at}
@@ -24,7 +25,7 @@ use Rattle.dwz_graph.specs.declared.file.File.{File}
 use Rattle.dwz_graph.specs.Index.{Index}
 use Rattle.dwz_unit.specs.Rows.{EntryRow, rows_in, rows_of, units_of as raw_units}
 use Rattle.dwz_graph.proofs.TopThere.{alone_means}
-use Rattle.dwz_layout_order.specs.Across.{IsFileAmong}
+use Rattle.dwz_graph.specs.Across.{IsFileAmong}
 use Rattle.dwz_layout_order.specs.Sorts.{SortBy, SortOf, row_of}
 use Rattle.dwz_layout.specs.declared.known.EntryTable.{EntryTable}
 use Rattle.dwz_layout.specs.declared.order.Sort.{Sort}

@@ -10,9 +10,9 @@ use Rattle.dwz_def_tops.specs.Lists.{Nth}
 use Rattle.dwz_def_tops.proofs.Members.{nth_of}
 use Rattle.dwz_def_tops.specs.Spots.{EntryName, FileUnit, PartialOf, UnitOf}
 use Rattle.dwz_graph.proofs.TopLemmas.{get_cases}
-use Rattle.dwz_def_plan.specs.Homes.{Common, Home, Local, same_home}
-use Rattle.dwz_def_plan.specs.Moves.{Move}
-use Rattle.dwz_def_plan.specs.Plan.{PartialUnit}
+use Rattle.dwz_def_images.specs.Homes.{Common, Home, Local, same_home}
+use Rattle.dwz_def_images.specs.Moves.{Move}
+use Rattle.dwz_def_images.specs.Plan.{PartialUnit}
 use Rattle.dwz_def_images.specs.Units.{changes, common_units, kept_unit, kept_units, out_units, partial_unit, partial_units}
 use Rattle.dwz_def_encoding.specs.Placing.{CommonUnit, holder_of}
 use Rattle.dwz_def_readback.proofs.WithinLemmas.{kept_to}

@@ -14,11 +14,11 @@ use Rattle.dwz_def_tops.specs.Deciding.{same_bool}
 use Rattle.dwz_def_tops.specs.Spots.{EntryName, FileUnit, PartialRoot, file_numbers, same_spot}
 use Rattle.dwz_def_tops.proofs.FileNumbers.{numbers_long}
 use Rattle.dwz_graph.proofs.TopLemmas.{get_cases}
-use Rattle.dwz_def_plan.specs.Homes.{Common, Local}
-use Rattle.dwz_def_plan.specs.Moves.{Move}
-use Rattle.dwz_def_plan.specs.Plan.{PartialUnit}
+use Rattle.dwz_def_images.specs.Homes.{Common, Local}
+use Rattle.dwz_def_images.specs.Moves.{Move}
+use Rattle.dwz_def_images.specs.Plan.{PartialUnit}
 use Rattle.dwz_def_images.specs.Units.{changes, common_units, kept_units, out_units, partial_unit, partial_units}
-use Rattle.dwz_def_images.proofs.ApartOwn.{keys_joined}
+use Rattle.dwz_def_tops.proofs.UnitKeys.{keys_joined}
 use Rattle.dwz_def_encoding.specs.Placing.{has_key}
 use Rattle.dwz_def_readback.proofs.WithinLemmas.{parts_to}
 use Rattle.dwz_layout_numbers.specs.Owners.{IsFileWritten, StandsIn, files_written}

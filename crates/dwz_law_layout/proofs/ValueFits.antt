@@ -13,12 +13,11 @@ use Rattle.dwz_def_reading.specs.Classes.{Class}
 use Rattle.dwz_def_reading.specs.Meanings.{MeaningContext, bytes_of}
 use Rattle.dwz_def_reading.specs.Classes.{OfInfoEntry, OfListIndex, OfOffset, OfSignature, OfText, OfTextBySlot, OfTextInLineStr, OfTextInStr, OfUnitEntry, Unread}
 use Rattle.dwz_def_reading.specs.Classes.{class_in}
-use Rattle.dwz_def_reading.specs.Meant.{attr_with}
+use Rattle.dwz_def_reading.specs.Meant.{attr_with, meaning}
 use Rattle.dwz_def_reading.specs.Meanings.{block_begins, constant_value, expr_context, number_of, offset_of, stmt_list, target_of, targets}
 use Rattle.dwz_def_reading.specs.Classes.{class_of, class_rows, names_file, names_list}
-use Rattle.dwz_def_reading.specs.Meant.{meaning}
 use Rattle.dwz_def_reading.proofs.MeaningLemmas.{value_agrees}
-use Rattle.dwz_model.specs.declared.place.Pair.{Pair}
+use Rattle.dwz_def_reading.specs.Pair.{Pair}
 use Rattle.dwz_def_tops.specs.Spots.{EntryName}
 use Rattle.dwz_graph.specs.Named.{value_refs}
 use Rattle.dwz_def_encoding.specs.Carried.{IsStored}
@@ -32,8 +31,7 @@ use Rattle.dwz_layout.specs.declared.known.EntryTable.{EntryTable}
 use Rattle.dwz_layout.specs.declared.known.TextAt.{TextAt}
 use Rattle.dwz_layout.specs.declared.ways.Rewrite.{Rewrite}
 use Rattle.dwz_layout.specs.declared.ways.Rewrite.TheVariants.{AsEntry, AsExpression, AsFile, AsRead, AsText, KeepsText}
-use Rattle.dwz_layout.specs.Attributes.{WritingContext, after, after_by, expr_parts, form_to, operand_count, out_attr, out_by, parts_or, plain_pair}
-use Rattle.dwz_layout.specs.Attributes.{read_attr, references_from}
+use Rattle.dwz_layout.specs.Attributes.{WritingContext, after, after_by, expr_parts, form_to, operand_count, out_attr, out_by, parts_or, plain_pair, read_attr, references_from}
 use Rattle.dwz_layout.specs.Known.{file_at, owner_of, reference_at, text_at}
 use Rattle.dwz_layout.specs.Ways.{if_file, rewrite_of}
 use Rattle.dwz_layout.proofs.PartLemmas.{count_from}

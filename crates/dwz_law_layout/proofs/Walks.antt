@@ -14,8 +14,8 @@ use Rattle.dwz_plan.specs.Planned.{Planned}
 use Rattle.dwz_unit.specs.Rows.{EntryRow, rows_of, units_of}
 use Rattle.dwz_layout_numbers.specs.declared.firsts.CountsBefore.{CountsBefore}
 use Rattle.dwz_layout_numbers.specs.Befores.{befores_from, behind}
-use Rattle.dwz_layout_numbers.specs.Images.{starts_from}
-use Rattle.dwz_layout_numbers.specs.Names.{all_names, names_of_files}
+use Rattle.dwz_graph.specs.EntryCounts.{starts_from}
+use Rattle.dwz_graph.specs.AllNames.{all_names, names_of_files}
 use Rattle.dwz_layout_numbers.specs.Owners.{AreOwners, owner_by}
 use Rattle.dwz_layout.specs.declared.known.FileRows.{FileRows}
 use Rattle.dwz_layout.specs.declared.known.EntryTable.{EntryTable}

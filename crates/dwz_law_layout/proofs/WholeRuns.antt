@@ -6,13 +6,15 @@ use Rattle.dwz_def_reading.proofs.ListFacts.{in_map}
 use Rattle.dwz_def_reading.specs.Documents.{Doc}
 use Rattle.dwz_def_tops.specs.Alike.{IsAlike, TopScope}
 use Rattle.dwz_def_tops.specs.Shown.{units_keys}
-use Rattle.dwz_def_plan.specs.Homes.{IsChoice, Rule}
+use Rattle.dwz_def_images.specs.Homes.{IsChoice, Rule}
 use Rattle.dwz_def_reading.specs.Files.{sources_of}
 use Rattle.dwz_def_reading.specs.Meanings.{Sources}
 use Rattle.dwz_def_tops.specs.Lists.{NoneTwice, Nth}
 use Rattle.dwz_def_tops.proofs.Members.{nth_in}
 use Rattle.dwz_def_tops.specs.Spots.{EntryName, FileUnit, file_numbers, units_of}
-use Rattle.dwz_def_images.specs.After.{ArePlaced, Replaces, at_file, name_of_place}
+use Rattle.dwz_def_images.specs.After.{ArePlaced, Replaces}
+use Rattle.dwz_def_tops.specs.UnitNames.{name_of_place}
+use Rattle.dwz_def_reading.specs.Places.{at_file}
 use Rattle.dwz_def_images.specs.Units.{all_units, out_units, units_of_file}
 use Rattle.dwz_def_images.proofs.FileLemmas.{files_same, replaced}
 use Rattle.dwz_def_encoding.specs.Bases.{bases_in}

@@ -8,13 +8,14 @@ use Rattle.dwz_def_tops.specs.Lists.{Nth}
 use Rattle.dwz_def_tops.specs.Spots.{EntryName, Import, InChain, InType, PartialOf, PartialRoot, RootOf, SpaceAt, UnitOf, Within}
 use Rattle.dwz_def_tops.specs.Spots.{ASpace, ATop, FileUnit, LabelledSpaces, Nothing, Row as TopsRow, SpaceName, Top, name_of, rows_of_root, tops_of}
 use Rattle.dwz_def_tops.proofs.RowLemmas.{RowIs, unit_row}
-use Rattle.dwz_def_plan.specs.Moves.{Move, image_in}
-use Rattle.dwz_def_images.specs.After.{AreOld, IsNamedBelow}
+use Rattle.dwz_def_images.specs.Moves.{Move, image_in}
+use Rattle.dwz_def_images.specs.After.{AreOld}
+use Rattle.dwz_def_tops.specs.UnitNames.{IsNamedBelow}
 use Rattle.dwz_def_tops.specs.Spaces.{tops_under}
 use Rattle.dwz_unit.specs.Rows.{EntryRow}
 use Rattle.dwz_graph.specs.declared.file.File.{File}
 use Rattle.dwz_graph.specs.Index.{Index}
-use Rattle.dwz_layout_numbers.specs.Names.{all_names}
+use Rattle.dwz_graph.specs.AllNames.{all_names}
 use Rattle.dwz_layout_numbers.proofs.OwnerLemmas.{own_name}
 use Rattle.dwz_layout_numbers.proofs.Paths.{paths_of}
 use Rattle.dwz_layout_order.specs.Spaces.{spaces_below, spaces_under}

@@ -3,7 +3,7 @@ use Rattle.std.proofs.Common.{◌≡◌, ℕ, suc, Bool, true, false, List, [], 
 use Rattle.std.specs.List.{filter}
 use Rattle.dwz_def_reading.specs.Documents.{Doc, DwUnit}
 use Rattle.dwz_def_tops.specs.Spots.{EntryName, FileUnit, file_numbers}
-use Rattle.dwz_def_plan.specs.Moves.{Move}
+use Rattle.dwz_def_images.specs.Moves.{Move}
 use Rattle.dwz_def_images.specs.Units.{all_units, changes, common_units, file_units, out_units}
 use Rattle.dwz_layout_numbers.specs.Owners.{file_written, files_written as written_from}
 use Rattle.dwz_law_layout.specs.Beside.{Beside}

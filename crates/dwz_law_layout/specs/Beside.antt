@@ -2,14 +2,14 @@
 use Rattle.std.specs.Prelude.{◌≡◌, ℕ, List, [], ◌∷◌, ◌++◌, map}
 use Rattle.dwz_def_reading.specs.Documents.{Doc}
 use Rattle.dwz_def_tops.specs.Spots.{file_numbers, units_of}
-use Rattle.dwz_def_plan.specs.Homes.{Home, Local, Rule}
-use Rattle.dwz_def_plan.specs.Moves.{Move}
+use Rattle.dwz_def_images.specs.Homes.{Home, Local, Rule}
+use Rattle.dwz_def_images.specs.Moves.{Move}
 use Rattle.dwz_def_readback.specs.Files.{CommonFile, Finished, Made, Stands}
 use Rattle.dwz_def_taken.specs.declared.fixed.Fixed.{Fixed}
 use Rattle.dwz_def_taken.specs.Beside.{compile_doc, reused_of}
 use Rattle.dwz_def_taken.specs.Over.{plan_over, standing_of}
 use Rattle.dwz_unit.specs.Rows.{rows_of}
-use Rattle.dwz_layout_numbers.specs.Owners.{move_of}
+use Rattle.dwz_plan.specs.MoveOf.{move_of}
 
 -- a common file that stands: what it says, what is taken of it, and where its names stand
 pub record Standing : Type 0 where

@@ -6,8 +6,8 @@ use Rattle.dwz_def_reading.specs.Documents.{Doc, DwUnit}
 use Rattle.dwz_def_reading.specs.Files.{around_of}
 use Rattle.dwz_def_reading.specs.Lists.{Each}
 use Rattle.dwz_def_tops.specs.Spots.{EntryName, FileUnit, Within, file_numbers, units_of}
-use Rattle.dwz_def_plan.specs.Homes.{Home, Rule}
-use Rattle.dwz_def_plan.specs.Moves.{Move}
+use Rattle.dwz_def_images.specs.Homes.{Home, Rule}
+use Rattle.dwz_def_images.specs.Moves.{Move}
 use Rattle.dwz_def_images.specs.Units.{changes, common_units}
 use Rattle.dwz_def_readback.specs.Back.{run_by}
 use Rattle.dwz_def_readback.specs.Files.{CommonFile, Run, Stored, name_after}
@@ -18,7 +18,7 @@ use Rattle.dwz_graph.specs.declared.file.File.{File}
 use Rattle.dwz_graph.specs.Files.{AreKept, HasRead, docs_of}
 use Rattle.dwz_graph.specs.Index.{Index}
 use Rattle.dwz_graph.specs.Indexed.{AreIndexes}
-use Rattle.dwz_layout_numbers.specs.Names.{AreTopEntries, all_names}
+use Rattle.dwz_graph.specs.AllNames.{AreTopEntries, all_names}
 use Rattle.dwz_layout_numbers.specs.OwnerLaws.{HoldTops}
 use Rattle.dwz_layout_numbers.specs.Owners.{AreUnitNumbers, StandsIn, all_written}
 use Rattle.dwz_layout_numbers.specs.Images.{IsPlanned}

@@ -10,17 +10,13 @@ use Rattle.dwz_layout_items.specs.declared.order.ItemKind.TheVariants.{Import, I
 use Rattle.dwz_layout_items.specs.Lines.{Line, line}
 use Rattle.dwz_layout_items.specs.Order.{Names}
 use Rattle.dwz_def_reading.specs.Documents.{Attr, Entries, Node, Plain, Text, entries_map, node_map, only, ref}
-use Rattle.dwz_def_reading.specs.Meanings.{Around}
-use Rattle.dwz_def_reading.specs.Classes.{OfConstant, OfTextBySlot, OfTextInLineStr, OfTextInStr}
-use Rattle.dwz_def_reading.specs.Classes.{Class, class_of}
-use Rattle.dwz_def_reading.specs.Meant.{entries_meaning}
-use Rattle.dwz_def_reading.specs.Meanings.{scope_of, without_siblings}
-use Rattle.dwz_def_reading.specs.Classes.{names_file}
-use Rattle.dwz_def_reading.specs.Meant.{node_meaning}
+use Rattle.dwz_def_reading.specs.Meanings.{Around, scope_of, without_siblings}
+use Rattle.dwz_def_reading.specs.Classes.{OfConstant, OfTextBySlot, OfTextInLineStr, OfTextInStr, Class, class_of, names_file}
+use Rattle.dwz_def_reading.specs.Meant.{entries_meaning, node_meaning}
 use Rattle.dwz_def_tops.specs.Deciding.{same_bool}
 use Rattle.dwz_def_tops.specs.Spots.{EntryName, SpaceName, name_of}
 use Rattle.dwz_graph.specs.Rows.{node_refs}
-use Rattle.dwz_def_plan.specs.Moves.{line_attr}
+use Rattle.dwz_def_images.specs.Moves.{line_attr}
 use Rattle.dwz_def_reading.specs.Lists.{Each}
 use Rattle.dwz_def_tops.specs.Spaces.{space_text}
 use Rattle.dwz_unit.specs.Rows.{EntryRow, rows_below, rows_of}
@@ -41,8 +37,7 @@ use Rattle.dwz_layout.specs.declared.walk.Slot.{Slot}
 use Rattle.dwz_layout.specs.declared.ways.Rewrite.TheVariants.{AsText}
 use Rattle.dwz_layout.specs.Attributes.{is_common, plain_pair, text_form, text_offset}
 use Rattle.dwz_layout.specs.Entries.{items_slots, row}
-use Rattle.dwz_layout.specs.Known.{file_at, firsts_of, number_of, owner_of, reference_at, rows_in, space_at, text_at, text_held, top_row}
-use Rattle.dwz_layout.specs.Known.{unit_of_part}
+use Rattle.dwz_layout.specs.Known.{file_at, firsts_of, number_of, owner_of, reference_at, rows_in, space_at, text_at, text_held, top_row, unit_of_part}
 use Rattle.dwz_layout.specs.Ways.{rewrite_of}
 use Rattle.dwz_encode.specs.Shown.{HasRow, Keys}
 

@@ -20,3 +20,6 @@ pub mod Apart
 pub mod ShownKept
 pub mod ShownParts
 pub mod Laid
+pub mod CommonRows
+pub mod OverLaws
+pub mod Either

@@ -7,7 +7,8 @@ use Rattle.dwz_graph.specs.declared.index.TopEntry.{TopEntry}
 use Rattle.dwz_graph.specs.Index.{Index, IsIndex}
 use Rattle.dwz_layout_numbers.specs.declared.firsts.CountsBefore.{CountsBefore}
 use Rattle.dwz_layout_numbers.specs.Befores.{befores_from}
-use Rattle.dwz_layout_numbers.specs.Images.{AreImages, IsFile, starts_from}
+use Rattle.dwz_layout_numbers.specs.Images.{AreImages, IsFile}
+use Rattle.dwz_graph.specs.EntryCounts.{starts_from}
 use Rattle.dwz_layout_numbers.specs.Owners.{AreOwners}
 use Rattle.dwz_layout.specs.declared.known.FileRows.{FileRows}
 use Rattle.dwz_layout.specs.declared.known.ValueCounts.{ValueCounts}

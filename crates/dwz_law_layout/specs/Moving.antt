@@ -3,11 +3,11 @@ use Rattle.std.specs.Prelude.{◌≡◌, ◌⊎◌, ℕ, true, false, List}
 use Rattle.dwz_def_reading.specs.Lists.{In}
 use Rattle.dwz_def_tops.specs.Lists.{Nth}
 use Rattle.dwz_def_tops.specs.Spots.{EntryName, FileUnit, Top, tops_of}
-use Rattle.dwz_def_plan.specs.Homes.{Common, Home, Local, Rule, is_home}
-use Rattle.dwz_def_plan.specs.Moves.{Move, first_unit, line_attrs, plan}
-use Rattle.dwz_def_plan.specs.Plan.{PartialUnit, part_row}
+use Rattle.dwz_def_images.specs.Homes.{Common, Home, Local, Rule, is_home}
+use Rattle.dwz_def_images.specs.Moves.{Move, first_unit, line_attrs, plan}
+use Rattle.dwz_def_images.specs.Plan.{PartialUnit, part_row}
 use Rattle.dwz_plan.specs.ShowsMove.{HoldsAt}
-use Rattle.dwz_def_plan.specs.Fair.{Fair}
+use Rattle.dwz_def_images.specs.Fair.{Fair}
 
 -- a top that leaves its unit, stands for itself, and is of that unit
 pub record MovesFrom (m : Move) (units : List (FileUnit EntryName)) (i : ℕ) (t : Top) : Type 0 where

@@ -2,8 +2,8 @@
 use Rattle.std.specs.Prelude.{◌≡◌, ℕ, List}
 use Rattle.dwz_def_reading.specs.Documents.{Node}
 use Rattle.dwz_def_tops.specs.Spots.{EntryName}
-use Rattle.dwz_def_plan.specs.Moves.{image_in}
-use Rattle.dwz_def_images.specs.After.{at_file}
+use Rattle.dwz_def_images.specs.Moves.{image_in}
+use Rattle.dwz_def_reading.specs.Places.{at_file}
 use Rattle.dwz_unit.specs.Rows.{EntryRow}
 use Rattle.dwz_graph.specs.declared.file.File.{File}
 use Rattle.dwz_graph.specs.Index.{Index}

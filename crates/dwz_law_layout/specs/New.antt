@@ -13,9 +13,9 @@ use Rattle.dwz_layout_items.specs.declared.order.ItemKind.TheVariants.{InChain, 
 use Rattle.dwz_layout_items.specs.declared.partial.SpaceRow.{SpaceRow}
 use Rattle.dwz_layout_items.specs.declared.partial.TopSpaces.{TopSpaces}
 use Rattle.dwz_layout_items.specs.Chains.{Up, inner_at}
-use Rattle.dwz_def_plan.specs.Homes.{Common, Local, Rule, moves}
-use Rattle.dwz_def_plan.specs.Moves.{Move, first_unit}
-use Rattle.dwz_def_plan.specs.Plan.{PartialUnit, partials, stand_in}
+use Rattle.dwz_def_images.specs.Homes.{Common, Local, Rule, moves}
+use Rattle.dwz_def_images.specs.Moves.{Move, first_unit}
+use Rattle.dwz_def_images.specs.Plan.{PartialUnit, partials, stand_in}
 use Rattle.dwz_plan.specs.declared.plan.Home.TheVariants.{Stay as InUnit}
 use Rattle.dwz_plan.specs.Planned.{Planned, place_at}
 use Rattle.dwz_plan.specs.Shows.{ShowsPlan}

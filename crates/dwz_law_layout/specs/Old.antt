@@ -9,8 +9,8 @@ use Rattle.dwz_def_tops.specs.Spots.{EntryName, FileUnit, Top, tops_of}
 use Rattle.dwz_layout_items.specs.declared.order.Item.{Item}
 use Rattle.dwz_layout_items.specs.declared.order.ItemKind.{ItemKind}
 use Rattle.dwz_layout_items.specs.declared.order.ItemKind.TheVariants.{Import, Space as ASpaceOf, Top as ATopOf, Whole}
-use Rattle.dwz_def_plan.specs.Moves.{Move}
-use Rattle.dwz_def_plan.specs.Plan.{PartialUnit}
+use Rattle.dwz_def_images.specs.Moves.{Move}
+use Rattle.dwz_def_images.specs.Plan.{PartialUnit}
 use Rattle.dwz_layout.specs.declared.order.UnitItems.{UnitItems}
 use Rattle.dwz_layout_order.specs.declared.marks.Marks.{Marks}
 use Rattle.dwz_layout_order.specs.declared.outline.Next.{Next}

@@ -5,8 +5,8 @@ use Rattle.dwz_def_reading.specs.Documents.{DwUnit, Node}
 use Rattle.dwz_def_tops.specs.Lists.{Nth}
 use Rattle.dwz_def_tops.specs.Deciding.{same_bool}
 use Rattle.dwz_def_tops.specs.Spots.{EntryName}
-use Rattle.dwz_def_plan.specs.Homes.{Common, Local}
-use Rattle.dwz_def_plan.specs.Plan.{PartialUnit}
+use Rattle.dwz_def_images.specs.Homes.{Common, Local}
+use Rattle.dwz_def_images.specs.Plan.{PartialUnit}
 use Rattle.dwz_def_images.specs.Units.{changes, common_units, out_units, partial_unit}
 use Rattle.dwz_def_encoding.specs.Placing.{UnitForms, has_key}
 use Rattle.dwz_unit.specs.Rows.{EntryRow}

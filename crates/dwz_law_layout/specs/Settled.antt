@@ -2,7 +2,7 @@
 -- tops stand in, and the line tables of partial units.
 use Rattle.std.specs.Prelude.{◌≡◌, ℕ, List, map}
 use Rattle.dwz_def_tops.specs.Lists.{Nth}
-use Rattle.dwz_def_plan.specs.Plan.{PartialUnit}
+use Rattle.dwz_def_images.specs.Plan.{PartialUnit}
 use Rattle.dwz_layout_order.specs.Lists.{all_spaces, all_tops, rows_from, spaces_at}
 use Rattle.dwz_layout_order.specs.Named.{MarksAll}
 use Rattle.dwz_layout_order.specs.Orders.{ShowsLine}

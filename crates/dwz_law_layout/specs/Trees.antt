@@ -5,7 +5,7 @@ use Rattle.dwz_def_reading.specs.Documents.{Node, entries_map, node_map}
 use Rattle.dwz_def_tops.specs.Lists.{Nth}
 use Rattle.dwz_def_tops.specs.Spaces.{space_text}
 use Rattle.dwz_def_tops.specs.Spots.{EntryName, FileUnit, Top, name_of, tops_of}
-use Rattle.dwz_def_plan.specs.Moves.{image_in}
+use Rattle.dwz_def_images.specs.Moves.{image_in}
 use Rattle.dwz_graph.specs.declared.file.File.{File}
 use Rattle.dwz_graph.specs.Index.{Index}
 use Rattle.dwz_layout_order.specs.Spaces.{said_of, spaces_of}

@@ -1,6 +1,6 @@
 -- What is written of files is said to mean the same.
 use Rattle.std.proofs.Common.{◌≡◌, false, Bool, ℕ, List, Option, Some, None, refl, sym, subst, ◌∙◌}
-use Rattle.dwz_model.specs.Lists.{Each, Nth}
+use Rattle.dwz_def_reading.specs.Lists.{Each, Nth}
 use Rattle.dwz_def_reading.specs.Documents.{Doc}
 use Rattle.dwz_def_reading.specs.Finished.{FinishedDocs}
 use Rattle.dwz_def_reading.specs.Texts.{NoZero}

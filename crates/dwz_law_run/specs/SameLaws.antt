@@ -1,6 +1,6 @@
 -- What is written of files is said to mean the same.
 use Rattle.std.specs.Prelude.{◌≡◌, false, Bool, ℕ, List, [], ◌∷◌, Option, Some, None}
-use Rattle.dwz_model.specs.Lists.{Each, Nth}
+use Rattle.dwz_def_reading.specs.Lists.{Each, Nth}
 use Rattle.dwz_def_reading.specs.Documents.{Doc}
 use Rattle.dwz_def_reading.specs.Finished.{has_sup}
 use Rattle.dwz_def_reading.specs.Texts.{NoZero}

@@ -7,7 +7,7 @@ use Rattle.std.proofs.lemmas.Option.{slice_get-map, slice_get_past, slice_get_re
 use Rattle.dwz_def_reading.specs.Input.{Input}
 use Rattle.dwz_def_reading.specs.Units.{entries_in}
 use Rattle.dwz_model.specs.declared.place.Pair.{Pair}
-use Rattle.dwz_graph_resolve.proofs.RowLemmas.{row_there, rows-length}
+use Rattle.dwz_unit.proofs.RowsFound.{row_there, rows-length}
 use Rattle.dwz_unit.specs.declared.rows.RawEntry.{RawEntry as EntryOfCode}
 use Rattle.dwz_unit.specs.Rows.{EntryRow, entry_shown, rows_of, shown_entries, units_of}
 use Rattle.dwz_unit.specs.Values.{Reads}

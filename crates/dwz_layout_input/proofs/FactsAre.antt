@@ -4,7 +4,7 @@ use Rattle.dwz_def_reading.specs.Lists.{Each}
 use Rattle.dwz_def_reading.specs.Values.{AreBytes}
 use Rattle.dwz_def_reading.proofs.ListFacts.{got_below}
 use Rattle.dwz_def_tops.specs.Spots.{Within, file_numbers, tops_of, units_of}
-use Rattle.dwz_layout_order.proofs.FilesFew.{names_few}
+use Rattle.dwz_graph.proofs.FilesFew.{names_few}
 use Rattle.dwz_graph.specs.declared.file.File.{File}
 use Rattle.dwz_graph.specs.Files.{AreKept, docs_of}
 use Rattle.dwz_graph.specs.Index.{Index}
@@ -12,26 +12,26 @@ use Rattle.dwz_graph.specs.Indexed.{AreIndexes}
 use Rattle.dwz_layout_order.specs.Behind.{ArePlannedFirst}
 use Rattle.dwz_layout_order.proofs.BehindLemmas.{planned_alone}
 use Rattle.dwz_layout_order.proofs.FitLemmas.{parts_fit}
-use Rattle.dwz_def_plan.specs.Homes.{Rule}
-use Rattle.dwz_def_plan.specs.Moves.{plan}
+use Rattle.dwz_def_images.specs.Homes.{Rule}
+use Rattle.dwz_def_images.specs.Moves.{plan}
 use Rattle.dwz_plan.specs.declared.plan.Scope.{Scope}
 use Rattle.dwz_plan.specs.Planned.{Planned}
 use Rattle.dwz_plan.specs.ShowsMove.{ShowsMove}
 use Rattle.dwz_plan.proofs.BridgeLemmas.{file_numbers_are}
 use Rattle.dwz_plan.proofs.ShownMoves.{plan_moves}
-use Rattle.dwz_plan_files.specs.declared.planned.PlannedFiles.{PlannedFiles}
-use Rattle.dwz_plan_files.specs.Rules.{alike_scope, rule_by}
-use Rattle.dwz_plan_files.proofs.PlanFits.{alike_is, choice_is}
+use Rattle.dwz_layout_input.specs.declared.planned.PlannedFiles.{PlannedFiles}
+use Rattle.dwz_layout_input.specs.Rules.{alike_scope, rule_by}
+use Rattle.dwz_layout_input.proofs.PlanFits.{alike_is, choice_is}
 use Rattle.dwz_layout_numbers.specs.Images.{IsPlanned}
-use Rattle.dwz_layout_numbers.specs.Names.{AreTopEntries, all_names}
+use Rattle.dwz_graph.specs.AllNames.{AreTopEntries, all_names}
 use Rattle.dwz_layout_numbers.specs.OwnerLaws.{HoldTops}
-use Rattle.dwz_layout_numbers.specs.Owners.{move_of}
+use Rattle.dwz_plan.specs.MoveOf.{move_of}
 use Rattle.dwz_layout_numbers.proofs.PlanMoves.{plan_holds, plan_stands}
 use Rattle.dwz_law_layout.specs.Beside.{Alone}
 use Rattle.dwz_law_layout.specs.Facts.{IsMade, RunFacts, StandBehind, common, docs, every, move, run, units}
 use Rattle.dwz_law_layout.specs.Moving.{MovesSo}
 use Rattle.dwz_law_layout.specs.Whole.{AreWhole}
-use Rattle.dwz_def_plan.proofs.FairLemmas.{fair_by}
+use Rattle.dwz_def_images.proofs.FairLemmas.{fair_by}
 use Rattle.dwz_law_layout.proofs.ReadFiles.{files_placed}
 use Rattle.dwz_law_layout.proofs.RuleMoves.{moves_so}
 use Rattle.dwz_law_layout.proofs.WholeRuns.{whole_runs}

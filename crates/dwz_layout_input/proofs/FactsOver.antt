@@ -3,7 +3,7 @@ use Rattle.std.proofs.Common.{◌≡◌, ℕ, ◌∷◌, ◌++◌, [], List, len
 use Rattle.dwz_def_tops.specs.Spots.{file_numbers, units_of}
 use Rattle.dwz_graph.specs.Files.{docs_of}
 use Rattle.dwz_graph.specs.Index.{Index}
-use Rattle.dwz_def_plan.specs.Homes.{Rule}
+use Rattle.dwz_def_images.specs.Homes.{Rule}
 use Rattle.dwz_def_taken.specs.Beside.{compile_doc, reused_of}
 use Rattle.dwz_def_taken.specs.Laws.{ArePlacedOver}
 use Rattle.dwz_def_taken.specs.Over.{move_over}
@@ -11,12 +11,12 @@ use Rattle.dwz_def_taken.specs.Takes.{IsFixed, free_rule}
 use Rattle.dwz_layout_order.specs.Behind.{ArePlannedFirst}
 use Rattle.dwz_plan.specs.Planned.{Planned}
 use Rattle.dwz_plan.specs.ShowsMove.{ShowsMove}
-use Rattle.dwz_plan_files.specs.declared.planned.PlannedFiles.{PlannedFiles}
+use Rattle.dwz_layout_input.specs.declared.planned.PlannedFiles.{PlannedFiles}
 use Rattle.dwz_layout_numbers.specs.Images.{ShowsStandIns}
 use Rattle.dwz_law_layout.specs.Beside.{Over, Standing}
 use Rattle.dwz_law_layout.specs.Facts.{IsMade, RunFacts, docs, move, units}
 use Rattle.dwz_law_layout.specs.Moving.{MovesSo}
-use Rattle.dwz_law_over.proofs.OverMoves.{over_moves}
+use Rattle.dwz_law_layout.proofs.OverMoves.{over_moves}
 use Rattle.dwz_layout_input.specs.Parts.{ArePlannedOf}
 use Rattle.dwz_layout_input.specs.SettledOver.{AreFactsOver, AreOverLaw}
 use Rattle.dwz_layout_input.proofs.FirstOver.{first_over}

@@ -9,10 +9,10 @@ use Rattle.dwz_def_reading.proofs.ListFacts.{all_more, got_below, in_cases}
 use Rattle.dwz_def_tops.specs.Spots.{Top, file_numbers, tops_of, units_of}
 use Rattle.dwz_def_tops.proofs.Members.{in_filter_from, in_nth, nth_get}
 use Rattle.dwz_def_tops.proofs.TopNumbers.{from_numbered, top_at}
-use Rattle.dwz_def_plan.specs.Homes.{Common, Local, numbers_from}
-use Rattle.dwz_def_plan.specs.Moves.{Move}
-use Rattle.dwz_def_plan.specs.Plan.{PartialUnit, partials}
-use Rattle.dwz_def_plan.proofs.UserLemmas.{numbers_in}
+use Rattle.dwz_def_images.specs.Homes.{Common, Local, numbers_from}
+use Rattle.dwz_def_images.specs.Moves.{Move}
+use Rattle.dwz_def_images.specs.Plan.{PartialUnit, partials}
+use Rattle.dwz_def_images.proofs.UserLemmas.{numbers_in}
 use Rattle.dwz_def_taken.specs.declared.fixed.Fixed.{Fixed}
 use Rattle.dwz_def_taken.specs.Beside.{Reused, own_tops, reused_of}
 use Rattle.dwz_def_taken.specs.Over.{common_parts, move_over}
@@ -24,9 +24,9 @@ use Rattle.dwz_layout_order.proofs.BehindLemmas.{homes_low, nothing_at, users_lo
 use Rattle.dwz_plan.specs.OverLaws.{common_tops}
 use Rattle.dwz_plan.specs.declared.plan.Home.TheVariants.{Stay as InUnit}
 use Rattle.dwz_plan.specs.declared.plan.Partial.{Partial}
-use Rattle.dwz_plan_files.specs.declared.planned.PlannedFiles.{PlannedFiles}
-use Rattle.dwz_plan_files.specs.Over.{ArePlannedOver}
-use Rattle.dwz_plan_files.proofs.OutlineNeeds.{rows_many}
+use Rattle.dwz_layout_input.specs.declared.planned.PlannedFiles.{PlannedFiles}
+use Rattle.dwz_layout_input.specs.PlannedOver.{ArePlannedOver}
+use Rattle.dwz_layout_input.proofs.OutlineNeeds.{rows_many}
 use Rattle.dwz_layout_input.specs.Parts.{HoldSome}
 
 module _ (docs : List (Doc ℕ)) (common : Doc ℕ) (fixed : Fixed) (p : PlannedFiles) (h : ArePlannedOver docs common fixed p) where

@@ -12,11 +12,11 @@ use Rattle.dwz_graph.proofs.GraphLemmas.{as_many, files_read}
 use Rattle.dwz_graph.specs.Index.{Index}
 use Rattle.dwz_graph.proofs.TopNameLemmas.{read_whole}
 use Rattle.dwz_graph.specs.Indexed.{AreIndexes}
-use Rattle.dwz_layout_order.proofs.FileCounts.{are_many}
-use Rattle.dwz_layout_order.proofs.FileEntries.{all_entries}
-use Rattle.dwz_layout_order.proofs.FileWalk.{first_doc, is_among}
-use Rattle.dwz_layout_order.proofs.FilesFew.{all_small}
-use Rattle.dwz_layout_numbers.specs.Images.{tops_from}
+use Rattle.dwz_graph.proofs.FileCounts.{are_many}
+use Rattle.dwz_graph.proofs.FileEntries.{all_entries}
+use Rattle.dwz_graph.proofs.FileWalk.{first_doc, is_among}
+use Rattle.dwz_graph.proofs.FilesFew.{all_small}
+use Rattle.dwz_graph.specs.EntryCounts.{tops_from}
 use Rattle.dwz_layout_numbers.specs.Whole.{AreWhole}
 use Rattle.dwz_layout_numbers.proofs.WholeLemmas.{all_inside, top_entries}
 use Rattle.dwz_plan.specs.Planned.{Planned}

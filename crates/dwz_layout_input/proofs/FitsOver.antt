@@ -15,9 +15,9 @@ use Rattle.dwz_graph.specs.Files.{docs_of}
 use Rattle.dwz_graph.specs.Index.{Index}
 use Rattle.dwz_graph.specs.Indexed.{AreIndexed, AreIndexes, first_starts, starts_behind}
 use Rattle.dwz_graph.specs.Names.{names_from}
-use Rattle.dwz_layout_order.proofs.FilesFew.{all_small}
-use Rattle.dwz_layout_numbers.specs.Images.{entry_count, tops_from}
-use Rattle.dwz_layout_numbers.specs.Names.{AreTopEntries, all_names, names_of_files}
+use Rattle.dwz_graph.proofs.FilesFew.{all_small}
+use Rattle.dwz_graph.specs.EntryCounts.{entry_count, tops_from}
+use Rattle.dwz_graph.specs.AllNames.{AreTopEntries, all_names, names_of_files}
 use Rattle.dwz_layout_numbers.specs.OverLaws.{common_names}
 use Rattle.dwz_layout_numbers.specs.Whole.{AreWhole}
 use Rattle.dwz_layout_numbers.proofs.BesideNames.{tops_beside}

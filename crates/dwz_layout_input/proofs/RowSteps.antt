@@ -9,7 +9,8 @@ use Rattle.dwz_graph.proofs.TopLemmas.{get_later}
 use Rattle.dwz_graph.specs.Index.{Index}
 use Rattle.dwz_layout_numbers.specs.declared.firsts.CountsBefore.{CountsBefore}
 use Rattle.dwz_layout_numbers.specs.Befores.{befores_from}
-use Rattle.dwz_layout_numbers.specs.Images.{IsPlanned, entry_count, starts_from}
+use Rattle.dwz_layout_numbers.specs.Images.{IsPlanned}
+use Rattle.dwz_graph.specs.EntryCounts.{entry_count, starts_from}
 use Rattle.dwz_layout.specs.declared.known.FileRows.{FileRows}
 use Rattle.dwz_layout.specs.declared.known.ValueCounts.{ValueCounts}
 use Rattle.dwz_layout.specs.declared.known.TextAt.{TextAt}

@@ -4,7 +4,7 @@ use Rattle.dwz_def_reading.specs.Documents.{Attr}
 use Rattle.dwz_def_tops.specs.Spots.{EntryName, file_numbers, tops_of, units_of}
 use Rattle.dwz_graph.specs.Files.{docs_of}
 use Rattle.dwz_graph.specs.Index.{Index}
-use Rattle.dwz_def_plan.specs.Moves.{line_attrs}
+use Rattle.dwz_def_images.specs.Moves.{line_attrs}
 use Rattle.dwz_def_readback.specs.Files.{imports_common}
 use Rattle.dwz_layout_items.specs.Chains.{IsRising}
 use Rattle.dwz_layout_items.specs.declared.partial.SpaceRow.{SpaceRow}
@@ -19,11 +19,11 @@ use Rattle.dwz_layout_order.specs.declared.orders.Settled.{Settled}
 use Rattle.dwz_layout_order.specs.Ordered.{AreSettled, line_given}
 use Rattle.dwz_layout.specs.declared.order.Sort.TheVariants.{Partial as PartialSort}
 use Rattle.dwz_plan.specs.Planned.{Planned}
-use Rattle.dwz_plan_files.specs.declared.planned.PlannedFiles.{PlannedFiles}
-use Rattle.dwz_plan_files.proofs.TopMarks.{marks_are}
-use Rattle.dwz_plan_files.specs.Roots.{IsOfOneUnit}
+use Rattle.dwz_layout_input.specs.declared.planned.PlannedFiles.{PlannedFiles}
+use Rattle.dwz_layout_input.proofs.TopMarks.{marks_are}
+use Rattle.dwz_layout_input.specs.Roots.{IsOfOneUnit}
 use Rattle.dwz_law_layout.specs.Settled.{IsSettled}
-use Rattle.dwz_plan_files.specs.Pinned.{FlagsSpace}
+use Rattle.dwz_layout_input.specs.Pinned.{FlagsSpace}
 use Rattle.dwz_law_layout.specs.Beside.{Beside}
 use Rattle.dwz_law_layout.specs.Facts.{RunFacts, docs, move, units}
 use Rattle.dwz_layout_input.specs.declared.settled.SettledFiles.{SettledFiles}

@@ -5,6 +5,14 @@ pub mod ListedLaws
 pub mod Settled
 pub mod SettledOver
 pub mod Parts
-pub use Rattle.dwz_plan_files.specs.Fits
-pub use Rattle.dwz_plan_files.specs.Rules
-pub use Rattle.dwz_plan_files.specs.declared.planned.PlannedFiles
+pub mod Known
+pub mod Names
+pub mod Pinned
+pub mod Places
+pub mod Rules
+pub mod Fits
+pub mod PlannedOver
+pub mod Laws
+pub mod Roots
+pub mod Steps
+pub mod Behind

@@ -9,7 +9,7 @@ use Rattle.dwz_graph.specs.Files.{AreKept, docs_of}
 use Rattle.dwz_graph.specs.Index.{Index}
 use Rattle.dwz_graph.specs.Indexed.{AreIndexes}
 use Rattle.dwz_layout_numbers.specs.declared.numbers.UnitNumbers.{UnitNumbers}
-use Rattle.dwz_layout_numbers.specs.Images.{tops_from}
+use Rattle.dwz_graph.specs.EntryCounts.{tops_from}
 use Rattle.dwz_plan.specs.Planned.{Planned}
 use Rattle.dwz_law_layout.specs.Beside.{Beside}
 use Rattle.dwz_law_layout.specs.Facts.{AreFacts, RunFacts}

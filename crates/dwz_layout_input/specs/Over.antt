@@ -8,7 +8,7 @@ use Rattle.dwz_check_index.specs.Both.{from_top}
 use Rattle.dwz_check_index.specs.Index.{CrossIndex, IsCrossIndex}
 use Rattle.dwz_graph.specs.declared.file.File.{File}
 use Rattle.dwz_graph.specs.Index.{Index}
-use Rattle.dwz_layout_numbers.specs.Images.{entry_count, tops_from}
+use Rattle.dwz_graph.specs.EntryCounts.{entry_count, tops_from}
 use Rattle.dwz_plan.specs.Planned.{Planned}
 use Rattle.dwz_layout_input.specs.Needs.{IsFit}
 

@@ -2,7 +2,7 @@
 use Rattle.std.specs.Prelude.{◌≡◌, ℕ, ◌<◌, ◌^◌, All, List, length, map}
 use Rattle.dwz_def_reading.specs.Documents.{Doc}
 use Rattle.dwz_def_tops.specs.Spots.{file_numbers, units_of}
-use Rattle.dwz_def_plan.specs.Moves.{Move}
+use Rattle.dwz_def_images.specs.Moves.{Move}
 use Rattle.dwz_def_images.specs.Units.{changes}
 use Rattle.dwz_def_readback.specs.Files.{imports_common}
 use Rattle.dwz_graph.specs.Files.{docs_of}
@@ -10,10 +10,10 @@ use Rattle.dwz_graph.specs.Index.{Index}
 use Rattle.dwz_layout_order.specs.Behind.{ArePlannedFirst}
 use Rattle.dwz_layout_order.specs.Marks.{mark_at, mark_of}
 use Rattle.dwz_plan.specs.declared.plan.Partial.{Partial}
-use Rattle.dwz_plan_files.specs.declared.planned.PlannedFiles.{PlannedFiles}
-use Rattle.dwz_plan_files.specs.Known.{AreSpaces}
-use Rattle.dwz_plan_files.specs.Pinned.{ArePinned}
-use Rattle.dwz_plan_files.specs.Roots.{AreLines}
+use Rattle.dwz_layout_input.specs.declared.planned.PlannedFiles.{PlannedFiles}
+use Rattle.dwz_layout_input.specs.Known.{AreSpaces}
+use Rattle.dwz_layout_input.specs.Pinned.{ArePinned}
+use Rattle.dwz_layout_input.specs.Roots.{AreLines}
 use Rattle.dwz_law_layout.specs.Beside.{Beside}
 use Rattle.dwz_law_layout.specs.Facts.{IsMade, RunFacts, docs, move, units}
 use Rattle.dwz_law_layout.specs.Moving.{MovesSo}

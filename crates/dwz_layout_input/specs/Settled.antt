@@ -10,9 +10,9 @@ use Rattle.dwz_graph.specs.Indexed.{AreIndexes}
 use Rattle.dwz_plan.specs.declared.plan.Scope.{Scope}
 use Rattle.dwz_plan.specs.Shows.{ShowsPlan}
 use Rattle.dwz_move_files.specs.Outlines.{IsOutline}
-use Rattle.dwz_plan_files.specs.declared.planned.PlannedFiles.{PlannedFiles}
-use Rattle.dwz_plan_files.specs.Fits.{FitsFiles}
-use Rattle.dwz_plan_files.specs.Rules.{rule_by}
+use Rattle.dwz_layout_input.specs.declared.planned.PlannedFiles.{PlannedFiles}
+use Rattle.dwz_layout_input.specs.Fits.{FitsFiles}
+use Rattle.dwz_layout_input.specs.Rules.{rule_by}
 use Rattle.dwz_layout_numbers.specs.Owners.{AreUnitNumbers}
 use Rattle.dwz_law_layout.specs.Beside.{Alone, Beside}
 use Rattle.dwz_law_layout.specs.Facts.{AreFacts, IsStoredSo, RunFacts, docs, move, units, written}

@@ -11,14 +11,14 @@ use Rattle.dwz_def_taken.specs.Over.{move_over}
 use Rattle.dwz_def_taken.specs.Takes.{IsFixed, free_rule}
 use Rattle.dwz_graph.specs.Files.{docs_of}
 use Rattle.dwz_graph.specs.Index.{Index}
-use Rattle.dwz_plan_files.specs.declared.planned.PlannedFiles.{PlannedFiles}
-use Rattle.dwz_plan_files.specs.Over.{ArePlannedOver}
-use Rattle.dwz_layout_numbers.specs.Names.{all_names}
+use Rattle.dwz_layout_input.specs.declared.planned.PlannedFiles.{PlannedFiles}
+use Rattle.dwz_layout_input.specs.PlannedOver.{ArePlannedOver}
+use Rattle.dwz_graph.specs.AllNames.{all_names}
 use Rattle.dwz_layout_numbers.specs.Owners.{AreUnitNumbers}
 use Rattle.dwz_law_layout.specs.Beside.{Over, Standing}
 use Rattle.dwz_law_layout.specs.Facts.{RunFacts, docs, move, units, written}
-use Rattle.dwz_law_over.specs.CommonRows.{AreCommonRows}
-use Rattle.dwz_law_over.specs.OverLaws.{AreOver}
+use Rattle.dwz_law_layout.specs.CommonRows.{AreCommonRows}
+use Rattle.dwz_law_layout.specs.OverLaws.{AreOver}
 use Rattle.dwz_layout_input.specs.Settled.{AreStored}
 
 -- the facts are of files with these contents and indexes over that common file, of what is taken of it, and of their plan

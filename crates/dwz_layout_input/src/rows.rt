@@ -4,7 +4,8 @@ ghost use Rattle.std.specs.Prelude.{◌≡◌, ◌+◌, ◌<◌, ◌^◌, length
 ghost use Rattle.dwz_law_layout.specs.Beside.{Beside};
 ghost use Rattle.dwz_law_layout.specs.Facts.{RunFacts, every, move};
 ghost use Rattle.dwz_law_layout.specs.Listed.{AreRows, HaveFirsts, IsListed, firsts_from};
-ghost use Rattle.dwz_layout_numbers.specs.Images.{IsPlanned, starts_from};
+ghost use Rattle.dwz_layout_numbers.specs.Images.{IsPlanned};
+ghost use Rattle.dwz_graph.specs.EntryCounts.{starts_from};
 ghost use Rattle.dwz_layout_input.specs.Needs.{FitsFile, IsFit};
 
 use dwz_graph::{File, Index};

@@ -5,7 +5,7 @@ ghost use Rattle.dwz_def_reading.specs.Documents.{Doc};
 ghost use Rattle.dwz_def_tops.specs.Spots.{file_numbers};
 ghost use Rattle.dwz_def_readback.specs.Files.{imports_common};
 ghost use Rattle.dwz_def_taken.specs.declared.fixed.Fixed.{Fixed};
-ghost use Rattle.dwz_plan_files.specs.Over.{ArePlannedOver};
+ghost use Rattle.dwz_layout_input.specs.PlannedOver.{ArePlannedOver};
 ghost use Rattle.dwz_law_layout.specs.Beside.{Alone, Over, Standing};
 ghost use Rattle.dwz_law_layout.specs.Facts.{RunFacts, docs, move, units};
 ghost use Rattle.dwz_graph.specs.Files.{docs_of};
@@ -18,11 +18,11 @@ ghost use Rattle.dwz_layout_input.specs.Parts.{AreParts};
 ghost use Rattle.dwz_layout_input.specs.Settled.{AreFactsOf, ArePlanned, Lends};
 ghost use Rattle.dwz_layout_input.specs.SettledOver.{AreFactsOver};
 
+use crate::{PlannedFiles, Spaces, part_lines, pinned_spaces, spaces_of_files};
 use dwz_graph::Graph;
 use dwz_layout_order::{Marks, Settled, TopMark, changed_files, importing_files, marks_of};
 use dwz_model::NoMemory;
 use dwz_plan::Scope;
-use dwz_plan_files::{PlannedFiles, Spaces, part_lines, pinned_spaces, spaces_of_files};
 use std::alloc::Global;
 
 /// What is settled of files before their units are written.

@@ -4,8 +4,8 @@ ghost use Rattle.std.specs.Prelude.{◌≡◌, ℕ, ◌+◌, ◌∷◌, ◌++◌
 ghost use Rattle.dwz_def_reading.specs.Documents.{Doc};
 ghost use Rattle.dwz_def_taken.specs.Beside.{compile_doc};
 ghost use Rattle.dwz_graph.specs.Indexed.{AreIndexes};
-ghost use Rattle.dwz_layout_numbers.specs.Images.{entry_count};
-ghost use Rattle.dwz_layout_numbers.specs.Names.{AreTopEntries};
+ghost use Rattle.dwz_graph.specs.EntryCounts.{entry_count};
+ghost use Rattle.dwz_graph.specs.AllNames.{AreTopEntries};
 ghost use Rattle.dwz_layout_numbers.specs.Whole.{AreWhole};
 ghost use Rattle.dwz_layout_input.specs.Over.{IsBehind, tops_behind};
 

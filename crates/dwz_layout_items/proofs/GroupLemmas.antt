@@ -10,8 +10,8 @@ use Rattle.dwz_def_reading.specs.Lists.{In}
 use Rattle.dwz_def_reading.proofs.ListFacts.{in_map}
 use Rattle.dwz_def_tops.proofs.Members.{in_filter_from, in_map_from}
 use Rattle.dwz_def_tops.specs.Spots.{same_numbers}
-use Rattle.dwz_def_plan.specs.Plan.{distinct}
-use Rattle.dwz_def_plan.proofs.PlanLemmas.{in_distinct}
+use Rattle.dwz_def_images.specs.Plan.{distinct}
+use Rattle.dwz_def_images.proofs.PlanLemmas.{in_distinct}
 use Rattle.dwz_groups.specs.Groups.{grouped, values_at}
 use Rattle.dwz_groups.specs.declared.groups.Edge.{Edge}
 use Rattle.dwz_plan.specs.Steps.{lists_of, number_of, numbered, pair, users_at}

@@ -3,8 +3,8 @@ use Rattle.std.proofs.Common.{◌≡◌, ℕ, Bool, true, false, List, [], ◌�
 use Rattle.dwz_def_reading.specs.Documents.{Compile, Kind, OfType, Partial, entries_map}
 use Rattle.dwz_def_reading.specs.Trees.{End}
 use Rattle.dwz_def_tops.specs.Spots.{EntryName, FileUnit, Row, SpaceName}
-use Rattle.dwz_def_plan.specs.Moves.{Move, image_in}
-use Rattle.dwz_def_plan.specs.Plan.{PartialUnit, import_of, part_row, imports, kept_row, pinned_first, row_staying}
+use Rattle.dwz_def_images.specs.Moves.{Move, image_in}
+use Rattle.dwz_def_images.specs.Plan.{PartialUnit, import_of, part_row, imports, kept_row, pinned_first, row_staying}
 use Rattle.dwz_plan.specs.Shows.{import_row}
 use Rattle.dwz_def_images.specs.Units.{changes, kept_below, kept_unit, partial_root, partial_unit, tree}
 use Rattle.std.proofs.lemmas.List.{append-nil}

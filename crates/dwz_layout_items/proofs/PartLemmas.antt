@@ -3,7 +3,7 @@ use Rattle.std.proofs.Common.{◌≡◌, ℕ, suc, ◌||◌, ◌&&◌, not, cond
 use Rattle.dwz_def_reading.specs.Documents.{entries_map, node_map}
 use Rattle.dwz_def_tops.specs.Deciding.{same_bool}
 use Rattle.dwz_def_tops.specs.Spots.{ASpace, ATop, EntryName, Nothing, Row}
-use Rattle.dwz_def_plan.specs.Plan.{Pinned, pinned_first, row_part, row_pinned, row_staying}
+use Rattle.dwz_def_images.specs.Plan.{Pinned, pinned_first, row_part, row_pinned, row_staying}
 use Rattle.dwz_layout_items.specs.Lines.{Line, line, lines, row_lines}
 use Rattle.dwz_layout_items.specs.Outline.{View}
 use Rattle.dwz_layout_items.specs.Parts.{part_lines}

@@ -10,7 +10,7 @@ use Rattle.dwz_def_tops.proofs.Members.{in_filter_from}
 use Rattle.dwz_plan.proofs.ListFacts.{map_in, map_map}
 use Rattle.dwz_plan.proofs.ListingLemmas.{filter_within}
 use Rattle.dwz_def_tops.specs.Spots.{ASpace, ATop, EntryName, Nothing, Row, SpaceName, Top}
-use Rattle.dwz_def_plan.specs.Plan.{PartialUnit, beside, chain_down, chains, in_root, leading, part_row, same_names, space_entry, top_row}
+use Rattle.dwz_def_images.specs.Plan.{PartialUnit, beside, chain_down, chains, in_root, leading, part_row, same_names, space_entry, top_row}
 use Rattle.dwz_layout_items.specs.Chains.{ShowsSpaced, chain_lines, chains_by, chains_lines, firsts_by, path_lines, tops_lines}
 use Rattle.dwz_layout_items.specs.Lines.{Line, line, lines, row_lines}
 use Rattle.dwz_layout_items.specs.Order.{Names}

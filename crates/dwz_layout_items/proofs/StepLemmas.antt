@@ -4,7 +4,7 @@ use Rattle.std.proofs.lemmas.List.{append-nil}
 use Rattle.dwz_def_reading.specs.Documents.{entries_map, node_map}
 use Rattle.dwz_def_tops.specs.Deciding.{same_bool}
 use Rattle.dwz_def_tops.specs.Spots.{ASpace, ATop, EntryName, Nothing, Row}
-use Rattle.dwz_def_plan.specs.Plan.{row_pinned, row_staying}
+use Rattle.dwz_def_images.specs.Plan.{row_pinned, row_staying}
 use Rattle.dwz_layout_items.specs.declared.order.Outer.{Outer}
 use Rattle.dwz_layout_items.specs.Lines.{Line, line, lines}
 use Rattle.dwz_layout_items.specs.declared.order.Item.{Item}

@@ -4,8 +4,8 @@ use Rattle.std.specs.Prelude.{slice_index_or}
 use Rattle.dwz_def_reading.specs.Documents.{entries_map, node_map}
 use Rattle.dwz_def_reading.specs.Lists.{In}
 use Rattle.dwz_def_tops.specs.Spots.{EntryName, SpaceName, Top}
-use Rattle.dwz_def_plan.specs.Moves.{Move, image_in}
-use Rattle.dwz_def_plan.specs.Plan.{in_root, same_names, space_entry}
+use Rattle.dwz_def_images.specs.Moves.{Move, image_in}
+use Rattle.dwz_def_images.specs.Plan.{in_root, same_names, space_entry}
 use Rattle.dwz_def_images.specs.Units.{partial_root}
 use Rattle.dwz_layout_items.specs.declared.partial.SpaceRow.{SpaceRow}
 use Rattle.dwz_layout_items.specs.declared.partial.TopSpaces.{TopSpaces}

@@ -2,7 +2,7 @@
 use Rattle.std.specs.Prelude.{◌≡◌, ℕ, ◌≤◌, Bool, true, List, [], ◌∷◌, ◌||◌, drop, length, not, take}
 use Rattle.dwz_def_reading.specs.Documents.{Node, entries_map, node_map}
 use Rattle.dwz_def_tops.specs.Spots.{ASpace, ATop, EntryName, Nothing, Row, Top}
-use Rattle.dwz_def_plan.specs.Plan.{Pinned, row_pinned, row_staying}
+use Rattle.dwz_def_images.specs.Plan.{Pinned, row_pinned, row_staying}
 use Rattle.dwz_layout_items.specs.Order.{Names}
 use Rattle.dwz_layout_items.specs.declared.order.Outer.{Outer}
 use Rattle.dwz_layout_items.specs.declared.order.ItemKind.TheVariants.{Space as TheSpace, Top as TheTop}

@@ -2,8 +2,8 @@
 use Rattle.std.specs.Prelude.{◌≡◌, ℕ, List}
 use Rattle.dwz_def_reading.specs.Documents.{DwUnit, entries_map, node_map}
 use Rattle.dwz_def_tops.specs.Spots.{EntryName, FileUnit}
-use Rattle.dwz_def_plan.specs.Moves.{Move, image_in}
-use Rattle.dwz_def_plan.specs.Plan.{import_of, pinned_of}
+use Rattle.dwz_def_images.specs.Moves.{Move, image_in}
+use Rattle.dwz_def_images.specs.Plan.{import_of, pinned_of}
 use Rattle.dwz_layout_items.specs.Order.{Names}
 use Rattle.dwz_layout_items.specs.Outline.{View}
 

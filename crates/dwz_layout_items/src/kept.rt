@@ -2,7 +2,7 @@
 ghost use Rattle.std.specs.Prelude.{◌≡◌, ℕ, ◌+◌, ◌<◌, ◌≤◌, ◌^◌, ◌++◌, ◌∷◌, ◌&&◌, length, min, OnOk};
 ghost use Rattle.dwz_def_tops.specs.Deciding.{same_bool};
 ghost use Rattle.dwz_def_tops.specs.Spots.{EntryName, Row};
-ghost use Rattle.dwz_def_plan.specs.Plan.{pinned_first, row_staying};
+ghost use Rattle.dwz_def_images.specs.Plan.{pinned_first, row_staying};
 ghost use Rattle.dwz_layout_items.specs.Lines.{line, lines, row_lines};
 ghost use Rattle.dwz_layout_items.specs.Order.{Names, import_lines, order_lines};
 ghost use Rattle.dwz_layout_items.specs.Outline.{ShowsRow, View};

@@ -3,8 +3,8 @@ ghost use Rattle.std.specs.Prelude.{◌≡◌, ℕ, List, [], ◌∷◌, ◌++�
 ghost use Rattle.dwz_def_tops.specs.Spots.{EntryName, FileUnit, Row, SpaceName, rows_of_root};
 ghost use Rattle.dwz_def_reading.specs.Trees.{End};
 ghost use Rattle.dwz_def_reading.specs.Documents.{Compile, DwUnit, Entries};
-ghost use Rattle.dwz_def_plan.specs.Moves.{Move, image_in};
-ghost use Rattle.dwz_def_plan.specs.Plan.{PartialUnit, imports, part_row, pinned_first, row_staying};
+ghost use Rattle.dwz_def_images.specs.Moves.{Move, image_in};
+ghost use Rattle.dwz_def_images.specs.Plan.{PartialUnit, imports, part_row, pinned_first, row_staying};
 ghost use Rattle.dwz_plan.specs.Shows.{import_row};
 ghost use Rattle.dwz_def_images.specs.Units.{changes, kept_unit, partial_unit, tree};
 ghost use Rattle.dwz_layout_items.specs.Chains.{NamesPartial, ShowsSpaced, partial_lines};

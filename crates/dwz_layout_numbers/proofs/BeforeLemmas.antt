@@ -12,7 +12,7 @@ use Rattle.dwz_unit.specs.Rows.{EntryRow, attr_count, rows_of}
 use Rattle.dwz_unit.specs.Declarations.{AreOf, Declarations}
 use Rattle.dwz_unit.specs.Known.{pairs_of}
 use Rattle.dwz_unit.proofs.DeclarationLemmas.{pairs_by_number}
-use Rattle.dwz_graph.proofs.RowLemmas.{row_there, rows-length}
+use Rattle.dwz_unit.proofs.RowsFound.{row_there, rows-length}
 use Rattle.dwz_layout_numbers.specs.declared.firsts.CountsBefore.{CountsBefore}
 use Rattle.dwz_layout_numbers.specs.declared.firsts.PairCounts.{PairCounts}
 use Rattle.dwz_layout_numbers.specs.Befores.{befores_from, behind, counts_of, file_count, is_pair_file, is_pair_placed, text_count}

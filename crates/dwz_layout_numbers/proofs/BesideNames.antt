@@ -7,10 +7,10 @@ use Rattle.dwz_def_tops.specs.Spots.{EntryName, Within, named_files, spot_in, sp
 use Rattle.dwz_graph.specs.Names.{names_from}
 use Rattle.dwz_graph.specs.Index.{Index}
 use Rattle.dwz_graph.proofs.TopLemmas.{get_cases, get_later}
-use Rattle.dwz_def_images.proofs.OldFiles.{counted, tops_length}
+use Rattle.dwz_def_tops.proofs.FiledTops.{counted, tops_length}
 use Rattle.dwz_def_taken.specs.Beside.{as_compile, compile_doc}
 use Rattle.dwz_layout_numbers.specs.Images.{IsFile}
-use Rattle.dwz_layout_numbers.specs.Names.{AreTopEntries, all_names, names_of_files}
+use Rattle.dwz_graph.specs.AllNames.{AreTopEntries, all_names, names_of_files}
 use Rattle.dwz_layout_numbers.specs.OverLaws.{common_names}
 use Rattle.dwz_layout_numbers.proofs.FileRuns.{counted_append, filed, filed_counted, filed_length, many_tops, tops_in_all}
 

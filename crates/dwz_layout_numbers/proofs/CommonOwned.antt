@@ -19,11 +19,10 @@ use Rattle.dwz_def_tops.specs.Spots.{tops_from, tops_of, units_of}
 use Rattle.dwz_def_tops.proofs.Tops.{one_top}
 use Rattle.dwz_graph.proofs.TopLemmas.{below_names, get_later}
 use Rattle.dwz_unit.specs.Rows.{EntryRow, rows_of}
-use Rattle.dwz_def_plan.specs.Moves.{Move, image_in}
+use Rattle.dwz_def_images.specs.Moves.{Move, image_in}
 use Rattle.dwz_def_images.specs.Units.{changes, common_units}
 use Rattle.dwz_def_images.proofs.EntryLemmas.{kept_still}
-use Rattle.dwz_def_images.proofs.OldFiles.{counted, tops_length}
-use Rattle.dwz_def_images.proofs.StillLemmas.{tops_append}
+use Rattle.dwz_def_tops.proofs.FiledTops.{counted, tops_length, tops_append}
 use Rattle.dwz_def_taken.specs.declared.fixed.Fixed.{Fixed}
 use Rattle.dwz_def_taken.specs.Beside.{Reused, as_compile, compile_doc, own_tops, reused_of, together}
 use Rattle.dwz_def_taken.specs.Laws.{ArePlacedOver, IsReused}
@@ -32,7 +31,7 @@ use Rattle.dwz_def_taken.specs.Takes.{IsFixed}
 use Rattle.dwz_def_taken.proofs.CommonUnits.{common_stands}
 use Rattle.dwz_def_taken.proofs.NamesOver.{common_spots, named_over, together_is}
 use Rattle.dwz_def_taken.proofs.PlaceLemmas.{nth_move, nth_right}
-use Rattle.dwz_layout_numbers.specs.Names.{all_names}
+use Rattle.dwz_graph.specs.AllNames.{all_names}
 use Rattle.dwz_layout_numbers.specs.OverLaws.{common_names}
 use Rattle.dwz_layout_numbers.specs.Owners.{StandsIn, all_written, files_written}
 use Rattle.dwz_layout_numbers.proofs.BesideNames.{every_names}

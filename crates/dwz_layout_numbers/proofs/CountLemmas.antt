@@ -4,7 +4,7 @@ use Rattle.std.proofs.lemmas.List.{append-nil, append_assoc, drop_all, map-appen
 use Rattle.dwz_def_reading.proofs.ListFacts.{drop_next}
 use Rattle.dwz_graph.specs.declared.index.TopEntry.{TopEntry}
 use Rattle.dwz_graph.specs.Index.{Index}
-use Rattle.dwz_layout_numbers.specs.Images.{entry_count, starts_from, tops_from, tops_in}
+use Rattle.dwz_graph.specs.EntryCounts.{entry_count, starts_from, tops_from, tops_in}
 
 -- the files from one on, the first entry of which has that number
 pub record Left (all : List Index) (i start : ℕ) : Type 0 where

@@ -8,11 +8,10 @@ use Rattle.dwz_def_tops.specs.Spots.{EntryName, FileUnit, InType, RootOf, Top, i
 use Rattle.dwz_def_tops.specs.Spots.{units_of}
 use Rattle.dwz_def_tops.proofs.NameLists.{count_map}
 use Rattle.dwz_def_tops.proofs.RowLemmas.{row_is}
-use Rattle.dwz_def_images.proofs.OldFiles.{counted, tops_length}
-use Rattle.dwz_def_images.proofs.StillLemmas.{tops_append}
+use Rattle.dwz_def_tops.proofs.FiledTops.{counted, tops_length, tops_append}
 use Rattle.dwz_graph.specs.Names.{names_from}
 use Rattle.dwz_graph.proofs.TopLemmas.{below_names}
-use Rattle.dwz_layout_numbers.specs.Names.{names_of_files}
+use Rattle.dwz_graph.specs.AllNames.{names_of_files}
 use Rattle.dwz_layout_numbers.proofs.Paths.{names_paths, paths_in, paths_of}
 use Rattle.dwz_layout_numbers.proofs.Runs.{Between, Run, row_run, run_left, run_right, tops_between, wider}
 

@@ -7,10 +7,10 @@ use Rattle.dwz_def_reading.specs.Documents.{Doc, Entries}
 use Rattle.dwz_def_tops.proofs.Members.{each_in}
 use Rattle.dwz_def_tops.specs.Spots.{EntryName, Top, Within, tops_of, units_of}
 use Rattle.dwz_def_tops.proofs.TopNumbers.{number_below, top_at, tops_numbers}
-use Rattle.dwz_def_plan.specs.Moves.{Move, image_in}
+use Rattle.dwz_def_images.specs.Moves.{Move, image_in}
 use Rattle.dwz_graph.proofs.TopLemmas.{get_cases, get_later}
 use Rattle.dwz_layout_numbers.specs.Images.{HasStandIn, HaveStandIns}
-use Rattle.dwz_layout_numbers.specs.Names.{all_names}
+use Rattle.dwz_graph.specs.AllNames.{all_names}
 use Rattle.dwz_layout_numbers.proofs.FileRuns.{files_between, files_run, many_tops, tops_in_all}
 use Rattle.dwz_layout_numbers.proofs.Paths.{paths_in, paths_of, shape_paths}
 use Rattle.dwz_layout_numbers.proofs.Runs.{Between, Run}

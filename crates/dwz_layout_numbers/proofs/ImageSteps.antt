@@ -7,12 +7,12 @@ use Rattle.dwz_def_reading.proofs.ListFacts.{get_first, got_below}
 use Rattle.dwz_def_reading.specs.Documents.{Doc}
 use Rattle.dwz_def_tops.specs.Spots.{EntryName, Import, InChain, InType, PartialOf, PartialRoot, RootOf, SpaceAt, UnitOf, Within, tops_of, units_of}
 use Rattle.dwz_def_tops.proofs.TopNumbers.{top_at, tops_numbers}
-use Rattle.dwz_def_plan.specs.Moves.{Move, image_in}
+use Rattle.dwz_def_images.specs.Moves.{Move, image_in}
 use Rattle.dwz_plan.specs.Planned.{Planned}
 use Rattle.dwz_graph.specs.Index.{Index}
 use Rattle.dwz_graph.specs.Names.{top_in}
 use Rattle.dwz_graph.proofs.TopLemmas.{get_later}
-use Rattle.dwz_layout_numbers.specs.Names.{all_names}
+use Rattle.dwz_graph.specs.AllNames.{all_names}
 use Rattle.dwz_layout_numbers.specs.Images.{AreImages, IsFile, IsImage, IsPlanned}
 use Rattle.dwz_layout_numbers.proofs.ImageLemmas.{image_there, stand_inside, top_inside}
 

@@ -6,7 +6,7 @@ use Rattle.std.specs.List.{range_with_len}
 use Rattle.std.proofs.lemmas.List.{length-append, length-drop}
 use Rattle.std.proofs.lemmas.List.FromFn.{length-range_with_len}
 use Rattle.std.proofs.lemmas.List.Sums.{sum_by-drop_more}
-use Rattle.dwz_def_plan.specs.Plan.{partials}
+use Rattle.dwz_def_images.specs.Plan.{partials}
 use Rattle.dwz_plan.specs.declared.plan.Partial.{Partial}
 use Rattle.dwz_layout_numbers.specs.Numbering.{leading}
 use Rattle.dwz_layout_numbers.proofs.NumberingLemmas.{leading_le}

@@ -12,9 +12,9 @@ use Rattle.dwz_def_reading.specs.Lists.{Each}
 use Rattle.dwz_def_tops.proofs.Members.{each_append, each_in, each_more, nth_of}
 use Rattle.dwz_def_tops.specs.Spots.{EntryName, FileUnit, named_files, spot_in, spots_from, tops_among, units_of}
 use Rattle.dwz_graph.proofs.TopLemmas.{get_cases, get_later}
-use Rattle.dwz_def_plan.specs.Homes.{Common, Home, Local, same_home}
-use Rattle.dwz_def_plan.specs.Moves.{Move}
-use Rattle.dwz_def_plan.specs.Plan.{PartialUnit}
+use Rattle.dwz_def_images.specs.Homes.{Common, Home, Local, same_home}
+use Rattle.dwz_def_images.specs.Moves.{Move}
+use Rattle.dwz_def_images.specs.Plan.{PartialUnit}
 use Rattle.dwz_plan.specs.declared.plan.Partial.{Partial}
 use Rattle.dwz_plan.specs.Planned.{file_of_home}
 use Rattle.dwz_plan.specs.Shows.{shown_part}

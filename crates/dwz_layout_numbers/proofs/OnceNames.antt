@@ -13,7 +13,7 @@ use Rattle.dwz_def_tops.specs.Spots.{EntryName, Import, InChain, InType, Partial
 use Rattle.dwz_graph.specs.Names.{names_from}
 use Rattle.dwz_graph.proofs.TopLemmas.{below_names}
 use Rattle.dwz_def_images.proofs.ApartTrees.{Behind, here_inner, here_rest, inner_rest, type_path, within_path}
-use Rattle.dwz_layout_numbers.specs.Names.{all_names, names_of_files}
+use Rattle.dwz_graph.specs.AllNames.{all_names, names_of_files}
 use Rattle.dwz_layout_numbers.proofs.FileRuns.{tops_in_all}
 use Rattle.dwz_layout_numbers.proofs.Paths.{names_paths, paths_in, paths_of, spot_of}
 use Rattle.dwz_layout_numbers.proofs.Runs.{space_names, top_names, under_space, under_top}

@@ -14,13 +14,13 @@ use Rattle.dwz_def_tops.proofs.Tops.{row_top}
 use Rattle.dwz_def_tops.specs.Alike.{Alike, Apart, Look, SameTop}
 use Rattle.dwz_def_tops.specs.Deciding.{alike_test}
 use Rattle.dwz_def_tops.specs.Spots.{ASpace, ATop, EntryName, FileUnit, Nothing, Row, Top, file_numbers, name_list, row_tops, rows_of_root, tops_of, units_of}
-use Rattle.dwz_def_plan.specs.Homes.{Common, Local, Rule, moves}
-use Rattle.dwz_def_plan.specs.IsPlan.{Has, OfTop}
-use Rattle.dwz_def_plan.specs.Moves.{Move}
-use Rattle.dwz_def_plan.specs.Plan.{PartialUnit, local_partials, partials, partials_at, stand_in}
+use Rattle.dwz_def_images.specs.Homes.{Common, Local, Rule, moves}
+use Rattle.dwz_def_images.specs.IsPlan.{Has, OfTop}
+use Rattle.dwz_def_images.specs.Moves.{Move}
+use Rattle.dwz_def_images.specs.Plan.{PartialUnit, local_partials, partials, partials_at, stand_in}
 use Rattle.dwz_plan.proofs.BridgeLemmas.{file_numbers_are}
 use Rattle.dwz_def_images.specs.Units.{changes}
-use Rattle.dwz_def_images.proofs.OldFiles.{nth_cases}
+use Rattle.dwz_def_tops.proofs.FiledTops.{nth_cases}
 use Rattle.dwz_def_taken.specs.declared.fixed.Fixed.{Fixed}
 use Rattle.dwz_def_taken.specs.Beside.{Reused, compile_doc, look_units, reused_of, together}
 use Rattle.dwz_def_taken.specs.Laws.{ArePlacedOver, IsReused}

@@ -19,11 +19,12 @@ use Rattle.dwz_def_tops.proofs.RowLemmas.{RowIs, below_unit, unit_row}
 use Rattle.dwz_def_tops.proofs.TopNumbers.{below_length, from_numbered, top_at}
 use Rattle.dwz_def_tops.proofs.Tops.{unit_of}
 use Rattle.dwz_graph.proofs.TopLemmas.{below_names}
-use Rattle.dwz_def_plan.specs.IsPlan.{Has, Item, OfSpace, OfTop, Remains}
-use Rattle.dwz_def_plan.specs.Moves.{Move, image_in}
-use Rattle.dwz_def_plan.specs.Plan.{imports, kept_row}
-use Rattle.dwz_def_plan.proofs.RowParts.{kept_is}
-use Rattle.dwz_def_images.specs.After.{AreOld, IsNamedBelow}
+use Rattle.dwz_def_images.specs.IsPlan.{Has, Item, OfSpace, OfTop, Remains}
+use Rattle.dwz_def_images.specs.Moves.{Move, image_in}
+use Rattle.dwz_def_images.specs.Plan.{imports, kept_row}
+use Rattle.dwz_def_images.proofs.RowParts.{kept_is}
+use Rattle.dwz_def_images.specs.After.{AreOld}
+use Rattle.dwz_def_tops.specs.UnitNames.{IsNamedBelow}
 use Rattle.dwz_def_images.specs.Units.{changes, kept_unit, tree}
 use Rattle.dwz_def_images.proofs.EntryLemmas.{kept_compile, kept_still, kept_type}
 use Rattle.dwz_def_images.proofs.KeyLemmas.{tree_is}

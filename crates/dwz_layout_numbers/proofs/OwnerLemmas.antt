@@ -20,8 +20,8 @@ use Rattle.dwz_def_tops.proofs.Tops.{one_top}
 use Rattle.dwz_graph.specs.Index.{Index}
 use Rattle.dwz_graph.specs.Names.{names_from, top_in}
 use Rattle.dwz_graph.proofs.TopLemmas.{get_later}
-use Rattle.dwz_def_plan.specs.Homes.{Common, Home, Local}
-use Rattle.dwz_def_plan.specs.Moves.{Move, image_in}
+use Rattle.dwz_def_images.specs.Homes.{Common, Home, Local}
+use Rattle.dwz_def_images.specs.Moves.{Move, image_in}
 use Rattle.dwz_plan.specs.declared.plan.Home.{Home as Place}
 use Rattle.dwz_plan.specs.declared.plan.Home.TheVariants.{Common as InCommon, Local as InFile, Stay as InUnit}
 use Rattle.dwz_plan.specs.Planned.{Planned}
@@ -29,7 +29,7 @@ use Rattle.dwz_plan.specs.ShowsMove.{HoldsAt, IsPlaceIn}
 use Rattle.dwz_def_images.specs.After.{AreOld, ArePlaced}
 use Rattle.dwz_def_images.specs.Units.{kept_unit, partial_unit}
 use Rattle.dwz_def_images.proofs.OldFiles.{files_old}
-use Rattle.dwz_layout_numbers.specs.Names.{all_names}
+use Rattle.dwz_graph.specs.AllNames.{all_names}
 use Rattle.dwz_layout_numbers.specs.OwnerLaws.{AreMoved}
 use Rattle.dwz_layout_numbers.specs.Owners.{IsFileWritten, IsOwner, all_written, owner_at, owner_by}
 use Rattle.dwz_layout_numbers.specs.Whole.{IsFileAt}

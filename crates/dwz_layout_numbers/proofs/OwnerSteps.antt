@@ -6,7 +6,7 @@ use Rattle.dwz_def_reading.specs.Units.{RawUnit, entries_in}
 use Rattle.dwz_def_reading.proofs.ListFacts.{got_there}
 use Rattle.dwz_unit.specs.declared.rows.RawEntry.{RawEntry as EntryOfCode}
 use Rattle.dwz_unit.specs.Rows.{EntryRow, rows_of, shown_entries}
-use Rattle.dwz_graph.proofs.RowLemmas.{row_is, rows-length}
+use Rattle.dwz_unit.proofs.RowsFound.{row_is, rows-length}
 use Rattle.dwz_def_tops.specs.Spots.{EntryName}
 use Rattle.dwz_graph.specs.Index.{Index, IsIndex}
 use Rattle.dwz_graph.specs.Names.{top_in}

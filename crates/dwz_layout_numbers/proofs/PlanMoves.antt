@@ -7,18 +7,18 @@ use Rattle.dwz_def_tops.proofs.Members.{nth_in}
 use Rattle.dwz_def_tops.specs.Alike.{IsAlike, Look, SameTop, TopScope}
 use Rattle.dwz_def_tops.specs.Deciding.{Test}
 use Rattle.dwz_def_tops.specs.Spots.{EntryName, FileUnit, Top, name_list, tops_of, units_of}
-use Rattle.dwz_def_plan.specs.Homes.{Common, Local, Rule, first_alike, moves}
-use Rattle.dwz_def_plan.specs.IsPlan.{Has, OfTop}
-use Rattle.dwz_def_plan.specs.Moves.{plan}
-use Rattle.dwz_def_plan.specs.Plan.{local_partials, partials, partials_at, stand_in}
-use Rattle.dwz_def_plan.proofs.UserLemmas.{Fair}
+use Rattle.dwz_def_images.specs.Homes.{Common, Local, Rule, first_alike, moves}
+use Rattle.dwz_def_images.specs.IsPlan.{Has, OfTop}
+use Rattle.dwz_def_images.specs.Moves.{plan}
+use Rattle.dwz_def_images.specs.Plan.{local_partials, partials, partials_at, stand_in}
+use Rattle.dwz_def_images.proofs.UserLemmas.{Fair}
 use Rattle.dwz_plan.proofs.BridgeLemmas.{file_numbers_are}
 use Rattle.dwz_def_images.specs.Units.{changes}
 use Rattle.dwz_def_images.proofs.HeldLemmas.{row_found}
 use Rattle.dwz_layout_numbers.specs.Images.{HaveStandIns, SameShape}
 use Rattle.dwz_layout_numbers.specs.Numbering.{AreInOrder, parts_at}
 use Rattle.dwz_layout_numbers.specs.OwnerLaws.{HoldTops}
-use Rattle.dwz_layout_numbers.specs.Owners.{move_of}
+use Rattle.dwz_plan.specs.MoveOf.{move_of}
 use Rattle.dwz_layout_numbers.proofs.Paths.{shape_same, shape_self}
 use Rattle.dwz_layout_numbers.proofs.PlanParts.{home_at, in_order, none_still, row_holds}
 

@@ -9,14 +9,14 @@ use Rattle.dwz_def_reading.proofs.ListFacts.{in_cases, in_right}
 use Rattle.dwz_def_tops.proofs.Members.{each_append, each_in, each_more, each_of, in_map_from}
 use Rattle.dwz_def_tops.specs.Spots.{EntryName, FileUnit, Top, name_list, tops_of}
 use Rattle.dwz_def_tops.proofs.Tops.{one_top}
-use Rattle.dwz_def_plan.specs.Homes.{Common, Home, Local, Rule, home, is_home, moves, same_home, users}
-use Rattle.dwz_def_plan.specs.IsPlan.{BelongsTo, Has, IsHome, IsPart, OfTop}
-use Rattle.dwz_def_plan.specs.Moves.{Move}
-use Rattle.dwz_def_plan.specs.Plan.{PartialUnit, distinct, local_partials, part_row, partial_with, partials, partials_at, representatives, users_of}
-use Rattle.dwz_def_plan.proofs.HomeLemmas.{file_of_top, home_is}
-use Rattle.dwz_def_plan.proofs.PartRows.{part_is}
-use Rattle.dwz_def_plan.proofs.PlanLemmas.{are_parts}
-use Rattle.dwz_def_plan.proofs.UserLemmas.{Fair, moves_self, moving, used}
+use Rattle.dwz_def_images.specs.Homes.{Common, Home, Local, Rule, home, is_home, moves, same_home, users}
+use Rattle.dwz_def_images.specs.IsPlan.{BelongsTo, Has, IsHome, IsPart, OfTop}
+use Rattle.dwz_def_images.specs.Moves.{Move}
+use Rattle.dwz_def_images.specs.Plan.{PartialUnit, distinct, local_partials, part_row, partial_with, partials, partials_at, representatives, users_of}
+use Rattle.dwz_def_images.proofs.HomeLemmas.{file_of_top, home_is}
+use Rattle.dwz_def_images.proofs.PartRows.{part_is}
+use Rattle.dwz_def_images.proofs.PlanLemmas.{are_parts}
+use Rattle.dwz_def_images.proofs.UserLemmas.{Fair, moves_self, moving, used}
 use Rattle.dwz_def_images.specs.Units.{changes}
 use Rattle.dwz_def_images.proofs.EntryLemmas.{top_changes}
 use Rattle.dwz_layout_numbers.specs.Numbering.{AreInOrder, parts_at, parts_of_files}

@@ -11,9 +11,9 @@ use Rattle.dwz_def_tops.specs.Shown.{unit_keys, units_keys}
 use Rattle.dwz_def_tops.proofs.OnceLemmas.{none_append, none_both, none_left, none_right}
 use Rattle.dwz_def_tops.specs.Spots.{EntryName, FileUnit, file_numbers, same_spot}
 use Rattle.dwz_graph.proofs.TopLemmas.{get_cases}
-use Rattle.dwz_def_plan.specs.Moves.{Move}
+use Rattle.dwz_def_images.specs.Moves.{Move}
 use Rattle.dwz_def_images.specs.Units.{all_units, common_units, file_units, out_units}
-use Rattle.dwz_def_images.proofs.ApartOwn.{keys_joined}
+use Rattle.dwz_def_tops.proofs.UnitKeys.{keys_joined}
 use Rattle.dwz_def_encoding.specs.Placing.{has_key}
 use Rattle.dwz_def_encoding.proofs.Chosen.{none_has}
 use Rattle.dwz_def_encoding.proofs.ChosenNames.{has_in}

@@ -6,9 +6,9 @@ use Rattle.dwz_def_reading.specs.Documents.{Doc}
 use Rattle.dwz_graph.specs.Resolved.{place_at}
 use Rattle.dwz_graph.specs.Rows.{AreTargets}
 use Rattle.dwz_def_tops.specs.Spots.{EntryName}
-use Rattle.dwz_def_plan.specs.Moves.{Move, image_in}
+use Rattle.dwz_def_images.specs.Moves.{Move, image_in}
 use Rattle.dwz_layout_numbers.specs.Images.{AreImages, IsImage}
-use Rattle.dwz_layout_numbers.specs.Names.{all_names}
+use Rattle.dwz_graph.specs.AllNames.{all_names}
 use Rattle.dwz_layout_numbers.proofs.OwnerSteps.{got_or}
 
 target_at : (raw : List RawUnit) (refs places : List ℕ) → AreTargets raw refs places → (j p : ℕ) → slice_get places j ≡ Some p

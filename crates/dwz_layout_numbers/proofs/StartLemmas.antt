@@ -1,7 +1,7 @@
 -- Where the files start.
 use Rattle.std.proofs.Common.{◌≡◌, ℕ, zero, suc, ◌+◌, ◌≤◌, List, [], ◌∷◌, length, Some, slice_get, arith, ◌<◌, refl, ap}
 use Rattle.dwz_graph.specs.Index.{Index}
-use Rattle.dwz_layout_numbers.specs.Images.{starts_from}
+use Rattle.dwz_graph.specs.EntryCounts.{starts_from}
 
 pub starts_low : (c : ℕ) (indexes : List Index) (j s : ℕ) → slice_get (starts_from c indexes) j ≡ Some s → c ≤ s
 unfolding starts_from

@@ -9,8 +9,7 @@ use Rattle.dwz_def_tops.specs.Lists.{Nth}
 use Rattle.dwz_def_tops.specs.Seen.{IsPartial}
 use Rattle.dwz_def_tops.proofs.Members.{nth_of}
 use Rattle.dwz_def_tops.specs.Spots.{EntryName, FileUnit, Top, Within, in_file, named, named_files, spot_in, spots_from, tops_from as tops_of_units, tops_of, units_of}
-use Rattle.dwz_def_images.proofs.OldFiles.{counted}
-use Rattle.dwz_def_images.proofs.StillLemmas.{tops_append}
+use Rattle.dwz_def_tops.proofs.FiledTops.{counted, tops_append}
 use Rattle.dwz_graph.specs.declared.index.Starts.{Starts}
 use Rattle.dwz_graph.specs.declared.index.TopEntry.{TopEntry}
 use Rattle.dwz_graph.specs.Index.{Index}
@@ -18,8 +17,8 @@ use Rattle.dwz_graph.specs.Names.{names_from}
 use Rattle.dwz_graph.proofs.TopLemmas.{get_cases, get_later, many, named as name_at}
 use Rattle.dwz_graph.specs.Indexed.{AreIndexed, AreIndexes, IsIndexOf, first_starts, starts_behind}
 use Rattle.dwz_graph.proofs.IndexSteps.{tops_long}
-use Rattle.dwz_layout_numbers.specs.Images.{starts_from, tops_from, tops_in}
-use Rattle.dwz_layout_numbers.specs.Names.{AreTopEntries, StandFrom, all_names, names_of_files}
+use Rattle.dwz_graph.specs.EntryCounts.{starts_from, tops_from, tops_in}
+use Rattle.dwz_graph.specs.AllNames.{AreTopEntries, StandFrom, all_names, names_of_files}
 use Rattle.dwz_layout_numbers.specs.Whole.{AreWhole, IsFileAt}
 use Rattle.dwz_layout_numbers.proofs.FileRuns.{counted_append, filed, filed_counted, filed_length, many_tops, tops_in_all}
 

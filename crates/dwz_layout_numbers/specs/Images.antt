@@ -1,33 +1,13 @@
 -- Numbers of images: of the entries of a file that of the entry that stands for each after.
-use Rattle.std.specs.Prelude.{◌≡◌, ℕ, ◌+◌, ◌<◌, ◌^◌, List, [], ◌∷◌, ◌++◌, length, map, Some, slice_get, slice_index}
+use Rattle.std.specs.Prelude.{◌≡◌, ℕ, ◌<◌, ◌^◌, List, [], ◌∷◌, length, Some, slice_get, slice_index}
 use Rattle.dwz_def_reading.specs.Documents.{Doc, Entries}
 use Rattle.dwz_def_reading.specs.Lists.{In}
 use Rattle.dwz_def_reading.specs.Trees.{End, Entry}
 use Rattle.dwz_def_tops.specs.Spots.{EntryName, Top, tops_of, units_of}
-use Rattle.dwz_graph.specs.declared.index.TopEntry.{TopEntry}
 use Rattle.dwz_graph.specs.Index.{Index, IsIndex}
-use Rattle.dwz_def_plan.specs.Moves.{Move, image_in}
+use Rattle.dwz_def_images.specs.Moves.{Move, image_in}
 use Rattle.dwz_plan.specs.Planned.{Planned}
-use Rattle.dwz_layout_numbers.specs.Names.{AreTopEntries, StandFrom, all_names}
-
--- ---- entries counted over all files
-
-unfoldable pub entry_count : List Index → ℕ
-entry_count [] = 0
-entry_count (x ∷ indexes) = length x.steps + entry_count indexes
-
--- the numbers of the first entries of files
-unfoldable pub starts_from : ℕ → List Index → List ℕ
-starts_from n [] = []
-starts_from n (x ∷ indexes) = n ∷ starts_from (n + length x.steps) indexes
-
--- the numbers of the entries that are tops
-abbrev pub tops_in : ℕ → List TopEntry → List ℕ
-tops_in n tops = map (λ t. n + t.entry) tops
-
-unfoldable pub tops_from : ℕ → List Index → List ℕ
-tops_from n [] = []
-tops_from n (x ∷ indexes) = tops_in n x.tops ++ tops_from (n + length x.steps) indexes
+use Rattle.dwz_graph.specs.AllNames.{AreTopEntries, StandFrom, all_names}
 
 -- ---- images
 

@@ -5,9 +5,9 @@ use Rattle.dwz_def_reading.specs.Documents.{Doc}
 use Rattle.dwz_graph.specs.Resolved.{place_at}
 use Rattle.dwz_graph.specs.Rows.{AreTargets}
 use Rattle.dwz_def_tops.specs.Spots.{EntryName, Within, tops_of, units_of}
-use Rattle.dwz_def_plan.specs.Moves.{Move, image_in}
+use Rattle.dwz_def_images.specs.Moves.{Move, image_in}
 use Rattle.dwz_layout_numbers.specs.Images.{AreImages, HaveStandIns}
-use Rattle.dwz_layout_numbers.specs.Names.{all_names}
+use Rattle.dwz_graph.specs.AllNames.{all_names}
 
 -- the image of an entry stands as far behind the top that stands for its own as the entry behind its own top
 abbrev pub ImageLaw : Type 0

@@ -1,4 +1,3 @@
-pub mod Names
 pub mod Images
 pub mod Owners
 pub mod Numbering

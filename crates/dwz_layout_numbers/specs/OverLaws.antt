@@ -8,8 +8,8 @@ use Rattle.dwz_def_tops.specs.Spots.{EntryName, RootOf, Within, file_numbers, to
 use Rattle.dwz_unit.specs.Rows.{EntryRow, rows_of}
 use Rattle.dwz_graph.specs.Index.{Index}
 use Rattle.dwz_graph.specs.Names.{names_from}
-use Rattle.dwz_def_plan.specs.Homes.{Local}
-use Rattle.dwz_def_plan.specs.Moves.{Move}
+use Rattle.dwz_def_images.specs.Homes.{Local}
+use Rattle.dwz_def_images.specs.Moves.{Move}
 use Rattle.dwz_def_images.specs.Units.{changes}
 use Rattle.dwz_def_taken.specs.declared.fixed.Fixed.{Fixed}
 use Rattle.dwz_def_taken.specs.Beside.{as_compile, compile_doc, reused_of}
@@ -17,7 +17,7 @@ use Rattle.dwz_def_taken.specs.Laws.{ArePlacedOver}
 use Rattle.dwz_def_taken.specs.Over.{move_over}
 use Rattle.dwz_def_taken.specs.Takes.{IsFixed}
 use Rattle.dwz_layout_numbers.specs.Images.{HaveStandIns, IsFile}
-use Rattle.dwz_layout_numbers.specs.Names.{AreTopEntries, all_names}
+use Rattle.dwz_graph.specs.AllNames.{AreTopEntries, all_names}
 use Rattle.dwz_layout_numbers.specs.Numbering.{AreInOrder, parts_at}
 use Rattle.dwz_layout_numbers.specs.OwnerLaws.{HoldTops}
 use Rattle.dwz_layout_numbers.specs.Owners.{StandsIn, all_written}

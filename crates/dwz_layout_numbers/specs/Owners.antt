@@ -2,23 +2,18 @@
 use Rattle.std.specs.Prelude.{◌≡◌, ℕ, suc, ◌+◌, Bool, true, false, List, [], ◌∷◌, ◌++◌, length, Option, Some, None, slice_get}
 use Rattle.std.specs.Prelude.{slice_index_or}
 use Rattle.dwz_def_reading.specs.Lists.{In}
-use Rattle.dwz_def_reading.specs.Documents.{Doc, DwUnit}
+use Rattle.dwz_def_reading.specs.Documents.{DwUnit}
 use Rattle.dwz_def_tops.specs.Lists.{Nth}
 use Rattle.dwz_def_tops.specs.Shown.{unit_keys}
 use Rattle.dwz_unit.specs.Rows.{EntryRow}
-use Rattle.dwz_def_tops.specs.Spots.{EntryName, FileUnit, file_numbers, units_of}
+use Rattle.dwz_def_tops.specs.Spots.{EntryName, FileUnit}
 use Rattle.dwz_graph.specs.Names.{top_in}
-use Rattle.dwz_def_plan.specs.Homes.{Rule}
-use Rattle.dwz_def_plan.specs.Moves.{Move, plan}
-use Rattle.dwz_def_plan.specs.Plan.{PartialUnit}
+use Rattle.dwz_def_images.specs.Moves.{Move, plan}
+use Rattle.dwz_def_images.specs.Plan.{PartialUnit}
 use Rattle.dwz_plan.specs.declared.plan.Home.{Home as Place}
 use Rattle.dwz_plan.specs.declared.plan.Home.TheVariants.{Common as InCommon, Local as InFile, Stay as InUnit}
 use Rattle.dwz_plan.specs.Planned.{Planned}
 use Rattle.dwz_def_images.specs.Units.{changes, common_units, kept_unit, out_units, partial_unit}
-
--- the move of a plan
-abbrev pub move_of : Rule → List (Doc ℕ) → Move
-move_of rule docs = plan rule (units_of docs) (file_numbers 0 docs)
 
 -- ---- the units that are written, one behind the other
 

@@ -3,13 +3,13 @@ use Rattle.std.specs.Prelude.{◌≡◌, ℕ, false, List, [], length}
 use Rattle.dwz_def_reading.specs.Documents.{Doc}
 use Rattle.dwz_def_tops.specs.Alike.{IsAlike, TopScope}
 use Rattle.dwz_def_tops.specs.Spots.{EntryName, FileUnit, units_of}
-use Rattle.dwz_def_plan.specs.Homes.{IsChoice, Local, Rule}
-use Rattle.dwz_def_plan.specs.Moves.{plan}
+use Rattle.dwz_def_images.specs.Homes.{IsChoice, Local, Rule}
+use Rattle.dwz_def_images.specs.Moves.{plan}
 use Rattle.dwz_def_images.specs.Units.{changes}
 use Rattle.dwz_layout_numbers.specs.Images.{HaveStandIns}
 use Rattle.dwz_layout_numbers.specs.Numbering.{AreInOrder, parts_at}
 use Rattle.dwz_layout_numbers.specs.OwnerLaws.{HoldTops}
-use Rattle.dwz_layout_numbers.specs.Owners.{move_of}
+use Rattle.dwz_plan.specs.MoveOf.{move_of}
 
 -- a top that stands for others is alike to them
 abbrev pub PlanStandsLaw : Type 0

@@ -5,7 +5,7 @@ use Rattle.dwz_def_reading.specs.Documents.{Doc, DwUnit}
 use Rattle.dwz_def_tops.specs.Lists.{NoneTwice}
 use Rattle.dwz_def_tops.specs.Shown.{unit_keys, units_keys}
 use Rattle.dwz_def_tops.specs.Spots.{EntryName, FileUnit, file_numbers, same_spot}
-use Rattle.dwz_def_plan.specs.Moves.{Move}
+use Rattle.dwz_def_images.specs.Moves.{Move}
 use Rattle.dwz_def_images.specs.Units.{all_units}
 use Rattle.dwz_def_encoding.specs.Placing.{has_key}
 use Rattle.dwz_layout_numbers.specs.Owners.{StandsIn, all_written}

@@ -9,8 +9,8 @@ use Rattle.dwz_graph.specs.declared.index.Starts.{Starts}
 use Rattle.dwz_graph.specs.Index.{Index}
 use Rattle.dwz_graph.specs.Names.{names_from}
 use Rattle.dwz_graph.specs.Indexed.{AreIndexes, IsIndexOf}
-use Rattle.dwz_layout_numbers.specs.Images.{starts_from, tops_from}
-use Rattle.dwz_layout_numbers.specs.Names.{AreTopEntries, StandFrom, all_names}
+use Rattle.dwz_graph.specs.EntryCounts.{starts_from, tops_from}
+use Rattle.dwz_graph.specs.AllNames.{AreTopEntries, StandFrom, all_names}
 
 -- no unit is a partial unit
 abbrev pub AreWhole : List (Doc ℕ) → Type 0

@@ -1,7 +1,7 @@
 //! Entries counted over all files: those of a file begin where those before it end.
 
 ghost use Rattle.std.specs.Prelude.{◌≡◌, ◌+◌, ◌<◌, ◌^◌, ◌++◌, All, length, IfOk, OnOk};
-ghost use Rattle.dwz_layout_numbers.specs.Images.{entry_count, starts_from, tops_from, tops_in};
+ghost use Rattle.dwz_graph.specs.EntryCounts.{entry_count, starts_from, tops_from, tops_in};
 
 use dwz_graph::{Index, TopEntry};
 use dwz_model::NoMemory;

@@ -3,7 +3,7 @@
 ghost use Rattle.std.specs.Prelude.{◌≡◌, ℕ, ◌+◌, ◌-◌, ◌<◌, ◌≤◌, ◌^◌, All, List, Some, length, slice_get, slice_index, IfOk};
 ghost use Rattle.dwz_def_tops.specs.Spots.{EntryName};
 ghost use Rattle.dwz_def_reading.specs.Documents.{Doc};
-ghost use Rattle.dwz_def_plan.specs.Moves.{Move};
+ghost use Rattle.dwz_def_images.specs.Moves.{Move};
 ghost use Rattle.dwz_layout_numbers.specs.Images.{AreImages, IsFile, IsImage, IsPlanned};
 
 use dwz_graph::Index;

@@ -9,7 +9,7 @@
 //!
 //! Laws: `count_laws`, `image_laws`, `owner_laws`, `reach_laws`, `plan_laws`, `over_laws`.
 //!
-//! Read first: `specs/Names.antt`, `specs/Images.antt`, `specs/Owners.antt`.
+//! Read first: `AllNames.antt` of `dwz_graph`, then `specs/Images.antt`, `specs/Owners.antt`.
 #![tactic(auto)]
 
 mod counted;

@@ -4,7 +4,7 @@ ghost use Rattle.std.specs.Prelude.{◌≡◌, ℕ, ◌+◌, ◌<◌, ◌^◌, �
 ghost use Rattle.std.specs.List.{range_with_len};
 ghost use Rattle.dwz_def_tops.specs.Spots.{units_of};
 ghost use Rattle.dwz_def_reading.specs.Documents.{Doc};
-ghost use Rattle.dwz_def_plan.specs.Moves.{Move};
+ghost use Rattle.dwz_def_images.specs.Moves.{Move};
 ghost use Rattle.dwz_layout_numbers.specs.Owners.{AreUnitNumbers};
 ghost use Rattle.dwz_layout_numbers.specs.Numbering.{HaveUnits, leading, numbers_of};
 

@@ -5,7 +5,7 @@ use Rattle.dwz_def_reading.specs.Documents.{DwUnit, Node, unit_map}
 use Rattle.dwz_def_reading.specs.Meanings.{IfSo}
 use Rattle.dwz_def_reading.specs.Lists.{Each}
 use Rattle.dwz_def_tops.specs.Spots.{EntryName, FileUnit, in_file}
-use Rattle.dwz_def_plan.specs.Moves.{Move}
+use Rattle.dwz_def_images.specs.Moves.{Move}
 use Rattle.dwz_layout.specs.declared.order.UnitItems.{UnitItems}
 use Rattle.dwz_layout_order.specs.Orders.{Entered, KeptShown, ShowsKept}
 use Rattle.dwz_layout_order.specs.Shown.{IsOther, KeptLaw, SaidIs, SaidLaw, named_units}

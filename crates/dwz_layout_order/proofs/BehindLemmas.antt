@@ -10,11 +10,11 @@ use Rattle.dwz_def_tops.proofs.Members.{in_map_from, nth_get}
 use Rattle.dwz_def_tops.specs.Spots.{EntryName, FileUnit, file_numbers, units_of}
 use Rattle.dwz_groups.specs.declared.tops.TopRow.{TopRow}
 use Rattle.dwz_groups.specs.declared.tops.Tops.{Tops}
-use Rattle.dwz_def_plan.specs.Homes.{Common, Home, Local, Rule}
-use Rattle.dwz_def_plan.specs.Moves.{plan}
-use Rattle.dwz_def_plan.specs.Plan.{PartialUnit, distinct, local_partials, partial_with, partials, partials_at, representatives, users_of}
-use Rattle.dwz_def_plan.proofs.PlanLemmas.{distinct_in}
-use Rattle.dwz_def_plan.proofs.UserLemmas.{Numbered, user_unit}
+use Rattle.dwz_def_images.specs.Homes.{Common, Home, Local, Rule}
+use Rattle.dwz_def_images.specs.Moves.{plan}
+use Rattle.dwz_def_images.specs.Plan.{PartialUnit, distinct, local_partials, partial_with, partials, partials_at, representatives, users_of}
+use Rattle.dwz_def_images.proofs.PlanLemmas.{distinct_in}
+use Rattle.dwz_def_images.proofs.UserLemmas.{Numbered, user_unit}
 use Rattle.dwz_plan.specs.declared.plan.Home.{Home as Place}
 use Rattle.dwz_plan.specs.declared.plan.Home.TheVariants.{Stay as InUnit}
 use Rattle.dwz_plan.specs.Planned.{Planned}
@@ -22,7 +22,7 @@ use Rattle.dwz_plan.specs.Shows.{ShowsPlan, ShowsTops}
 use Rattle.dwz_plan.specs.ShowsMove.{ShowsMove}
 use Rattle.dwz_plan.proofs.BridgeLemmas.{file_numbers_are}
 use Rattle.dwz_plan.proofs.ShownMoves.{plan_moves}
-use Rattle.dwz_layout_numbers.specs.Owners.{move_of}
+use Rattle.dwz_plan.specs.MoveOf.{move_of}
 use Rattle.dwz_layout_order.specs.Behind.{ArePlannedFirst}
 use Rattle.dwz_layout_order.proofs.FitLemmas.{IsHomeOf, home_of, in_range}
 

@@ -14,7 +14,7 @@ use Rattle.dwz_def_tops.proofs.TopNumbers.{Numbered, tops_numbers}
 use Rattle.dwz_def_tops.proofs.TopOrder.{unit_file}
 use Rattle.dwz_groups.specs.declared.tops.TopRow.{TopRow}
 use Rattle.dwz_groups.specs.declared.tops.Tops.{Tops}
-use Rattle.dwz_def_plan.specs.Moves.{Move}
+use Rattle.dwz_def_images.specs.Moves.{Move}
 use Rattle.dwz_plan.specs.declared.plan.Home.{Home as Place}
 use Rattle.dwz_plan.specs.declared.plan.Home.TheVariants.{Common as InCommon, Local as InFile, Stay as InUnit}
 use Rattle.dwz_plan.specs.Planned.{Planned}

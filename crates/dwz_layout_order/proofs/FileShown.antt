@@ -17,8 +17,8 @@ use Rattle.dwz_graph.proofs.ListMeans.{means_size}
 use Rattle.dwz_graph.proofs.ShowLemmas.{unit_many, unit_names}
 use Rattle.dwz_layout_items.specs.Order.{Names, ShowsUnit}
 use Rattle.dwz_layout_items.specs.Shows.{NamesKept}
-use Rattle.dwz_def_plan.specs.Moves.{Move, image_in}
-use Rattle.dwz_def_plan.specs.Plan.{imports}
+use Rattle.dwz_def_images.specs.Moves.{Move, image_in}
+use Rattle.dwz_def_images.specs.Plan.{imports}
 use Rattle.dwz_layout.specs.declared.order.Sort.{Sort}
 use Rattle.dwz_layout.specs.declared.order.Sort.TheVariants.{OfType as TypeSort}
 use Rattle.dwz_layout.specs.declared.order.UnitItems.{UnitItems}

@@ -14,14 +14,14 @@ use Rattle.dwz_graph.proofs.IndexRoom.{many_units}
 use Rattle.dwz_def_reading.specs.Meanings.{IfSo}
 use Rattle.dwz_layout.specs.declared.order.UnitItems.{UnitItems}
 use Rattle.dwz_unit.specs.Rows.{units_of as raw_units}
-use Rattle.dwz_law_files.specs.Across.{file_units}
-use Rattle.dwz_law_files.proofs.FileCounts.{are_many}
-use Rattle.dwz_law_files.proofs.FileEntries.{all_entries}
-use Rattle.dwz_law_files.proofs.FileWalk.{is_among}
-use Rattle.dwz_law_files.proofs.TopRows.{units_long}
-use Rattle.dwz_layout_numbers.specs.Images.{starts_from}
-use Rattle.dwz_law_files.specs.Few.{HasSmallNumbers}
-use Rattle.dwz_law_files.proofs.FilesFew.{file_small}
+use Rattle.dwz_graph.specs.Across.{file_units}
+use Rattle.dwz_graph.proofs.FileCounts.{are_many}
+use Rattle.dwz_graph.proofs.FileEntries.{all_entries}
+use Rattle.dwz_graph.proofs.FileWalk.{is_among}
+use Rattle.dwz_graph.proofs.TopRows.{units_long}
+use Rattle.dwz_graph.specs.EntryCounts.{starts_from}
+use Rattle.dwz_graph.specs.Few.{HasSmallNumbers}
+use Rattle.dwz_graph.proofs.FilesFew.{file_small}
 use Rattle.dwz_layout_order.specs.Marks.{flag_at}
 use Rattle.dwz_layout_order.specs.declared.orders.Settled.{Settled}
 use Rattle.dwz_layout_order.specs.Ordered.{AreOrders, AreOrdersBehind, FilePut, FilesPut, FirstFile, PartsPut, from_index, next_index}

@@ -12,14 +12,14 @@ use Rattle.dwz_graph.specs.declared.file.File.{File}
 use Rattle.dwz_graph.specs.Files.{AreKept, docs_of}
 use Rattle.dwz_graph.specs.Index.{Index}
 use Rattle.dwz_graph.specs.Indexed.{AreIndexes}
-use Rattle.dwz_def_plan.specs.Homes.{Common, Home, Local, Rule}
-use Rattle.dwz_def_plan.specs.IsPlan.{IsPart}
-use Rattle.dwz_def_plan.specs.Plan.{PartialUnit, distinct, local_partials, partial_with, partials, partials_at, representatives, users_of}
-use Rattle.dwz_def_plan.proofs.PlanLemmas.{are_parts}
+use Rattle.dwz_def_images.specs.Homes.{Common, Home, Local, Rule}
+use Rattle.dwz_def_images.specs.IsPlan.{IsPart}
+use Rattle.dwz_def_images.specs.Plan.{PartialUnit, distinct, local_partials, partial_with, partials, partials_at, representatives, users_of}
+use Rattle.dwz_def_images.proofs.PlanLemmas.{are_parts}
 use Rattle.dwz_plan.specs.declared.plan.Partial.{Partial}
 use Rattle.dwz_plan.specs.Planned.{Planned, file_of_home}
 use Rattle.dwz_plan.specs.Shows.{ShowsPlan, shown_part}
-use Rattle.dwz_law_files.proofs.FilesFew.{all_small}
+use Rattle.dwz_graph.proofs.FilesFew.{all_small}
 use Rattle.dwz_layout_order.specs.Ordered.{PartsFit}
 
 -- ---- rising numbers

@@ -5,7 +5,7 @@ use Rattle.dwz_def_reading.specs.Units.{CompileUnit, PartialUnit, RawKind, RawUn
 use Rattle.dwz_def_reading.proofs.ListFacts.{drop_here}
 use Rattle.dwz_graph.specs.Spaces.{stored_space}
 use Rattle.dwz_layout.specs.declared.order.UnitItems.{UnitItems}
-use Rattle.dwz_graph.proofs.UnitThere.{unit_there}
+use Rattle.dwz_unit.proofs.UnitThere.{unit_there}
 use Rattle.dwz_unit.specs.declared.rows.RawUnit.{RawUnit as UnitOfCode}
 use Rattle.dwz_unit.specs.Rows.{shown_from, shown_units, unit_shown}
 use Rattle.dwz_layout_order.specs.declared.marks.Marks.{Marks}

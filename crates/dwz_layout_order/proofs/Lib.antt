@@ -24,11 +24,3 @@ pub mod FileSteps
 pub mod FitLemmas
 pub mod BehindLemmas
 pub mod ImportingLemmas
-pub use Rattle.dwz_law_files.proofs.FileCounts
-pub use Rattle.dwz_law_files.proofs.FileEntries
-pub use Rattle.dwz_law_files.proofs.FileRoom
-pub use Rattle.dwz_law_files.proofs.FileWalk
-pub use Rattle.dwz_law_files.proofs.FilesFew
-pub use Rattle.dwz_law_files.proofs.ListGets
-pub use Rattle.dwz_law_files.proofs.OwnNames
-pub use Rattle.dwz_law_files.proofs.TopRows

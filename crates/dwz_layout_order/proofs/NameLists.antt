@@ -3,8 +3,8 @@ use Rattle.std.proofs.Common.{◌≡◌, ◌↔◌, ℕ, zero, suc, ◌+◌, ◌
 use Rattle.std.proofs.lemmas.Bool.{eq-eqb, eqb-true}
 use Rattle.std.proofs.lemmas.List.{length-append}
 use Rattle.dwz_def_tops.specs.Spots.{SpaceName, Top, name_list}
-use Rattle.dwz_def_plan.specs.Plan.{in_root, none_of, same_names}
-use Rattle.dwz_def_plan.proofs.PartRows.{names_same, names_true}
+use Rattle.dwz_def_images.specs.Plan.{in_root, none_of, same_names}
+use Rattle.dwz_def_images.proofs.PartRows.{names_same, names_true}
 use Rattle.dwz_layout_items.specs.declared.partial.SpaceRow.{SpaceRow}
 use Rattle.dwz_layout_items.specs.Chains.{Up, down}
 use Rattle.dwz_layout_order.specs.Lists.{AreLists, SameList, list_above, outer_at}

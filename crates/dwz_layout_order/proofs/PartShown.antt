@@ -11,8 +11,8 @@ use Rattle.dwz_layout_items.specs.declared.partial.TopSpaces.{TopSpaces}
 use Rattle.dwz_layout_items.specs.Chains.{NamesPartial, ShowsSpaced, Up, down, inner_at, names_at, no_spaces}
 use Rattle.dwz_layout_items.specs.Order.{Names, ShowsUnit}
 use Rattle.dwz_layout_items.proofs.KeptLemmas.{partial_is}
-use Rattle.dwz_def_plan.specs.Moves.{Move, image_in}
-use Rattle.dwz_def_plan.specs.Plan.{PartialUnit, part_row}
+use Rattle.dwz_def_images.specs.Moves.{Move, image_in}
+use Rattle.dwz_def_images.specs.Plan.{PartialUnit, part_row}
 use Rattle.dwz_def_images.specs.Units.{partial_unit}
 use Rattle.dwz_layout_order.specs.Lists.{AreLists, list_above, spaces_at}
 use Rattle.dwz_layout_order.specs.Named.{NamesAll, NamesTop}

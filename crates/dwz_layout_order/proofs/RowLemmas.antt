@@ -10,7 +10,7 @@ use Rattle.dwz_def_tops.proofs.Members.{each_split}
 use Rattle.dwz_def_tops.specs.Spots.{ASpace, ATop, EntryName, Row, SpaceName, Top, name_of, number_tops, row_in, row_tops}
 use Rattle.dwz_graph.specs.Steps.{is_space, spaces_by, tops_by}
 use Rattle.dwz_layout_items.specs.Outline.{ShowsRow, View}
-use Rattle.dwz_def_plan.specs.Plan.{row_pinned, row_staying}
+use Rattle.dwz_def_images.specs.Plan.{row_pinned, row_staying}
 use Rattle.dwz_layout_order.specs.declared.marks.Marks.{Marks}
 use Rattle.dwz_layout_order.specs.declared.outline.Next.{Next}
 use Rattle.dwz_layout_order.specs.Marks.{flag_at, mark_at}

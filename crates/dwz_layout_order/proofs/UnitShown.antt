@@ -14,8 +14,8 @@ use Rattle.dwz_layout_items.specs.Order.{Names, ShowsUnit, order_lines}
 use Rattle.dwz_layout_items.specs.Outline.{ShowsRow, View}
 use Rattle.dwz_layout_items.specs.Shows.{NamesKept, view_of}
 use Rattle.dwz_layout_items.proofs.KeptLemmas.{kept_lines, whole_lines}
-use Rattle.dwz_def_plan.specs.Moves.{Move, image_in}
-use Rattle.dwz_def_plan.specs.Plan.{imports, pinned_of}
+use Rattle.dwz_def_images.specs.Moves.{Move, image_in}
+use Rattle.dwz_def_images.specs.Plan.{imports, pinned_of}
 use Rattle.dwz_plan.specs.Shows.{import_row}
 use Rattle.dwz_def_images.specs.Units.{changes, kept_unit}
 use Rattle.dwz_layout_order.specs.declared.marks.Marks.{Marks}

@@ -9,7 +9,7 @@ use Rattle.dwz_layout_items.specs.declared.order.Item.{Item}
 use Rattle.dwz_layout_items.specs.Lines.{line, lines, row_lines}
 use Rattle.dwz_layout_items.specs.Order.{Names, import_lines, order_lines}
 use Rattle.dwz_layout_items.specs.Outline.{ShowsRow, View}
-use Rattle.dwz_def_plan.specs.Plan.{pinned_first, row_staying}
+use Rattle.dwz_def_images.specs.Plan.{pinned_first, row_staying}
 use Rattle.dwz_layout.specs.declared.order.UnitItems.{UnitItems}
 use Rattle.dwz_plan.specs.Planned.{Planned}
 use Rattle.dwz_layout_order.specs.declared.kept.Source.{Source}

@@ -11,5 +11,3 @@ pub mod Sorts
 pub mod Spaces
 pub mod Ordered
 pub mod Steps
-pub use Rattle.dwz_law_files.specs.Across
-pub use Rattle.dwz_law_files.specs.Few

@@ -5,8 +5,8 @@ use Rattle.dwz_def_tops.specs.Spots.{EntryName, FileUnit, Top, tops_of}
 use Rattle.dwz_def_reading.specs.Lists.{Each}
 use Rattle.dwz_layout_items.specs.Order.{Names}
 use Rattle.dwz_layout_items.specs.Outline.{View}
-use Rattle.dwz_def_plan.specs.Moves.{Move}
-use Rattle.dwz_def_plan.specs.Plan.{Pinned, pinned_of}
+use Rattle.dwz_def_images.specs.Moves.{Move}
+use Rattle.dwz_def_images.specs.Plan.{Pinned, pinned_of}
 use Rattle.dwz_layout_order.specs.declared.marks.Marks.{Marks}
 use Rattle.dwz_layout_order.specs.Marks.{flag_at, mark_at}
 use Rattle.dwz_layout_order.specs.Spaces.{Numbered, spaces_of}

@@ -9,7 +9,7 @@ use Rattle.dwz_graph.specs.Indexed.{AreIndexes}
 use Rattle.dwz_layout_items.specs.Chains.{IsRising}
 use Rattle.dwz_def_reading.specs.Documents.{Doc}
 use Rattle.dwz_def_reading.specs.Meanings.{IfSo}
-use Rattle.dwz_def_plan.specs.Homes.{Rule}
+use Rattle.dwz_def_images.specs.Homes.{Rule}
 use Rattle.dwz_layout.specs.declared.order.Sort.TheVariants.{Partial as PartialSort}
 use Rattle.dwz_layout.specs.declared.order.UnitItems.{UnitItems}
 use Rattle.dwz_plan.specs.declared.plan.Partial.{Partial}

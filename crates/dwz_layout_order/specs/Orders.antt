@@ -6,9 +6,9 @@ use Rattle.dwz_def_tops.specs.Spots.{EntryName, FileUnit, RootOf}
 use Rattle.dwz_layout_items.specs.Chains.{NamesPartial}
 use Rattle.dwz_layout_items.specs.Order.{Names, ShowsUnit}
 use Rattle.dwz_layout_items.specs.Shows.{NamesKept}
-use Rattle.dwz_def_plan.specs.Homes.{Home, same_home}
-use Rattle.dwz_def_plan.specs.Moves.{Move, image_in}
-use Rattle.dwz_def_plan.specs.Plan.{PartialUnit}
+use Rattle.dwz_def_images.specs.Homes.{Home, same_home}
+use Rattle.dwz_def_images.specs.Moves.{Move, image_in}
+use Rattle.dwz_def_images.specs.Plan.{PartialUnit}
 use Rattle.dwz_layout.specs.declared.order.Sort.{Sort}
 use Rattle.dwz_layout.specs.declared.order.Sort.TheVariants.{Compile as CompileSort, OfType as TypeSort, Partial as PartialSort}
 use Rattle.dwz_layout.specs.declared.order.UnitItems.{UnitItems}

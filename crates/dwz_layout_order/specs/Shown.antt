@@ -14,8 +14,8 @@ use Rattle.dwz_layout_items.specs.Order.{Names, ShowsUnit}
 use Rattle.dwz_def_reading.specs.Documents.{DwUnit, Node, unit_map}
 use Rattle.dwz_def_reading.specs.Meanings.{Around, MeanUnits}
 use Rattle.dwz_def_tops.specs.Spots.{EntryName, FileUnit, SpaceName, Top, in_file, top_count, tops_from, tops_of}
-use Rattle.dwz_def_plan.specs.Moves.{Move, image_in}
-use Rattle.dwz_def_plan.specs.Plan.{PartialUnit, imports, part_row}
+use Rattle.dwz_def_images.specs.Moves.{Move, image_in}
+use Rattle.dwz_def_images.specs.Plan.{PartialUnit, imports, part_row}
 use Rattle.dwz_layout.specs.declared.order.UnitItems.{UnitItems}
 use Rattle.dwz_plan.specs.Shows.{import_row}
 use Rattle.dwz_graph.specs.Resolved.{place_at}

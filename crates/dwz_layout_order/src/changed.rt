@@ -3,7 +3,7 @@
 ghost use Rattle.std.specs.Prelude.{◌≡◌, ℕ, ◌<◌, ◌^◌, List, length, map, not, slice_get, IfOk};
 ghost use Rattle.dwz_def_tops.specs.Spots.{file_numbers, units_of};
 ghost use Rattle.dwz_def_reading.specs.Documents.{Doc};
-ghost use Rattle.dwz_def_plan.specs.Moves.{Move};
+ghost use Rattle.dwz_def_images.specs.Moves.{Move};
 ghost use Rattle.dwz_layout_order.specs.Behind.{ArePlannedFirst};
 ghost use Rattle.dwz_layout_order.specs.Marks.{stays_in};
 ghost use Rattle.dwz_def_images.specs.Units.{changes};

@@ -3,7 +3,7 @@
 ghost use Rattle.std.specs.Prelude.{◌≡◌, ◌+◌, ◌<◌, ◌≤◌, ◌^◌, [], All, List, None, length, slice_index_or, IfOk, OnOk};
 ghost use Rattle.dwz_def_tops.specs.Spots.{units_of};
 ghost use Rattle.dwz_def_reading.specs.Units.{entries_in};
-ghost use Rattle.dwz_law_files.specs.Few.{HasSmallNumbers};
+ghost use Rattle.dwz_graph.specs.Few.{HasSmallNumbers};
 ghost use Rattle.dwz_graph.specs.Files.{docs_of};
 ghost use Rattle.dwz_graph.specs.Index.{Index};
 ghost use Rattle.dwz_graph.specs.Indexed.{AreIndexes};

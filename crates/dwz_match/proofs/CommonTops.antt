@@ -3,8 +3,7 @@ use Rattle.std.proofs.Common.{◌≡◌, ℕ, ◌+◌, List, ◌++◌, length, m
 use Rattle.std.proofs.lemmas.List.{append-nil}
 use Rattle.dwz_def_reading.specs.Documents.{Doc, DwUnit, unit_map}
 use Rattle.dwz_def_tops.specs.Spots.{EntryName, FileUnit, Top, in_file, named_files, spot_in, spots_from, tops_from, tops_of, units_of}
-use Rattle.dwz_def_images.proofs.OldFiles.{counted, tops_length}
-use Rattle.dwz_def_images.proofs.StillLemmas.{tops_append}
+use Rattle.dwz_def_tops.proofs.FiledTops.{counted, tops_length, tops_append}
 use Rattle.dwz_def_taken.specs.Beside.{Reused, as_compile, own_tops, reused_of, together}
 
 -- units of a common file, read as compile units, with names for places

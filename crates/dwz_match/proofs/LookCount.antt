@@ -4,7 +4,7 @@ use Rattle.dwz_def_reading.specs.Documents.{Compile, Entries, Kind, OfType, Part
 use Rattle.dwz_def_reading.specs.Trees.{End, Entry}
 use Rattle.dwz_def_tops.specs.Spaces.{space_text, tops_under}
 use Rattle.dwz_def_tops.specs.Spots.{EntryName, FileUnit, top_count, tops_of}
-use Rattle.dwz_def_images.proofs.OldFiles.{counted, tops_length}
+use Rattle.dwz_def_tops.proofs.FiledTops.{counted, tops_length}
 use Rattle.dwz_def_taken.specs.Beside.{Reused, all_below, as_one, look_units, muted, then_entries, together}
 use Rattle.dwz_def_taken.proofs.LookTops.{AreWhole}
 use Rattle.dwz_def_taken.proofs.NamesOver.{counted_append}

@@ -4,8 +4,8 @@ use Rattle.dwz_def_reading.specs.Documents.{DwUnit}
 use Rattle.dwz_def_reading.specs.Meanings.{Around, MeanUnits}
 use Rattle.dwz_def_reading.specs.Places.{Place}
 use Rattle.dwz_def_reading.specs.Units.{RawUnit}
-use Rattle.dwz_graph_resolve.proofs.RowLemmas.{row_is}
-use Rattle.dwz_graph_resolve.proofs.UnitThere.{UnitThere, root_found}
+use Rattle.dwz_unit.proofs.RowsFound.{row_is}
+use Rattle.dwz_unit.proofs.UnitThere.{UnitThere, root_found}
 use Rattle.dwz_unit.specs.declared.rows.RawEntry.{RawEntry as EntryOfCode}
 use Rattle.dwz_unit.specs.declared.rows.RawUnit.{RawUnit as UnitOfCode}
 use Rattle.dwz_unit.specs.Rows.{rows_of, shown_entries}

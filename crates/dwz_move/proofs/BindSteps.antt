@@ -19,7 +19,7 @@ use Rattle.dwz_graph.specs.Named.{attrs_refs, value_refs}
 use Rattle.dwz_unit.specs.declared.rows.RawEntry.{RawEntry as RawEntryOfCode}
 use Rattle.dwz_unit.specs.Rows.{EntryRow, shown_entries}
 use Rattle.dwz_move.specs.Bound.{AreInto}
-use Rattle.dwz_move.proofs.RowSteps.{shown_row}
+use Rattle.dwz_graph.proofs.RowSteps.{shown_row}
 
 -- ---- tops of what is named first, and of what is named behind it
 

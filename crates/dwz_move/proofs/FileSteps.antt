@@ -18,7 +18,8 @@ use Rattle.dwz_unit.specs.Rows.{EntryRow, rows_below, rows_of}
 use Rattle.dwz_unit.proofs.RowLemmas.{shown-length}
 use Rattle.dwz_move.specs.Bound.{AreInto, EachInto}
 use Rattle.dwz_graph.specs.Names.{top_in}
-use Rattle.dwz_move.specs.Known.{KnowsRefs, StandsAt, tops_of_refs}
+use Rattle.dwz_move.specs.Known.{KnowsRefs, tops_of_refs}
+use Rattle.dwz_graph.specs.Standing.{StandsAt}
 use Rattle.dwz_move.proofs.BindSteps.{into_first}
 
 into_targets : (name : ℕ → EntryName) (raw : List RawUnit) (numbers places : List ℕ) → AreTargets raw numbers places → AreInto name (tops_of_refs name raw numbers) places

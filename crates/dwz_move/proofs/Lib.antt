@@ -4,7 +4,6 @@ pub mod BindLemmas
 pub mod BindSteps
 pub mod TopSteps
 pub mod WeightLemmas
-pub mod RowSteps
 pub mod WeightSteps
 pub mod DeclaredWeights
 pub mod FormWeights
@@ -19,4 +18,3 @@ pub mod FormSteps
 pub mod FileSteps
 pub mod UnitSteps
 pub mod IntoLemmas
-pub mod StandLemmas

@@ -1,19 +1,13 @@
 -- What is known of a file where its tops are looked at.
-use Rattle.std.specs.Prelude.{◌≡◌, ℕ, ◌+◌, ◌<◌, ◌||◌, Bool, List, Option, Some, map, slice_get}
+use Rattle.std.specs.Prelude.{◌≡◌, ℕ, ◌||◌, Bool, List, Option, map}
 use Rattle.dwz_def_tops.specs.Alike.{any_entry}
-use Rattle.dwz_def_tops.specs.Spots.{EntryName, Top}
-use Rattle.dwz_def_reading.specs.Trees.{size}
+use Rattle.dwz_def_tops.specs.Spots.{EntryName}
 use Rattle.dwz_def_reading.specs.Units.{RawUnit, entries_in}
-use Rattle.dwz_graph.specs.FlatTops.{HasTopOfFile}
 use Rattle.dwz_graph.specs.Names.{top_in}
 use Rattle.dwz_def_reading.specs.Documents.{DwUnit, Node}
 use Rattle.dwz_def_reading.specs.Meanings.{Around}
 use Rattle.dwz_graph.specs.Parts.{AreParted}
 use Rattle.dwz_graph.specs.Resolved.{AreEntries, place_at}
-
--- the entries have the names of their places, by their numbers
-abbrev pub NamesEntries : List RawUnit → (ℕ → EntryName) → List EntryName → Type 0
-NamesEntries raw name names = (i : ℕ) → i < entries_in raw → slice_get names i ≡ Some (name (place_at raw i))
 
 -- the tops that references to the entries with these numbers go into
 abbrev pub tops_of_refs : (ℕ → EntryName) → List RawUnit → List ℕ → List (Option ℕ)
@@ -25,13 +19,6 @@ pub record KnowsRefs (around : Around ℕ) (raw : List RawUnit) (name : ℕ → 
   pub parted : AreParted around raw (entries_in raw) refs starts
   pub entries : AreEntries raw refs
   pub into_are : into ≡ tops_of_refs name raw refs
-
--- The top stands from the entry with one number to before that with another.
-pub record StandsAt (around : Around ℕ) (name : ℕ → EntryName) (raw : List RawUnit) (units : List (DwUnit ℕ)) (file unit : ℕ) (t : Top)
-    (first end : ℕ) : Type 0 where
-  pub stands : HasTopOfFile around name raw units file unit t
-  pub from : stands.top.p.before ≡ first
-  pub to : first + 1 + size stands.top.c ≡ end
 
 -- an entry of the unit passes the test
 abbrev pub in_unit : (Node EntryName → Bool) → DwUnit EntryName → Bool

@@ -6,7 +6,8 @@ ghost use Rattle.dwz_def_reading.specs.Units.{RawUnit, entries_in};
 ghost use Rattle.dwz_graph.specs.Index.{IsIndex};
 ghost use Rattle.dwz_graph.specs.Resolved.{AreEntries, place_at};
 ghost use Rattle.dwz_graph.specs.Names.{top_in};
-ghost use Rattle.dwz_move.specs.Known.{NamesEntries, tops_of_refs};
+ghost use Rattle.dwz_move.specs.Known.{tops_of_refs};
+ghost use Rattle.dwz_graph.specs.Standing.{NamesEntries};
 
 use dwz_graph::Index;
 use dwz_model::NoMemory;

@@ -9,7 +9,8 @@ ghost use Rattle.dwz_def_reading.specs.Documents.{DwUnit, unit_map};
 ghost use Rattle.dwz_def_reading.specs.Meanings.{Around};
 ghost use Rattle.dwz_def_reading.specs.Meant.{unit_meaning};
 ghost use Rattle.dwz_move.specs.Bound.{HasTops};
-ghost use Rattle.dwz_move.specs.Known.{KnowsRefs, StandsAt, in_unit};
+ghost use Rattle.dwz_move.specs.Known.{KnowsRefs, in_unit};
+ghost use Rattle.dwz_graph.specs.Standing.{StandsAt};
 ghost use Rattle.dwz_move.specs.Marked.{MarksIf, expression_names, expression_pins};
 ghost use Rattle.dwz_unit.specs.Rows.{units_of};
 

@@ -9,7 +9,7 @@ ghost use Rattle.dwz_graph.specs.declared.index.TopEntry.{TopEntry};
 ghost use Rattle.dwz_graph.specs.Steps.{all_tops, below_root, is_space};
 ghost use Rattle.dwz_def_reading.specs.Documents.{Doc};
 ghost use Rattle.dwz_def_reading.specs.Files.{Limits, around_of, file_meaning};
-ghost use Rattle.dwz_move.specs.Known.{StandsAt};
+ghost use Rattle.dwz_graph.specs.Standing.{StandsAt};
 ghost use Rattle.dwz_def_tops.specs.Lists.{NoneTwice};
 ghost use Rattle.dwz_def_tops.specs.Shown.{units_keys};
 ghost use Rattle.dwz_unit.specs.declared.rows.RawEntry.{RawEntry};

@@ -7,7 +7,8 @@ ghost use Rattle.dwz_def_reading.specs.Documents.{DwUnit, Node, node_map};
 ghost use Rattle.dwz_def_reading.specs.Meanings.{Around, MeaningContext};
 ghost use Rattle.dwz_def_plan.specs.Groups;
 ghost use Rattle.dwz_graph.specs.Rows.{AreRowsMeant, IsEntryMeant};
-ghost use Rattle.dwz_move.specs.Known.{KnowsRefs, StandsAt};
+ghost use Rattle.dwz_move.specs.Known.{KnowsRefs};
+ghost use Rattle.dwz_graph.specs.Standing.{StandsAt};
 ghost use Rattle.dwz_move.specs.Weights.{capped, node_weight, rows_weight};
 ghost use Rattle.dwz_unit.specs.Rows.{EntryRow, units_of};
 
@@ -28,13 +29,12 @@ pub struct EntryWeights<'u, 'a> {
 }
 
 impl<'u, 'a> Model for EntryWeights<'u, 'a> {
-    ghost use Rattle.dwz_unit.specs.Rows.{Source};
+    ghost use Rattle.dwz_unit.specs.Rows.{Source, rows_of, units_of};
 
     ghost Value = { Source };
 
     ghost use Rattle.std.specs.Prelude.{◌≡◌, map};
     ghost use Rattle.dwz_unit.specs.Declarations.{AreOf};
-    ghost use Rattle.dwz_unit.specs.Rows.{rows_of, units_of};
     ghost use Rattle.dwz_move.specs.Weights.{pairs_weight};
 
     ghost view = { λ w. w.units.now };

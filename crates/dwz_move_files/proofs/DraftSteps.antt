@@ -24,19 +24,21 @@ use Rattle.dwz_def_reading.specs.Files.{around_of}
 use Rattle.dwz_def_plan.specs.Gain.{top_weight}
 use Rattle.dwz_graph.specs.Parts.{AreParted}
 use Rattle.dwz_graph.specs.Resolved.{place_at}
-use Rattle.dwz_graph.proofs.RowLemmas.{rows-length}
-use Rattle.dwz_def_images.specs.After.{at_file, name_of_place}
+use Rattle.dwz_unit.proofs.RowsFound.{rows-length}
+use Rattle.dwz_def_tops.specs.UnitNames.{name_of_place}
+use Rattle.dwz_def_reading.specs.Places.{at_file}
 use Rattle.dwz_move.specs.Bound.{some_of, somes, target_of}
-use Rattle.dwz_move.specs.Known.{KnowsRefs, StandsAt, tops_of_refs}
+use Rattle.dwz_move.specs.Known.{KnowsRefs, tops_of_refs}
+use Rattle.dwz_graph.specs.Standing.{StandsAt}
 use Rattle.dwz_move.specs.Weights.{capped}
 use Rattle.dwz_unit.specs.declared.rows.RawEntry.{RawEntry}
 use Rattle.dwz_unit.specs.Rows.{entry_shown, rows_of, shown_entries, units_of as raw_units}
-use Rattle.dwz_law_files.specs.Across.{IsFileAmong, IsTopOf, file_tops, name_at}
-use Rattle.dwz_law_files.proofs.TopRows.{file_many}
+use Rattle.dwz_graph.specs.Across.{IsFileAmong, IsTopOf, file_tops, name_at}
+use Rattle.dwz_graph.proofs.TopRows.{file_many}
 use Rattle.dwz_move_files.specs.declared.draft.Draft.{Draft}
 use Rattle.dwz_move_files.specs.Drafts.{AreInto, IsDraft, IsGathered, IsRowOf, pairs_from}
 use Rattle.dwz_move_files.proofs.ListParts.{all_none, range_map}
-use Rattle.dwz_law_files.proofs.OwnNames.{Own, names_own}
+use Rattle.dwz_graph.proofs.OwnNames.{Own, names_own}
 use Rattle.dwz_move_files.proofs.PairLemmas.{pairs_more}
 use Rattle.dwz_move_files.proofs.TargetLemmas.{starts_end, starts_rise, targets_there}
 

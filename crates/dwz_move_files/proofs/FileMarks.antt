@@ -25,7 +25,7 @@ use Rattle.dwz_move.specs.Marked.{expression_names, expression_pins}
 use Rattle.dwz_move.proofs.NameMarks.{is_top}
 use Rattle.dwz_def_tops.proofs.Members.{in_map_from}
 use Rattle.dwz_unit.specs.Rows.{units_of as raw_units}
-use Rattle.dwz_law_files.specs.Across.{IsFileAmong, file_units, name_at}
+use Rattle.dwz_graph.specs.Across.{IsFileAmong, file_units, name_at}
 use Rattle.dwz_move_files.specs.Lists.{entries_of, uleb_tops}
 use Rattle.dwz_move_files.proofs.RowNames.{any_row, names_by, pin_row}
 use Rattle.dwz_move_files.proofs.UnitAttrs.{any_filed, any_named, list_pins, named_attrs, names_either, pins_either}

@@ -16,7 +16,7 @@ use Rattle.dwz_graph.specs.Resolved.{AreEntries}
 use Rattle.dwz_move.specs.Known.{KnowsRefs, in_unit, tops_of_refs}
 use Rattle.dwz_move.specs.Marked.{Marks, MarksIf, expression_names, expression_pins}
 use Rattle.dwz_unit.specs.Rows.{units_of as raw_units}
-use Rattle.dwz_law_files.specs.Across.{IsFileAmong, file_units, name_at}
+use Rattle.dwz_graph.specs.Across.{IsFileAmong, file_units, name_at}
 use Rattle.dwz_move_files.specs.Lists.{entries_of, uleb_tops}
 use Rattle.dwz_move_files.proofs.FileMarks.{entries_low, names_all, pins_all}
 use Rattle.dwz_move_files.proofs.MarkSteps.{marks_then}

@@ -12,12 +12,12 @@ use Rattle.dwz_graph.specs.Indexed.{AreIndexes}
 use Rattle.dwz_graph.proofs.IndexRoom.{many_units}
 use Rattle.dwz_move.specs.Marked.{MarksIf}
 use Rattle.dwz_unit.specs.Rows.{units_of as raw_units}
-use Rattle.dwz_law_files.specs.Across.{IsFileAmong, file_units, starts_at}
-use Rattle.dwz_law_files.specs.AcrossLaws.{IsAmong}
-use Rattle.dwz_law_files.proofs.FileCounts.{all_ends, are_many, starts_are}
-use Rattle.dwz_law_files.proofs.FileEntries.{all_entries, few_entries}
-use Rattle.dwz_law_files.proofs.FileWalk.{is_among}
-use Rattle.dwz_law_files.proofs.TopRows.{units_long}
+use Rattle.dwz_graph.specs.Across.{IsFileAmong, file_units, starts_at}
+use Rattle.dwz_graph.specs.AcrossLaws.{IsAmong}
+use Rattle.dwz_graph.proofs.FileCounts.{all_ends, are_many, starts_are}
+use Rattle.dwz_graph.proofs.FileEntries.{all_entries, few_entries}
+use Rattle.dwz_graph.proofs.FileWalk.{is_among}
+use Rattle.dwz_graph.proofs.TopRows.{units_long}
 use Rattle.dwz_move_files.proofs.MarkSteps.{MarkedBy, files_first, files_last, files_next, starts_zero}
 use Rattle.dwz_move_files.specs.Named.{AreFlags}
 use Rattle.dwz_def_reading.specs.Documents.{Doc}

@@ -8,9 +8,9 @@ use Rattle.dwz_graph.specs.Files.{AreKept, docs_of}
 use Rattle.dwz_graph.specs.Index.{Index}
 use Rattle.dwz_graph.specs.Indexed.{AreIndexes}
 use Rattle.dwz_def_reading.specs.Documents.{Doc}
-use Rattle.dwz_law_files.proofs.FileCounts.{all_ends}
-use Rattle.dwz_law_files.proofs.FileRoom.{tops_small}
-use Rattle.dwz_law_files.proofs.UnitFiles.{all_files, files_from}
+use Rattle.dwz_graph.proofs.FileCounts.{all_ends}
+use Rattle.dwz_graph.proofs.FileRoom.{tops_small}
+use Rattle.dwz_graph.proofs.UnitFiles.{all_files, files_from}
 use Rattle.dwz_move_files.proofs.ListParts.{all_both, all_none}
 
 all_same : (m n k : ℕ) → n < m → All (λ n. n < m) (replicate k n)

@@ -16,10 +16,10 @@ use Rattle.dwz_def_reading.specs.Meanings.{Around, MeanUnits}
 use Rattle.dwz_def_reading.specs.Meant.{unit_meaning, units_meaning}
 use Rattle.dwz_def_reading.proofs.MeaningUnits.{units_agree}
 use Rattle.dwz_def_reading.proofs.UnitMeans.{unit_meant}
-use Rattle.dwz_law_files.specs.Across.{IsPart, starts_at, starts_from}
+use Rattle.dwz_graph.specs.Across.{IsPart, starts_at, starts_from}
 use Rattle.dwz_graph.specs.Index.{Index}
 use Rattle.dwz_graph.specs.Indexed.{first_starts}
-use Rattle.dwz_law_files.proofs.ListGets.{take_part}
+use Rattle.dwz_graph.proofs.ListGets.{take_part}
 use Rattle.dwz_move_files.specs.Named.{AreFlags}
 use Rattle.dwz_move.specs.Known.{in_unit, tops_of_refs}
 use Rattle.dwz_def_reading.specs.Lists.{In}

@@ -8,16 +8,16 @@ use Rattle.dwz_graph.specs.declared.index.Starts.{Starts}
 use Rattle.dwz_graph.specs.Index.{Index}
 use Rattle.dwz_graph.specs.Indexed.{AreIndexes}
 use Rattle.dwz_unit.specs.Rows.{units_of as raw_units}
-use Rattle.dwz_law_files.specs.Across.{IsFileAmong, starts_at}
-use Rattle.dwz_law_files.specs.AcrossLaws.{IsAmong}
-use Rattle.dwz_law_files.proofs.FileCounts.{all_ends, are_many, starts_are}
-use Rattle.dwz_law_files.proofs.FileEntries.{all_entries, few_entries, gives_top}
-use Rattle.dwz_law_files.proofs.FileRoom.{tops_small}
+use Rattle.dwz_graph.specs.Across.{IsFileAmong, starts_at}
+use Rattle.dwz_graph.specs.AcrossLaws.{IsAmong}
+use Rattle.dwz_graph.proofs.FileCounts.{all_ends, are_many, starts_are}
+use Rattle.dwz_graph.proofs.FileEntries.{all_entries, few_entries, gives_top}
+use Rattle.dwz_graph.proofs.FileRoom.{tops_small}
 use Rattle.dwz_move_files.proofs.FilesKnown.{below}
 use Rattle.dwz_move_files.proofs.MarkSteps.{starts_zero}
 use Rattle.dwz_move_files.specs.declared.draft.Draft.{Draft}
 use Rattle.dwz_move_files.specs.Drafts.{AreWithin, IsDraft, IsFileDraft}
-use Rattle.dwz_law_files.proofs.FileWalk.{is_among}
+use Rattle.dwz_graph.proofs.FileWalk.{is_among}
 
 pub begin : (contents : List (List ℕ)) (indexes : List Index) (draft : Draft) → IsDraft (docs_of contents) 0 0 draft → IsDraft (docs_of contents) 0 (starts_at (docs_of contents) indexes 0).top draft
 begin contents indexes draft d = subst (λ (s : Starts). IsDraft (docs_of contents) 0 s.top draft) (sym (starts_zero (docs_of contents) indexes)) d

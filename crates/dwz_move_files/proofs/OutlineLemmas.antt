@@ -24,7 +24,8 @@ use Rattle.dwz_move.specs.BoundTops.{AreSeeds, ShowTargets}
 use Rattle.dwz_move.proofs.MovableLemmas.{flag_movable}
 use Rattle.dwz_def_plan.specs.Gain.{top_weight}
 use Rattle.dwz_plan.specs.Shows.{ShowsRows, ShowsTop, ShowsTops, may_move}
-use Rattle.dwz_def_images.specs.After.{at_file, name_of_place}
+use Rattle.dwz_def_tops.specs.UnitNames.{name_of_place}
+use Rattle.dwz_def_reading.specs.Places.{at_file}
 use Rattle.dwz_groups.specs.Spreading.{AreInside}
 use Rattle.dwz_groups.proofs.MarkLemmas.{grouped_length}
 use Rattle.dwz_move_files.specs.declared.draft.Draft.{Draft}

@@ -9,7 +9,7 @@ use Rattle.dwz_graph.specs.declared.index.Starts.{Starts}
 use Rattle.dwz_graph.specs.Index.{Index}
 use Rattle.dwz_graph.proofs.TopLemmas.{get_cases}
 use Rattle.dwz_def_reading.specs.Documents.{Doc}
-use Rattle.dwz_law_files.specs.Across.{starts_at}
+use Rattle.dwz_graph.specs.Across.{starts_at}
 use Rattle.dwz_move_files.proofs.MarkSteps.{starts_zero}
 use Rattle.dwz_move_files.specs.declared.draft.Draft.{Draft}
 use Rattle.dwz_move_files.specs.Drafts.{AreParts, IsDraft, IsFileDraft}

@@ -9,10 +9,10 @@ use Rattle.dwz_graph.specs.declared.file.File.{File}
 use Rattle.dwz_graph.specs.declared.index.Starts.{Starts}
 use Rattle.dwz_graph.specs.Files.{docs_of}
 use Rattle.dwz_graph.specs.Index.{Index}
-use Rattle.dwz_law_files.specs.Across.{IsFileAmong, starts_at}
-use Rattle.dwz_law_files.specs.AcrossLaws.{IsAmong}
-use Rattle.dwz_law_files.proofs.FileCounts.{are_many, starts_are}
-use Rattle.dwz_law_files.proofs.FileWalk.{is_among}
+use Rattle.dwz_graph.specs.Across.{IsFileAmong, starts_at}
+use Rattle.dwz_graph.specs.AcrossLaws.{IsAmong}
+use Rattle.dwz_graph.proofs.FileCounts.{are_many, starts_are}
+use Rattle.dwz_graph.proofs.FileWalk.{is_among}
 use Rattle.dwz_unit.specs.Rows.{units_of as raw_units}
 use Rattle.dwz_move_files.specs.declared.draft.Draft.{Draft}
 use Rattle.dwz_move_files.specs.declared.draft.KnownFile.{KnownFile}

@@ -28,13 +28,14 @@ use Rattle.dwz_def_reading.proofs.MeaningLemmas.{value_agrees}
 use Rattle.dwz_def_reading.proofs.MeaningUnits.{node_agrees}
 use Rattle.dwz_graph.specs.Named.{attrs_refs, refs_beside, value_refs}
 use Rattle.dwz_graph.specs.Resolved.{place_at}
-use Rattle.dwz_graph.proofs.RowLemmas.{rows-length}
+use Rattle.dwz_unit.proofs.RowsFound.{rows-length}
 use Rattle.dwz_graph.proofs.SurroundingLemmas.{own_range}
 use Rattle.dwz_graph.proofs.PlainBeside.{none_beside}
 use Rattle.dwz_unit.specs.Rows.{EntryRow, rows_below, rows_of}
 use Rattle.dwz_unit.proofs.RowLemmas.{shown-length}
 use Rattle.dwz_move.specs.Bound.{is_expression, some_of, somes}
-use Rattle.dwz_move.specs.Known.{KnowsRefs, StandsAt, tops_of_refs}
+use Rattle.dwz_move.specs.Known.{KnowsRefs, tops_of_refs}
+use Rattle.dwz_graph.specs.Standing.{StandsAt}
 use Rattle.dwz_move.specs.Values.{is_entry}
 use Rattle.dwz_move.proofs.BindLemmas.{said_expression, value_says}
 use Rattle.dwz_move.proofs.TreeBinds.{any_top}

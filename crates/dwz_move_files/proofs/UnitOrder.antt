@@ -15,9 +15,9 @@ use Rattle.dwz_graph.proofs.TopUnits.{numbered_at}
 use Rattle.dwz_def_reading.specs.Documents.{Doc}
 use Rattle.dwz_def_tops.specs.Lists.{EachPair}
 use Rattle.dwz_def_reading.specs.Lists.{Each}
-use Rattle.dwz_law_files.specs.Across.{IsFileAmong, file_tops, file_units}
-use Rattle.dwz_law_files.proofs.FileEntries.{gives_top}
-use Rattle.dwz_law_files.proofs.TopRows.{file_many, unit_high, units_long}
+use Rattle.dwz_graph.specs.Across.{IsFileAmong, file_tops, file_units}
+use Rattle.dwz_graph.proofs.FileEntries.{gives_top}
+use Rattle.dwz_graph.proofs.TopRows.{file_many, unit_high, units_long}
 use Rattle.dwz_move_files.specs.Ranges.{HaveUnits}
 
 each_got : (P : Top → Type 0) (tops : List Top) → Each P tops → (k : ℕ) (t : Top) → slice_get tops k ≡ Some t → P t

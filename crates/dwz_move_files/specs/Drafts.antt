@@ -10,12 +10,13 @@ use Rattle.dwz_groups.specs.declared.tops.TopRow.{TopRow}
 use Rattle.dwz_def_reading.specs.Documents.{Doc}
 use Rattle.dwz_def_plan.specs.Gain.{top_weight}
 use Rattle.dwz_def_plan.specs.Plan.{is_pinned}
-use Rattle.dwz_def_images.specs.After.{at_file, name_of_place}
+use Rattle.dwz_def_tops.specs.UnitNames.{name_of_place}
+use Rattle.dwz_def_reading.specs.Places.{at_file}
 use Rattle.dwz_move.specs.Bound.{target_of}
 use Rattle.dwz_move.specs.Known.{tops_of_refs}
 use Rattle.dwz_unit.specs.declared.rows.RawEntry.{RawEntry}
 use Rattle.dwz_unit.specs.Rows.{shown_entries, units_of as raw_units}
-use Rattle.dwz_law_files.specs.Across.{IsFileAmong, name_at, starts_at}
+use Rattle.dwz_graph.specs.Across.{IsFileAmong, name_at, starts_at}
 use Rattle.dwz_def_reading.specs.Units.{RawUnit, entries_in}
 use Rattle.dwz_graph.specs.declared.file.File.{File}
 use Rattle.dwz_graph.specs.declared.index.TopEntry.{TopEntry}

@@ -9,7 +9,8 @@ use Rattle.dwz_groups.specs.declared.tops.TopRow.{TopRow}
 use Rattle.dwz_groups.specs.declared.tops.Tops.{Tops}
 use Rattle.dwz_def_reading.specs.Documents.{Doc}
 use Rattle.dwz_plan.specs.Shows.{ShowsTops}
-use Rattle.dwz_def_images.specs.After.{at_file, name_of_place}
+use Rattle.dwz_def_tops.specs.UnitNames.{name_of_place}
+use Rattle.dwz_def_reading.specs.Places.{at_file}
 use Rattle.dwz_groups.specs.Spreading.{AreInside}
 
 -- the row stands for the place of the top

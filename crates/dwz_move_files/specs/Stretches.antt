@@ -6,7 +6,7 @@ use Rattle.dwz_graph.specs.declared.file.File.{File}
 use Rattle.dwz_graph.specs.Files.{AreKept, docs_of}
 use Rattle.dwz_graph.specs.Index.{Index}
 use Rattle.dwz_graph.specs.Indexed.{AreIndexes}
-use Rattle.dwz_law_files.specs.Across.{starts_at}
+use Rattle.dwz_graph.specs.Across.{starts_at}
 use Rattle.dwz_move_files.specs.declared.draft.Draft.{Draft}
 use Rattle.dwz_move_files.specs.declared.draft.KnownFile.{KnownFile}
 use Rattle.dwz_move_files.specs.declared.stretches.Stretch.{Stretch}

@@ -2,7 +2,7 @@
 
 ghost use Rattle.std.specs.Prelude.{◌≡◌, ℕ, ◌+◌, ◌-◌, ◌<◌, ◌≤◌, ◌++◌, ◌^◌, false, true, List, Some, length, map, slice_get, slice_index};
 ghost use Rattle.std.specs.Prelude.{slice_index_or, slice_range, IfOk, OnOk};
-ghost use Rattle.dwz_law_files.specs.Across.{IsFileAmong, IsTopOf};
+ghost use Rattle.dwz_graph.specs.Across.{IsFileAmong, IsTopOf};
 ghost use Rattle.dwz_def_tops.specs.Alike.{binds_itself};
 ghost use Rattle.dwz_def_tops.specs.Spots.{Top, tops_of, units_of};
 ghost use Rattle.dwz_def_reading.specs.Units.{entries_in};

@@ -3,7 +3,7 @@
 //! Each call takes the graph. `tops` answers `Tops` of `dwz_groups`, in which nothing is said yet of what may move, and `tops_by` the same
 //! by several workers; `movable` a flag for each top: whether it may. `outline_files` answers both together, an `Outline`, by several
 //! workers: the same for every number of them. Before each `named_tops` finds which tops operands of expressions and of location lists
-//! name; one pass over the values of all entries each. `dwz_label_files` and `dwz_plan_files` read them.
+//! name; one pass over the values of all entries each. `dwz_label_files` and `dwz_layout_input` read them.
 //!
 //! Read first: `specs/Outlines.antt`, `specs/Named.antt`.
 #![tactic(auto)]

@@ -6,7 +6,8 @@ ghost use Rattle.dwz_def_reading.specs.Units.{RawUnit, entries_in};
 ghost use Rattle.dwz_graph.specs.Index.{IsIndex};
 ghost use Rattle.dwz_move_files.specs.Lists.{entries_of, uleb_tops};
 ghost use Rattle.dwz_graph.specs.Resolved.{AreEntries};
-ghost use Rattle.dwz_move.specs.Known.{NamesEntries, tops_of_refs};
+ghost use Rattle.dwz_move.specs.Known.{tops_of_refs};
+ghost use Rattle.dwz_graph.specs.Standing.{NamesEntries};
 ghost use Rattle.dwz_move.specs.Marked.{Marks, if_asked};
 
 use dwz_graph::{Index, ListOperand};

@@ -2,7 +2,7 @@
 
 ghost use Rattle.std.specs.Prelude.{◌≡◌, ℕ, ◌<◌, ◌++◌, ◌^◌, false, true, List, Ok, length, map, replicate, IfOk, OnOk};
 ghost use Rattle.std.specs.List.{list_any};
-ghost use Rattle.dwz_law_files.specs.Across.{IsFileAmong, file_units, starts_at};
+ghost use Rattle.dwz_graph.specs.Across.{IsFileAmong, file_units, starts_at};
 ghost use Rattle.dwz_def_tops.specs.Alike.{any_attr, is_in, names_in_unit};
 ghost use Rattle.dwz_def_tops.specs.Spots.{EntryName, units_of};
 ghost use Rattle.dwz_graph.specs.Files.{docs_of};

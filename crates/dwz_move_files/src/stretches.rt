@@ -5,7 +5,7 @@ ghost use Rattle.dwz_def_tops.specs.Spots.{tops_of, units_of};
 ghost use Rattle.dwz_graph.specs.Files.{docs_of};
 ghost use Rattle.dwz_graph.specs.Index.{Index};
 ghost use Rattle.dwz_graph.specs.Indexed.{AreIndexes};
-ghost use Rattle.dwz_law_files.specs.Across.{starts_at};
+ghost use Rattle.dwz_graph.specs.Across.{starts_at};
 ghost use Rattle.dwz_move_files.specs.declared.stretches.Stretch.{Stretch};
 ghost use Rattle.dwz_move_files.specs.Named.{AreNamed};
 ghost use Rattle.dwz_def_reading.specs.Documents.{Doc};

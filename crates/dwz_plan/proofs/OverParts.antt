@@ -12,8 +12,7 @@ use Rattle.dwz_def_tops.proofs.RowLemmas.{below_unit, row_here, row_later}
 use Rattle.dwz_def_tops.proofs.TopNumbers.{Numbered, tops_numbers}
 use Rattle.dwz_def_tops.proofs.TopOrder.{later_unit}
 use Rattle.dwz_def_plan.specs.Homes.{numbers_from}
-use Rattle.dwz_def_images.proofs.OldFiles.{counted, tops_length}
-use Rattle.dwz_def_images.proofs.StillLemmas.{tops_append}
+use Rattle.dwz_def_tops.proofs.FiledTops.{counted, tops_length, tops_append}
 use Rattle.dwz_def_taken.specs.declared.fixed.Fixed.{Fixed}
 use Rattle.dwz_def_taken.specs.Beside.{Reused, own_tops, together}
 use Rattle.dwz_def_taken.specs.Over.{as_part, common_part, common_parts, common_row, row_map, takers}

@@ -12,3 +12,4 @@ pub mod Rows
 pub mod Shows
 pub mod ShowsMove
 pub mod Steps
+pub mod MoveOf

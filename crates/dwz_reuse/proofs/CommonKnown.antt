@@ -17,9 +17,9 @@ use Rattle.dwz_def_taken.specs.declared.fixed.Fixed.{Fixed}
 use Rattle.dwz_graph.specs.ByRule.{doc_placed}
 use Rattle.dwz_graph.specs.Files.{AreKept, HasCommon, docs_of}
 use Rattle.dwz_graph.specs.declared.file.File.{File}
-use Rattle.dwz_match_files.specs.Read.{CommonReadLaw}
-use Rattle.dwz_match_files.specs.Placed.{BesideLaw, PlacedLaw, SaysCommon}
-use Rattle.dwz_match_files.proofs.BesideSaid.{CommonPlaced, same_offsets}
+use Rattle.dwz_reuse.specs.Read.{CommonReadLaw}
+use Rattle.dwz_reuse.specs.Placed.{BesideLaw, PlacedLaw, SaysCommon}
+use Rattle.dwz_reuse.proofs.BesideSaid.{CommonPlaced, same_offsets}
 use Rattle.dwz_reuse.specs.Beside.{IsReadBeside}
 use Rattle.dwz_unit.specs.Rows.{units_of}
 

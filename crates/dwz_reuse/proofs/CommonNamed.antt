@@ -25,8 +25,8 @@ use Rattle.dwz_graph.specs.Resolved.{AreEntries, place_at}
 use Rattle.dwz_graph.specs.declared.file.File.{File}
 use Rattle.dwz_graph.proofs.PlaceLemmas.{unit_and_entries}
 use Rattle.dwz_match.proofs.CommonTops.{commons_are, spot_of}
-use Rattle.dwz_match_files.specs.Read.{IsCommonRead}
-use Rattle.dwz_match_files.proofs.CommonPlaced.{compile_keys}
+use Rattle.dwz_reuse.specs.Read.{IsCommonRead}
+use Rattle.dwz_reuse.proofs.CommonPlaced.{compile_keys}
 use Rattle.dwz_move.specs.Known.{tops_of_refs}
 use Rattle.dwz_move.specs.Marked.{expression_names}
 use Rattle.dwz_move.proofs.NameMarks.{is_top}

@@ -22,9 +22,9 @@ use Rattle.dwz_def_tops.proofs.NameLists.{firsts, spots_firsts}
 use Rattle.dwz_graph.specs.declared.file.File.{File}
 use Rattle.dwz_graph.specs.Names.{top_in}
 use Rattle.dwz_graph.specs.Resolved.{place_at}
-use Rattle.dwz_match_files.specs.Read.{IsCommonRead}
-use Rattle.dwz_match_files.proofs.CommonPlaced.{compile_keys}
-use Rattle.dwz_match_files.proofs.PlaceNames.{name_at, names_found}
+use Rattle.dwz_reuse.specs.Read.{IsCommonRead}
+use Rattle.dwz_reuse.proofs.CommonPlaced.{compile_keys}
+use Rattle.dwz_reuse.proofs.PlaceNames.{name_at, names_found}
 use Rattle.dwz_unit.specs.Rows.{EntryRow, rows_of, units_of as raw_units}
 use Rattle.dwz_reuse.specs.Into.{common_name, top_called}
 use Rattle.dwz_reuse.proofs.SpotNames.{top_same}

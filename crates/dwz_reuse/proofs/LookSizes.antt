@@ -21,7 +21,7 @@ use Rattle.dwz_match.specs.Parts.{HavePartTops}
 use Rattle.dwz_match.proofs.CommonTops.{commons_are, spot_of}
 use Rattle.dwz_match.proofs.LookCount.{look_many}
 use Rattle.dwz_reuse.proofs.SeedFacts.{many_tops}
-use Rattle.dwz_match_files.proofs.CrossFew.{cross_fit}
+use Rattle.dwz_reuse.proofs.CrossFew.{cross_fit}
 use Rattle.dwz_takes.specs.Takes.{AreBelow}
 use Rattle.dwz_unit.proofs.ShownLemmas.{units_few}
 use Rattle.dwz_unit.specs.Rows.{units_of as raw_units}

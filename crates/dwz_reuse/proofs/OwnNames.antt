@@ -10,7 +10,7 @@ use Rattle.dwz_def_reading.specs.Trees.{End, Entry}
 use Rattle.dwz_def_tops.specs.Alike.{any_attr, any_entry, has_operand, is_in, names_in_unit, operand_names}
 use Rattle.dwz_def_tops.specs.Spaces.{space_text, tops_under}
 use Rattle.dwz_def_tops.specs.Spots.{EntryName, InType, Standing, Within, below_spots, entry_spots, in_file, named_files, named_in, number_tops, spot_in, spot_numbering, spots_from, top_count, top_spots, tops_among, tops_of, units_of}
-use Rattle.dwz_def_images.proofs.OldFiles.{counted, filed_count, tops_length}
+use Rattle.dwz_def_tops.proofs.FiledTops.{counted, filed_count, tops_length}
 use Rattle.dwz_def_taken.proofs.NamesOver.{counted_append}
 
 -- ---- names

@@ -35,10 +35,10 @@ use Rattle.dwz_groups.specs.Groups.{grouped}
 use Rattle.dwz_groups.proofs.MarkLemmas.{each_pair, edge_grouped, grouped_edge}
 use Rattle.dwz_match.proofs.CommonTops.{commons_are, spot_of, whole_units}
 use Rattle.dwz_match.specs.Partial.{ArePartial}
-use Rattle.dwz_match_files.proofs.CommonPlaced.{compile_keys, compile_seen}
+use Rattle.dwz_reuse.proofs.CommonPlaced.{compile_keys, compile_seen}
 use Rattle.dwz_takes.specs.Takes.{AreBelow, list_at}
 use Rattle.dwz_unit.specs.Rows.{EntryRow, rows_of, units_of as raw_units}
-use Rattle.dwz_match_files.specs.Read.{IsCommonRead}
+use Rattle.dwz_reuse.specs.Read.{IsCommonRead}
 use Rattle.dwz_reuse.specs.Puts.{NamesUnits, PutsUnits, Refers}
 use Rattle.dwz_reuse.proofs.SpotUnits.{of_unit}
 use Rattle.dwz_reuse.proofs.UnitPlaces.{at_unit, entries_at, row_unit, unit_at, unit_name}

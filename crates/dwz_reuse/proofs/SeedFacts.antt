@@ -23,7 +23,7 @@ use Rattle.dwz_match.specs.Partial.{ArePartial}
 use Rattle.dwz_match.proofs.CommonTops.{all_tops, common_tops, spot_of}
 use Rattle.dwz_match.proofs.BareTops.{cross_of, units_cross}
 use Rattle.dwz_match.proofs.LookCount.{look_many}
-use Rattle.dwz_match_files.specs.Read.{IsCommonRead}
+use Rattle.dwz_reuse.specs.Read.{IsCommonRead}
 use Rattle.dwz_move.specs.Bound.{HasTops}
 use Rattle.dwz_move.specs.Marked.{MarksIf}
 use Rattle.dwz_move.specs.declared.bind.TopRange.{TopRange}

@@ -13,8 +13,8 @@ use Rattle.dwz_def_tops.specs.Lists.{Nth}
 use Rattle.dwz_def_tops.specs.Spots.{EntryName, FileUnit, Top, tops_of, units_of}
 use Rattle.dwz_match.proofs.CommonTops.{commons_are, spot_of, whole_units}
 use Rattle.dwz_match.specs.Units.{MovesIn}
-use Rattle.dwz_match_files.specs.SpaceNames.{ShowLists}
-use Rattle.dwz_match_files.specs.Spaces.{IsNoType}
+use Rattle.dwz_reuse.specs.SpaceNames.{ShowLists}
+use Rattle.dwz_reuse.specs.Spaces.{IsNoType}
 use Rattle.dwz_takes.specs.Takes.{list_at}
 use Rattle.dwz_reuse.specs.Rows.{SpacesLaw}
 

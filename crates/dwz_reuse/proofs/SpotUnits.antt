@@ -24,7 +24,7 @@ use Rattle.dwz_def_tops.specs.Shown.{unit_keys, units_keys}
 use Rattle.dwz_def_tops.specs.Spaces.{space_text, tops_under}
 use Rattle.dwz_def_tops.specs.Spots.{EntryName, Import, InChain, InType, PartialOf, PartialRoot, RootOf, SpaceAt, UnitOf, Within}
 use Rattle.dwz_def_tops.specs.Spots.{below_spots, entry_spots, spot_in, spots_from, top_spots, tops_among, tops_of, units_of}
-use Rattle.dwz_law_files.proofs.OwnNames.{Own, names_own}
+use Rattle.dwz_graph.proofs.OwnNames.{Own, names_own}
 use Rattle.dwz_match.proofs.CommonTops.{spot_of}
 use Rattle.dwz_match.proofs.SpanFacts.{by_unit, part_numbers, range_in}
 use Rattle.dwz_match.specs.Partial.{ArePartial}

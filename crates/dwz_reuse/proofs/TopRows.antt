@@ -12,7 +12,7 @@ use Rattle.dwz_def_reading.specs.Units.{RawUnit}
 use Rattle.dwz_def_tops.specs.Spots.{EntryName}
 use Rattle.dwz_graph.specs.Rows.{AreRowsMeant, RowsMean, nodes}
 use Rattle.dwz_graph.proofs.PartLemmas.{part_meant, rows_unit}
-use Rattle.dwz_graph.proofs.RowLemmas.{row_is}
+use Rattle.dwz_unit.proofs.RowsFound.{row_is}
 use Rattle.dwz_graph.proofs.TreeLemmas.{parts, same_size, tree_means}
 use Rattle.dwz_move.specs.Bound.{EachInto}
 use Rattle.dwz_move.specs.Known.{KnowsRefs}

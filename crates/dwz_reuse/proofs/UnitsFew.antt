@@ -13,7 +13,7 @@ use Rattle.dwz_graph.proofs.IndexRoom.{units_same}
 use Rattle.dwz_graph.specs.declared.file.File.{File}
 use Rattle.dwz_unit.proofs.ShownLemmas.{units_few}
 use Rattle.dwz_unit.specs.Rows.{units_of}
-use Rattle.dwz_match_files.specs.Read.{IsCommonRead}
+use Rattle.dwz_reuse.specs.Read.{IsCommonRead}
 
 pub index_units : (f : File) (doc : Doc ℕ) → IsCommonRead f doc → (first : ℕ) (x : CrossIndex) → IsCrossIndex (from_top first) doc.units x → length x.units < 2 ^ 32
 index_units f doc r first x is =

@@ -8,3 +8,10 @@ pub mod Spread
 pub mod Beside
 pub mod Rows
 pub mod Matching
+pub mod Refers
+pub mod Placed
+pub mod Spaces
+pub mod FileSpaces
+pub mod SpaceNames
+pub mod Joined
+pub mod Read

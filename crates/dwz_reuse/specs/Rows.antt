@@ -5,7 +5,7 @@ use Rattle.dwz_def_reading.specs.Lists.{In}
 use Rattle.dwz_def_taken.specs.Beside.{reused_of}
 use Rattle.dwz_def_taken.specs.Takes.{PartRefers}
 use Rattle.dwz_match.specs.RowLaws.{HaveTops, ShowSpaces}
-use Rattle.dwz_match_files.specs.SpaceNames.{ShowNames}
+use Rattle.dwz_reuse.specs.SpaceNames.{ShowNames}
 use Rattle.dwz_takes.specs.declared.rows.Rows.{Rows}
 use Rattle.dwz_takes.specs.Takes.{list_at}
 

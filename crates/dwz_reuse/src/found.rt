@@ -12,10 +12,10 @@ ghost use Rattle.dwz_reuse.specs.Matching.{IsMatching, ShowsMatching};
 
 use crate::look_classes::all_classes;
 use crate::rows::look_rows;
+use crate::{kin, refers};
 use dwz_gate::Gate;
 use dwz_graph::{File, Graph};
 use dwz_groups::Groups;
-use dwz_match_files::{kin, refers};
 use dwz_model::{NoMemory, Numbers};
 use dwz_move_files::tops_by;
 use dwz_takes::Rows;

@@ -7,7 +7,7 @@ ghost use Rattle.dwz_def_reading.specs.Documents.{Doc};
 ghost use Rattle.dwz_def_reading.specs.Units.{entries_in};
 ghost use Rattle.dwz_def_taken.specs.Beside.{own_tops, reused_of};
 ghost use Rattle.dwz_graph.specs.Resolved.{AreEntries};
-ghost use Rattle.dwz_match_files.specs.Read.{IsCommonRead};
+ghost use Rattle.dwz_reuse.specs.Read.{IsCommonRead};
 ghost use Rattle.dwz_reuse.specs.Into.{common_name, top_called};
 ghost use Rattle.dwz_move.specs.Known.{tops_of_refs};
 ghost use Rattle.dwz_unit.specs.Rows.{units_of};

@@ -9,13 +9,13 @@ ghost use Rattle.dwz_check_labels.specs.Both.{Named};
 ghost use Rattle.dwz_check_labels.specs.FilesSaid.{IsNamed};
 ghost use Rattle.dwz_label.specs.Shown.{AreShown};
 ghost use Rattle.dwz_match.specs.Bare.{ShowBare};
-ghost use Rattle.dwz_match_files.specs.Read.{IsCommonRead};
+ghost use Rattle.dwz_reuse.specs.Read.{IsCommonRead};
 
+use crate::{common_labels, look_labels};
 use dwz_check_labels::CrossLabels;
 use dwz_graph::File;
 use dwz_groups::Groups;
 use dwz_label::Labels;
-use dwz_match_files::{common_labels, look_labels};
 use dwz_model::NoMemory;
 use std::alloc::Global;
 

@@ -11,13 +11,13 @@ ghost use Rattle.dwz_reuse.specs.Operands.{HasOperandRows};
 ghost use Rattle.dwz_reuse.specs.Beside.{IsReadBeside};
 ghost use Rattle.dwz_move_files.specs.Outlines.{AreTops};
 
+use crate::classes;
 use crate::flags::common_flags;
 use crate::look::all_labels;
 use dwz_gate::Gate;
 use dwz_graph::{File, Graph};
 use dwz_groups::Tops;
 use dwz_label_files::labels;
-use dwz_match_files::classes;
 use dwz_model::{NoMemory, Numbers};
 use std::alloc::Global;
 use std::thread::Threads;

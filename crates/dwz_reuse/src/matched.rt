@@ -9,10 +9,10 @@ ghost use Rattle.dwz_graph.specs.Files.{docs_of};
 
 use crate::beside::fixed_beside;
 use crate::laws::operand_laws;
+use crate::{common_laws, read_laws};
 use dwz_def_taken::Fixed;
 use dwz_gate::Gate;
 use dwz_graph::{Graph, placed_laws};
-use dwz_match_files::{common_laws, read_laws};
 use dwz_model::NoMemory;
 use std::alloc::Global;
 use std::thread::Threads;

@@ -12,7 +12,7 @@ ghost use Rattle.dwz_def_taken.specs.Beside.{own_tops, reused_of};
 ghost use Rattle.dwz_def_tops.specs.Alike.{any_attr};
 ghost use Rattle.dwz_def_tops.specs.Spots.{EntryName};
 ghost use Rattle.dwz_graph.specs.Resolved.{AreEntries};
-ghost use Rattle.dwz_match_files.specs.Read.{IsCommonRead};
+ghost use Rattle.dwz_reuse.specs.Read.{IsCommonRead};
 ghost use Rattle.dwz_reuse.specs.Into.{common_name};
 ghost use Rattle.dwz_reuse.specs.Naming.{Names};
 ghost use Rattle.dwz_move.specs.Known.{KnowsRefs, in_unit, tops_of_refs};

@@ -4,7 +4,7 @@ ghost use Rattle.std.specs.Prelude.{◌≡◌, ◌≤◌, ◌^◌, ℕ, List, If
 ghost use Rattle.dwz_def_reading.specs.Documents.{Doc};
 ghost use Rattle.dwz_def_taken.specs.Beside.{own_tops, reused_of};
 ghost use Rattle.dwz_match.specs.Parts.{HavePartTops};
-ghost use Rattle.dwz_match_files.specs.Read.{IsCommonRead};
+ghost use Rattle.dwz_reuse.specs.Read.{IsCommonRead};
 
 use dwz_check_index::{CrossIndex, CrossStarts};
 use dwz_graph::File;

@@ -7,7 +7,7 @@ ghost use Rattle.dwz_def_taken.specs.Beside.{reused_of};
 ghost use Rattle.dwz_def_taken.specs.Takes.{PartRefers};
 ghost use Rattle.dwz_def_tops.specs.Spots.{EntryName};
 ghost use Rattle.dwz_graph.specs.Resolved.{AreEntries};
-ghost use Rattle.dwz_match_files.specs.Read.{IsCommonRead};
+ghost use Rattle.dwz_reuse.specs.Read.{IsCommonRead};
 ghost use Rattle.dwz_reuse.specs.Puts.{NamesUnits};
 ghost use Rattle.dwz_move.specs.Known.{tops_of_refs};
 ghost use Rattle.dwz_takes.specs.Takes.{AreBelow, list_at};

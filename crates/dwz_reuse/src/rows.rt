@@ -15,11 +15,11 @@ ghost use Rattle.dwz_takes.specs.Takes.{AreRows};
 
 use crate::part_tops::tops_of_parts;
 use crate::parts::part_targets;
+use crate::space_names;
 use crate::top_units::top_units;
 use dwz_graph::{File, Graph};
 use dwz_groups::Tops;
 use dwz_match::unit_tops;
-use dwz_match_files::space_names;
 use dwz_model::{NoMemory, Numbers};
 use dwz_takes::Rows;
 use std::alloc::Global;

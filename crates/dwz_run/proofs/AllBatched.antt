@@ -6,9 +6,9 @@ use Rattle.dwz_batch.specs.Jobs.{AreOutcomes}
 use Rattle.dwz_words.specs.declared.options.Options.{Options}
 use Rattle.dwz_run_course.specs.declared.output.Output.{Output}
 use Rattle.dwz_run_course.specs.Answers.{CanBeSaid, IsAnswer}
-use Rattle.dwz_def_run_over.specs.Reuses.{common_got}
-use Rattle.dwz_def_run_batch.specs.Batches.{IsCommonRead, all_got, bytes_together}
-use Rattle.dwz_def_run_batch.specs.Yields.{Batched, batching, output_of_batch}
+use Rattle.dwz_def_run.specs.Reuses.{common_got}
+use Rattle.dwz_def_run.specs.Batches.{IsCommonRead, all_got, bytes_together}
+use Rattle.dwz_def_run.specs.Yields.{Batched, batching, output_of_batch}
 use Rattle.dwz_law_batch.specs.Jobs.{JobsLaw, batch_of_jobs, gives_of}
 use Rattle.dwz_run.specs.Batching.{IsOfSection}
 

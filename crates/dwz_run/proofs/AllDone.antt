@@ -15,8 +15,8 @@ use Rattle.dwz_def_run.specs.Compares.{tells_apart}
 use Rattle.dwz_def_run.specs.Tells.{IsTold}
 use Rattle.dwz_def_run.proofs.Compared.{same_told}
 use Rattle.dwz_def_run.proofs.Stopping.{put_own}
-use Rattle.dwz_def_expanded.specs.NewFile.{expanded_bytes}
-use Rattle.dwz_def_run_batch.specs.Yields.{Yields}
+use Rattle.dwz_def_expand.specs.NewFile.{expanded_bytes}
+use Rattle.dwz_def_run.specs.Yields.{Yields}
 use Rattle.dwz_run.specs.Batched.{DidBatch}
 use Rattle.dwz_run.specs.Expanding.{DidExpand, new_put}
 use Rattle.dwz_run.specs.Laws.{Did, DidAll, DidCompare, DidDemo, DidTell, FoundApart, IsDemoText, RunEnds, puts_in}

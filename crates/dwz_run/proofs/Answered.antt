@@ -31,9 +31,9 @@ use Rattle.dwz_def_run.specs.Compares.{Compares, answer_on, common_in, tells_apa
 use Rattle.dwz_def_run.specs.Out.{OutBy}
 use Rattle.dwz_def_run.proofs.Compared.{never_silent}
 use Rattle.dwz_def_run.proofs.Gotten.{got_files}
-use Rattle.dwz_def_run_over.specs.Comes.{ComesBy}
-use Rattle.dwz_def_run_batch.specs.Yields.{Yields, YieldsBy}
-use Rattle.dwz_def_run_batch.proofs.NeverNothing.{never_nothing_yields}
+use Rattle.dwz_def_run.specs.Comes.{ComesBy}
+use Rattle.dwz_def_run.specs.Yields.{Yields, YieldsBy}
+use Rattle.dwz_def_run.proofs.NeverNothing.{never_nothing_yields}
 use Rattle.dwz_run.specs.Laws.{Asks, AsksToCompare, IsFirstRefusal, NoneFailed, RunEnds, for_answer, for_demo, for_files, to_batch, to_compare, to_expand, to_reuse, work_contents, work_options}
 use Rattle.dwz_run.proofs.Causes.{among_comes, first_among}
 use Rattle.dwz_run.proofs.Outputs.{batch_got, plain_got}

@@ -13,13 +13,13 @@ use Rattle.dwz_run_course.specs.declared.status.Status.TheVariants.{Done, NoMemo
 use Rattle.dwz_run_course.specs.Ends.{Complete, finished}
 use Rattle.dwz_run_course.specs.Outcome.{Outcome, refuses, writes}
 use Rattle.dwz_gen.specs.Demo.{demo_files}
-use Rattle.dwz_def_run_over.specs.Reuses.{common_got}
-use Rattle.dwz_def_run_over.proofs.OneReuse.{one_reuse}
-use Rattle.dwz_def_run_batch.specs.Batches.{Alone, AreOutcomes, Batch, FileGot, IsCommonRead, bytes_together, is_refused, options_alone}
-use Rattle.dwz_def_run_batch.specs.Yields.{Batched, Yields, YieldsBy, batching}
-use Rattle.dwz_def_run_batch.proofs.NeverNothing.{never_nothing_yields}
-use Rattle.dwz_def_run_batch.proofs.OneBatch.{not_both}
-use Rattle.dwz_def_run_batch.proofs.Past.{not_past}
+use Rattle.dwz_def_run.specs.Reuses.{common_got}
+use Rattle.dwz_def_run.proofs.OneReuse.{one_reuse}
+use Rattle.dwz_def_run.specs.Batches.{Alone, AreOutcomes, Batch, FileGot, IsCommonRead, bytes_together, is_refused, options_alone}
+use Rattle.dwz_def_run.specs.Yields.{Batched, Yields, YieldsBy, batching}
+use Rattle.dwz_def_run.proofs.NeverNothing.{never_nothing_yields}
+use Rattle.dwz_def_run.proofs.OneBatch.{not_both}
+use Rattle.dwz_def_run.proofs.Past.{not_past}
 use Rattle.dwz_run.specs.Batched.{AsksToBatch, ComesAlone, files_of}
 use Rattle.dwz_run.specs.BatchLaws.{BatchLaw}
 use Rattle.dwz_run.specs.Laws.{NoneFailed, to_batch}

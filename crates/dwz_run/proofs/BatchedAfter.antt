@@ -8,7 +8,7 @@ use Rattle.std.proofs.Math.Seq.{take-length}
 use Rattle.dwz_def_reading.specs.Lists.{Each, In}
 use Rattle.dwz_def_reading.specs.Texts.{NoZero}
 use Rattle.dwz_def_reading.specs.Values.{AreBytes}
-use Rattle.dwz_def_plan.specs.Homes.{numbers_from}
+use Rattle.dwz_def_images.specs.Homes.{numbers_from}
 use Rattle.dwz_outside.specs.declared.puts.Put.{Put}
 use Rattle.dwz_outside.specs.Store.{Store, done}
 use Rattle.dwz_words.specs.Asked.{behind, common_read, first_given, names_got, names_of_places}
@@ -20,11 +20,11 @@ use Rattle.dwz_run_course.specs.Gets.{AreOfBytes, gets_by}
 use Rattle.dwz_run_course.specs.Outcome.{writes}
 use Rattle.dwz_def_run.specs.Out.{sup_name}
 use Rattle.dwz_def_over.proofs.AllOver.{read_back_over, tied_over}
-use Rattle.dwz_def_run_over.specs.Reuses.{common_got}
-use Rattle.dwz_def_run_batch.specs.Batches.{Batch, Batches, FileGot, got_from}
-use Rattle.dwz_def_run_batch.specs.Stops.{AreOldOrAlone, FitBatch, KeepRefused}
-use Rattle.dwz_def_run_batch.specs.Yields.{batching}
-use Rattle.dwz_def_run_batch.proofs.Stopping.{held_law, keeps_law, not_put_law, stops_law}
+use Rattle.dwz_def_run.specs.Reuses.{common_got}
+use Rattle.dwz_def_run.specs.Batches.{Batch, Batches, FileGot, got_from}
+use Rattle.dwz_def_run.specs.BatchesStops.{AreOldOrAlone, FitBatch, KeepRefused}
+use Rattle.dwz_def_run.specs.Yields.{batching}
+use Rattle.dwz_def_run.proofs.BatchesStopping.{held_law, keeps_law, not_put_law, stops_law}
 use Rattle.dwz_run.specs.Batched.{AsksToBatch, ComesAlone, HoldAlone, IsBackAlone, files_of}
 use Rattle.dwz_run.proofs.CommonName.{of_either}
 use Rattle.dwz_run.proofs.FirstGot.{first_held}

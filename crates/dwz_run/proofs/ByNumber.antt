@@ -21,7 +21,7 @@ use Rattle.dwz_def_reading.proofs.ListsMapped.{lists_mapped}
 use Rattle.dwz_def_reading.proofs.MeaningUnits.{units_agree}
 use Rattle.dwz_def_reading.proofs.PlacesMapped.{units_mapped}
 use Rattle.dwz_def_reading.proofs.PlacesRise.{entries_below, units_below}
-use Rattle.dwz_def_run_batch.proofs.OneFile.{by_number}
+use Rattle.dwz_def_run.proofs.OneFile.{by_number}
 use Rattle.dwz_run.proofs.FinishedPlaced.{beside_placed}
 
 abbrev placed : ℕ → Place → Place

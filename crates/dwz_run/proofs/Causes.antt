@@ -16,8 +16,8 @@ use Rattle.dwz_run_course.specs.Outcome.{name_of_file, refuses}
 use Rattle.dwz_gen.specs.Demo.{demo_files}
 use Rattle.dwz_def_run.specs.Out.{OutBy, Slims}
 use Rattle.dwz_def_run.proofs.Gotten.{got_files}
-use Rattle.dwz_def_run_over.specs.Comes.{ComesBy}
-use Rattle.dwz_def_run_batch.specs.Yields.{Yields, YieldsBy}
+use Rattle.dwz_def_run.specs.Comes.{ComesBy}
+use Rattle.dwz_def_run.specs.Yields.{Yields, YieldsBy}
 use Rattle.dwz_run.specs.Laws.{IsFirstAmong, IsFirstIn, IsFirstOf, IsFirstRefusal, PutsNothing, RunEnds, WasRefused, for_answer, for_demo, for_files, to_batch, to_compare, to_expand, to_reuse}
 use Rattle.dwz_run.proofs.Outputs.{got_for_batch, got_of, got_plain}
 

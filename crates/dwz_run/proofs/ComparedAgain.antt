@@ -9,8 +9,8 @@ use Rattle.dwz_def_reading.specs.Documents.{Doc}
 use Rattle.dwz_def_reading.specs.Files.{Limits, ReadAll, limits_after}
 use Rattle.dwz_def_reading.specs.Finished.{has_sup}
 use Rattle.dwz_def_reading.specs.Values.{AreBytes}
-use Rattle.dwz_def_plan.specs.Homes.{Common, file_of, same_home}
-use Rattle.dwz_def_plan.specs.Plan.{PartialUnit}
+use Rattle.dwz_def_images.specs.Homes.{Common, file_of, same_home}
+use Rattle.dwz_def_images.specs.Plan.{PartialUnit}
 use Rattle.dwz_def_readback.specs.Files.{Run, imports_common}
 use Rattle.dwz_def_limits.specs.Within.{AreWithinLimits}
 use Rattle.dwz_def_check.specs.declared.same.Same.TheVariants.{Yes}
@@ -18,8 +18,8 @@ use Rattle.dwz_def_output.specs.FilesAfter.{bytes_after, common_bytes, has_commo
 use Rattle.dwz_def_run.specs.Compares.{Compares, answer_on}
 use Rattle.dwz_def_run.specs.Out.{IsWritten, OutBy, Slims, all_puts, common_of, run_for, sup_name, top_scope_of}
 use Rattle.dwz_def_run.proofs.Gotten.{are_held, got_files}
-use Rattle.dwz_def_run_over.specs.Comes.{ComesBy}
-use Rattle.dwz_def_run_batch.specs.Yields.{Yields, YieldsBy}
+use Rattle.dwz_def_run.specs.Comes.{ComesBy}
+use Rattle.dwz_def_run.specs.Yields.{Yields, YieldsBy}
 use Rattle.dwz_gen.specs.Demo.{demo_files}
 use Rattle.dwz_law_run.specs.SameLaws.{NamesCommon, compared_of}
 use Rattle.dwz_law_run.proofs.SameLemmas.{names_sup, same_said}

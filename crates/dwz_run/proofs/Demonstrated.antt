@@ -20,7 +20,7 @@ use Rattle.dwz_run_course.specs.Puts.{PutsDone}
 use Rattle.dwz_gen.specs.Demo.{demo_files}
 use Rattle.dwz_def_run.specs.Out.{Slims}
 use Rattle.dwz_def_run.proofs.Gotten.{got_files}
-use Rattle.dwz_def_run_batch.specs.Yields.{Yields}
+use Rattle.dwz_def_run.specs.Yields.{Yields}
 use Rattle.dwz_run.specs.DemoLaws.{DemoEnds}
 use Rattle.dwz_run.specs.Laws.{AsksForDemo, IsDemoText, RunEnds}
 use Rattle.dwz_run.proofs.AllDone.{with_puts}

@@ -5,7 +5,7 @@ use Rattle.dwz_model.specs.declared.fault.Refusal.{Refusal}
 use Rattle.dwz_model.specs.Lists.{Each}
 use Rattle.dwz_def_reading.specs.Values.{AreBytes}
 use Rattle.dwz_def_expand.specs.OneFile.{FileRead, OneFile}
-use Rattle.dwz_def_expanded.specs.NewFile.{NewRefusal}
+use Rattle.dwz_def_expand.specs.NewFile.{NewRefusal}
 use Rattle.dwz_expand_file.proofs.ReadLemmas.{new_file_reads}
 use Rattle.dwz_law_expand.specs.Told.{CommonIsBytes, IsOfBytes}
 use Rattle.dwz_law_expand.proofs.MadeLemmas.{reads_without_sup}

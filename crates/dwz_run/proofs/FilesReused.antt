@@ -11,7 +11,7 @@ use Rattle.dwz_def_reading.specs.Documents.{Doc}
 use Rattle.dwz_def_reading.specs.Finished.{BesideDocs, ReadBeside, beside_meaning}
 use Rattle.dwz_def_reading.proofs.FinishedLemmas.{beside_agrees}
 use Rattle.dwz_def_tops.proofs.FileNumbers.{numbers_long}
-use Rattle.dwz_def_plan.specs.Homes.{numbers_from}
+use Rattle.dwz_def_images.specs.Homes.{numbers_from}
 use Rattle.dwz_def_output.specs.Written.{ArePrunable}
 use Rattle.dwz_def_output.specs.NewFiles.{AreNewBy}
 use Rattle.dwz_def_output.specs.declared.new_file.NewFile.{NewFile}
@@ -19,11 +19,11 @@ use Rattle.dwz_def_taken.specs.declared.fixed.Fixed.{Fixed}
 use Rattle.dwz_def_taken.specs.Takes.{IsFixedOf}
 use Rattle.dwz_def_over.specs.Over.{AreOverFiles, OverFiles, limits_over, run_over, stands}
 use Rattle.dwz_def_over.proofs.ReadOver.{read_length}
-use Rattle.dwz_def_run_over.specs.Reuses.{HasContents, Reuses, ReusesOf, common_got, files_got}
-use Rattle.dwz_def_run_over.proofs.Gotten.{shifted}
+use Rattle.dwz_def_run.specs.Reuses.{HasContents, Reuses, ReusesOf, common_got, files_got}
+use Rattle.dwz_def_run.proofs.ReusesGotten.{shifted}
 use Rattle.dwz_graph.specs.Files.{AreKept, FilesFail, FilesRead, HasCommon, docs_of, said_beside}
 use Rattle.dwz_graph.specs.declared.file.File.{File}
-use Rattle.dwz_match_files.specs.Placed.{BesideLaw}
+use Rattle.dwz_reuse.specs.Placed.{BesideLaw}
 use Rattle.dwz_unit.specs.Rows.{units_of}
 use Rattle.dwz_plan.proofs.BridgeLemmas.{numbers_are}
 use Rattle.dwz_run_course.specs.declared.output.Output.{Output}

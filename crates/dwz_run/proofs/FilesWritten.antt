@@ -14,8 +14,8 @@ use Rattle.dwz_def_tops.specs.Alike.{TopScope}
 use Rattle.dwz_def_tops.specs.Deciding.{alike_test}
 use Rattle.dwz_def_tops.specs.Spots.{units_of}
 use Rattle.dwz_def_tops.proofs.FileNumbers.{numbers_long}
-use Rattle.dwz_def_plan.specs.Gain.{gain_rule}
-use Rattle.dwz_def_plan.specs.Homes.{Rule}
+use Rattle.dwz_def_images.specs.Gain.{gain_rule}
+use Rattle.dwz_def_images.specs.Homes.{Rule}
 use Rattle.dwz_def_readback.specs.Back.{run_of}
 use Rattle.dwz_def_readback.specs.Files.{Run}
 use Rattle.dwz_graph.specs.Files.{FilesFail, docs_of}
@@ -32,9 +32,9 @@ use Rattle.dwz_def_run.specs.Out.{OutBy, Slims, rule_of, run_for, top_scope_of}
 use Rattle.dwz_def_run.specs.Compares.{Compares}
 use Rattle.dwz_def_run.specs.Expands.{Expands}
 use Rattle.dwz_def_run.specs.Tells.{TellsWhy}
-use Rattle.dwz_def_run_over.specs.Comes.{Comes, ComesBy, reusing}
-use Rattle.dwz_def_run_over.specs.Reuses.{Reuses}
-use Rattle.dwz_def_run_batch.specs.Yields.{Batched, Yields, YieldsBy, batching}
+use Rattle.dwz_def_run.specs.Comes.{Comes, ComesBy, reusing}
+use Rattle.dwz_def_run.specs.Reuses.{Reuses}
+use Rattle.dwz_def_run.specs.Yields.{Batched, Yields, YieldsBy, batching}
 use Rattle.dwz_def_output.specs.declared.new_file.NewFile.{NewFile}
 use Rattle.dwz_def_output.specs.NewFiles.{AreNew, IsNewCommon}
 use Rattle.dwz_def_over.proofs.ReadOver.{read_length}

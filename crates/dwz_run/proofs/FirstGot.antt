@@ -4,7 +4,7 @@ use Rattle.std.specs.Prelude.{option_and_then, option_map, if◌then◌else◌}
 use Rattle.dwz_def_reading.specs.Files.{IsNotTooLong, no_files_before}
 use Rattle.dwz_outside.specs.Store.{Store, got}
 use Rattle.dwz_run_course.specs.Gets.{gets_by, is_longer_than}
-use Rattle.dwz_def_run_over.proofs.Gotten.{all_got, short}
+use Rattle.dwz_def_run.proofs.ReusesGotten.{all_got, short}
 
 module _ (store : Store) (longest behind before : ℕ) (name : List ℕ) (names contents : List (List ℕ)) where
   -- it comes first, and those behind it were got unless it is too long

@@ -9,7 +9,7 @@ use Rattle.dwz_outside.specs.declared.puts.Put.{Put}
 use Rattle.dwz_words.specs.declared.options.Options.{Options}
 use Rattle.dwz_run_course.specs.declared.output.TextPart.{TextPart}
 use Rattle.dwz_batch.specs.declared.job.Outcome.{Outcome}
-use Rattle.dwz_def_run_batch.specs.Batches.{FileGot, IsPast, all_got, bytes_together, got_from}
+use Rattle.dwz_def_run.specs.Batches.{FileGot, IsPast, all_got, bytes_together, got_from}
 use Rattle.dwz_law_batch.specs.Jobs.{file_at, job_part, job_puts}
 
 -- ---- files by number

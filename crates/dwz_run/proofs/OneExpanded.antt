@@ -9,8 +9,8 @@ use Rattle.dwz_def_reading.specs.Finished.{finished_meaning}
 use Rattle.dwz_def_reading.proofs.FinishedLemmas.{finished_agrees}
 use Rattle.dwz_def_expand.specs.OneFile.{OneFile, ReadsOne}
 use Rattle.dwz_def_expand.specs.Output.{ExpandRefusal, new_sections}
-use Rattle.dwz_def_expanded.specs.NewFile.{NewRefusal}
-use Rattle.dwz_def_expanded.proofs.OfSections.{of_section}
+use Rattle.dwz_def_expand.specs.NewFile.{NewRefusal}
+use Rattle.dwz_def_expand.proofs.OfSections.{of_section}
 use Rattle.dwz_expand.specs.Expanded.{AnswersExpand, IsOneOf}
 use Rattle.dwz_expand_file.specs.Answers.{AnswersFile}
 use Rattle.dwz_graph.specs.Files.{FilesFail, FilesRead}

@@ -8,11 +8,11 @@ use Rattle.dwz_run_course.specs.declared.output.Output.{Output}
 use Rattle.dwz_run_course.specs.Answers.{IsAnswer}
 use Rattle.dwz_run_course.specs.Outcome.{writes}
 use Rattle.dwz_batch.specs.declared.job.Outcome.TheVariants.{Bytes}
-use Rattle.dwz_def_plan.specs.Homes.{numbers_from}
+use Rattle.dwz_def_images.specs.Homes.{numbers_from}
 use Rattle.dwz_def_run.specs.Out.{put_of}
-use Rattle.dwz_def_run_over.specs.Reuses.{ReusesOf}
-use Rattle.dwz_def_run_batch.specs.Batches.{Alone, FileGot, options_alone}
-use Rattle.dwz_def_run_batch.proofs.OneFile.{output_alone}
+use Rattle.dwz_def_run.specs.Reuses.{ReusesOf}
+use Rattle.dwz_def_run.specs.Batches.{Alone, FileGot, options_alone}
+use Rattle.dwz_def_run.proofs.OneFile.{output_alone}
 use Rattle.dwz_law_batch.specs.Jobs.{IsOfJob}
 
 -- what comes of the one content over the common one comes of the file alone

@@ -29,11 +29,11 @@ use Rattle.dwz_def_run.specs.Out.{OutBy, Slims, output_of, summary_of, sup_name,
 use Rattle.dwz_def_run.specs.Tells.{IsTold, TellsWhy, answer_of}
 use Rattle.dwz_def_output.proofs.AllMade.{common_tied, file_tied, read_back}
 use Rattle.dwz_def_run.proofs.Gotten.{are_held, got_files}
-use Rattle.dwz_def_expanded.specs.NewFile.{expanded_bytes}
-use Rattle.dwz_def_run_over.specs.Comes.{ComesBy, reusing}
-use Rattle.dwz_def_run_over.specs.Reuses.{Reuses, summary_over}
+use Rattle.dwz_def_expand.specs.NewFile.{expanded_bytes}
+use Rattle.dwz_def_run.specs.Comes.{ComesBy, reusing}
+use Rattle.dwz_def_run.specs.Reuses.{Reuses, summary_over}
 use Rattle.dwz_def_over.specs.Over.{run_over}
-use Rattle.dwz_def_run_batch.specs.Yields.{Batched, Yields, YieldsBy, batching}
+use Rattle.dwz_def_run.specs.Yields.{Batched, Yields, YieldsBy, batching}
 use Rattle.dwz_run.specs.Batched.{AsksToBatch, HasBatch}
 use Rattle.dwz_run.specs.Expanding.{AsksToExpand, HasOneOutput, new_put, said_of_one}
 use Rattle.dwz_run.specs.Laws.{AsksForAnswer, AsksForDemo, AsksForFiles, AsksToCompare, HasOutput, HoldAfter, IsDemoText, puts_in, run_in, said}

@@ -6,7 +6,7 @@ use Rattle.dwz_model.specs.declared.fault.Refusal.{Refusal}
 use Rattle.dwz_model.specs.declared.place.Place.{Place as PlaceAsked}
 use Rattle.dwz_def_reading.specs.Documents.{Doc}
 use Rattle.dwz_def_reading.specs.Files.{ReadAll, no_files_before}
-use Rattle.dwz_def_images.specs.After.{Place}
+use Rattle.dwz_def_reading.specs.Places.{Place}
 use Rattle.dwz_outside.specs.declared.puts.Put.{Put}
 use Rattle.dwz_text.specs.Lines.{Text}
 use Rattle.dwz_words.specs.Asked.{places_asked}

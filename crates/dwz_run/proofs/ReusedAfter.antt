@@ -8,7 +8,7 @@ use Rattle.std.proofs.Math.Seq.{take-length}
 use Rattle.dwz_model.specs.Lists.{Each}
 use Rattle.dwz_def_reading.specs.Texts.{NoZero}
 use Rattle.dwz_def_reading.specs.Values.{AreBytes}
-use Rattle.dwz_def_plan.specs.Homes.{numbers_from}
+use Rattle.dwz_def_images.specs.Homes.{numbers_from}
 use Rattle.dwz_outside.specs.declared.puts.Put.{Put}
 use Rattle.dwz_outside.specs.Store.{Store, done}
 use Rattle.dwz_words.specs.Asked.{behind, common_read, first_given, names_got, names_of_places}
@@ -19,12 +19,12 @@ use Rattle.dwz_run_course.specs.Gets.{AreOfBytes, gets}
 use Rattle.dwz_def_over.specs.Over.{OverFiles}
 use Rattle.dwz_def_over.specs.Written.{CanBeWrittenOver, ReadBackOver, AreTiedOver, file_over}
 use Rattle.dwz_def_over.proofs.AllOver.{read_back_over, tied_over}
-use Rattle.dwz_def_run_over.specs.Comes.{reusing}
-use Rattle.dwz_def_run_over.specs.Reuses.{HasContents, common_got, files_got, puts_over}
-use Rattle.dwz_def_run_over.specs.Stops.{AreOldOrMadeOver, HoldOver}
-use Rattle.dwz_def_run_over.proofs.FitReuse.{fit_over}
-use Rattle.dwz_def_run_over.proofs.Gotten.{common_held, got_whole}
-use Rattle.dwz_def_run_over.proofs.NotPut.{holds_over, not_put, stops_over}
+use Rattle.dwz_def_run.specs.Comes.{reusing}
+use Rattle.dwz_def_run.specs.Reuses.{HasContents, common_got, files_got, puts_over}
+use Rattle.dwz_def_run.specs.ReusesStops.{AreOldOrMadeOver, HoldOver}
+use Rattle.dwz_def_run.proofs.FitReuse.{fit_over}
+use Rattle.dwz_def_run.proofs.ReusesGotten.{common_held, got_whole}
+use Rattle.dwz_def_run.proofs.NotPut.{holds_over, not_put, stops_over}
 use Rattle.dwz_run.specs.Reusing.{name_over}
 use Rattle.dwz_run.proofs.CommonName.{of_either}
 use Rattle.dwz_run.proofs.OfBytes.{bytes_at, each_bytes}

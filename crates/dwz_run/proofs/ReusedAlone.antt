@@ -6,7 +6,7 @@ use Rattle.std.proofs.lemmas.Bool.{ltb-true, or_cases}
 use Rattle.std.proofs.lemmas.List.Sums.{sum_by-cons}
 use Rattle.dwz_def_reading.specs.Files.{longest_files}
 use Rattle.dwz_def_reading.specs.Lists.{In}
-use Rattle.dwz_def_plan.specs.Homes.{numbers_from}
+use Rattle.dwz_def_images.specs.Homes.{numbers_from}
 use Rattle.dwz_def_images.specs.Units.{changes}
 use Rattle.dwz_def_readback.specs.Files.{CommonFile, Run}
 use Rattle.dwz_outside.specs.declared.puts.Put.{Put}
@@ -21,11 +21,11 @@ use Rattle.dwz_def_output.specs.FilesAfter.{bytes_after_by}
 use Rattle.dwz_def_over.specs.Over.{OverFiles, run_over, stands}
 use Rattle.dwz_def_over.specs.Written.{CanBeWrittenOver, OverFault}
 use Rattle.dwz_def_run.specs.Out.{file_puts_by, files_puts_by, length_if_new, puts_by, summary_lines_by, sup_name}
-use Rattle.dwz_def_run_over.specs.Comes.{ComesBy, reusing}
-use Rattle.dwz_def_run_over.specs.Reuses.{ReusesOf, common_got, files_got, output_over}
-use Rattle.dwz_def_run_over.proofs.Gotten.{short}
-use Rattle.dwz_def_run_batch.specs.Batches.{FileGot, IsCommonRead, bytes_together, got_from, options_alone}
-use Rattle.dwz_def_run_batch.specs.Yields.{Yields, YieldsBy, batching}
+use Rattle.dwz_def_run.specs.Comes.{ComesBy, reusing}
+use Rattle.dwz_def_run.specs.Reuses.{ReusesOf, common_got, files_got, output_over}
+use Rattle.dwz_def_run.proofs.ReusesGotten.{short}
+use Rattle.dwz_def_run.specs.Batches.{FileGot, IsCommonRead, bytes_together, got_from, options_alone}
+use Rattle.dwz_def_run.specs.Yields.{Yields, YieldsBy, batching}
 use Rattle.dwz_run.specs.Batched.{AsksToBatch, ComesAlone, files_of}
 use Rattle.dwz_run.specs.BatchLaws.{NamesAlone, ReuseAloneLaw}
 use Rattle.dwz_run.specs.Reusing.{AsksToReuse}

@@ -13,10 +13,10 @@ use Rattle.dwz_def_run.specs.Compares.{Compares}
 use Rattle.dwz_def_run.specs.Expands.{Expands}
 use Rattle.dwz_def_run.specs.Tells.{TellsWhy}
 use Rattle.dwz_def_over.specs.Over.{OverFiles, run_over, stands}
-use Rattle.dwz_def_run_over.specs.Comes.{Comes, ComesBy, reusing}
-use Rattle.dwz_def_run_over.specs.Reuses.{Reuses, output_over}
-use Rattle.dwz_def_run_batch.specs.Yields.{Batched, Yields, YieldsBy, batching}
-use Rattle.dwz_def_run_batch.proofs.SameWorkers.{workers_law}
+use Rattle.dwz_def_run.specs.Comes.{Comes, ComesBy, reusing}
+use Rattle.dwz_def_run.specs.Reuses.{Reuses, output_over}
+use Rattle.dwz_def_run.specs.Yields.{Batched, Yields, YieldsBy, batching}
+use Rattle.dwz_def_run.proofs.SameWorkers.{workers_law}
 
 module _ (o : Options) (n : ℕ) where
   -- the same with so many workers

@@ -13,7 +13,7 @@ use Rattle.dwz_run_course.specs.Outcome.{writes}
 use Rattle.dwz_run_course.specs.Puts.{PutsStopped}
 use Rattle.dwz_gen.specs.Demo.{demo_files}
 use Rattle.dwz_def_run.proofs.Stopping.{stops}
-use Rattle.dwz_def_run_batch.specs.Yields.{Yields}
+use Rattle.dwz_def_run.specs.Yields.{Yields}
 use Rattle.dwz_run.specs.Batched.{StoppedBatch}
 use Rattle.dwz_run.specs.Expanding.{StoppedOne, new_put}
 use Rattle.dwz_run.specs.Laws.{AsksForFiles, HasOutput, ReadOn, RunEnds, StoppedAt, puts_in}

@@ -10,9 +10,9 @@ use Rattle.dwz_run_course.specs.declared.status.Status.TheVariants.{Done, NoMemo
 use Rattle.dwz_run_course.specs.Ends.{Complete, SaysAll}
 use Rattle.dwz_run_course.specs.Outcome.{Outcome, refuses}
 use Rattle.dwz_gen.specs.Demo.{demo_files}
-use Rattle.dwz_def_run_over.specs.Reuses.{common_got}
-use Rattle.dwz_def_run_batch.specs.Batches.{FileGot, IsCommonRead, bytes_together}
-use Rattle.dwz_def_run_batch.specs.Yields.{Yields, batching}
+use Rattle.dwz_def_run.specs.Reuses.{common_got}
+use Rattle.dwz_def_run.specs.Batches.{FileGot, IsCommonRead, bytes_together}
+use Rattle.dwz_def_run.specs.Yields.{Yields, batching}
 use Rattle.dwz_run.specs.Batched.{AsksToBatch, ComesAlone, DidBatch, files_of}
 use Rattle.dwz_run.specs.Laws.{NoneFailed, RunEnds}
 use Rattle.dwz_run.specs.Reusing.{AsksToReuse}

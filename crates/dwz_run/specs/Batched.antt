@@ -16,10 +16,10 @@ use Rattle.dwz_run_course.specs.Outcome.{Outcome, writes}
 use Rattle.dwz_def_run.specs.Out.{sup_name}
 use Rattle.dwz_def_over.specs.Over.{OverFiles}
 use Rattle.dwz_def_over.specs.Written.{AreTiedOver, CanBeWrittenOver, ReadBackOver, file_over}
-use Rattle.dwz_def_run_over.specs.Reuses.{HasContents, common_got}
-use Rattle.dwz_def_run_batch.specs.Batches.{Alone, Batch, Batches, FileGot, all_got, puts_of}
-use Rattle.dwz_def_run_batch.specs.Stops.{AreOldOrAlone, KeepRefused}
-use Rattle.dwz_def_run_batch.specs.Yields.{batching}
+use Rattle.dwz_def_run.specs.Reuses.{HasContents, common_got}
+use Rattle.dwz_def_run.specs.Batches.{Alone, Batch, Batches, FileGot, all_got, puts_of}
+use Rattle.dwz_def_run.specs.BatchesStops.{AreOldOrAlone, KeepRefused}
+use Rattle.dwz_def_run.specs.Yields.{batching}
 
 -- ---- what is asked for
 

@@ -8,7 +8,7 @@ use Rattle.dwz_def_reading.specs.ElfFaults.{file_fault}
 use Rattle.dwz_def_reading.specs.Finished.{refusal_of}
 use Rattle.dwz_batch.specs.declared.job.Outcome.{Outcome}
 use Rattle.dwz_batch.specs.declared.job.Outcome.TheVariants.{Refused as RefusedJob}
-use Rattle.dwz_def_run_batch.specs.Batches.{FileGot, IsPast}
+use Rattle.dwz_def_run.specs.Batches.{FileGot, IsPast}
 
 -- the one holds, or a refusal is of this kind, and of a section; want of memory is always an answer
 abbrev pub HoldsOrRefused : Type 0 → (Refusal → Type 0) → Result (Unit {0}) GraphErr → Type 0

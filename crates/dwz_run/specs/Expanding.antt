@@ -5,8 +5,8 @@ use Rattle.dwz_def_reading.specs.ElfHeaders.{file_header}
 use Rattle.dwz_def_reading.specs.Units.{RawUnit}
 use Rattle.dwz_def_cross.specs.CrossSame.{CrossSame}
 use Rattle.dwz_def_expand.specs.OneFile.{OneFile, said_by_file, same_place}
-use Rattle.dwz_def_expanded.specs.NewFile.{NewRefusal, expanded_bytes}
-use Rattle.dwz_def_expanded.specs.After.{ReadsFreely, SpacesFit, units_after}
+use Rattle.dwz_def_expand.specs.NewFile.{NewRefusal, expanded_bytes}
+use Rattle.dwz_def_expand.specs.After.{ReadsFreely, SpacesFit, units_after}
 use Rattle.dwz_outside.specs.declared.puts.Put.{Put}
 use Rattle.dwz_outside.specs.Store.{Store, done}
 use Rattle.dwz_outside.specs.Told.{FailedWrite, FilesSeen, StoredWith}

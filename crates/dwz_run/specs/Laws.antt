@@ -15,7 +15,7 @@ use Rattle.dwz_def_check.specs.declared.same.Same.{Same}
 use Rattle.dwz_def_check.specs.declared.same.Same.TheVariants.{Yes}
 use Rattle.dwz_def_check.specs.Texts.{check_text}
 use Rattle.dwz_def_expand.specs.OneFile.{OneFile}
-use Rattle.dwz_def_expanded.specs.NewFile.{NewRefusal}
+use Rattle.dwz_def_expand.specs.NewFile.{NewRefusal}
 use Rattle.dwz_outside.specs.declared.puts.Put.{Put}
 use Rattle.dwz_outside.specs.Counts.{Rose}
 use Rattle.dwz_outside.specs.Store.{Store, done}
@@ -39,7 +39,7 @@ use Rattle.dwz_def_run.specs.Compares.{common_in, tells_apart, two_in}
 use Rattle.dwz_def_run.specs.Expands.{IsOneRead, one_in}
 use Rattle.dwz_def_run.specs.Stops.{IsMade}
 use Rattle.dwz_def_run.specs.Tells.{IsTold, IsUntold}
-use Rattle.dwz_def_run_batch.specs.Yields.{Yields}
+use Rattle.dwz_def_run.specs.Yields.{Yields}
 use Rattle.dwz_run.specs.Batched.{AsksToBatch, DidBatch, IsFirstBatch, StoppedBatch}
 use Rattle.dwz_run.specs.Expanding.{AsksToExpand, DidExpand, StoppedOne}
 use Rattle.dwz_run.specs.Reusing.{AsksToReuse, DidReuse, IsFirstOver, StoppedOver}

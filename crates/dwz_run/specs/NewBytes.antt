@@ -6,7 +6,7 @@ use Rattle.dwz_model.specs.declared.fault.GraphErr.TheVariants.{NoMemory, Refuse
 use Rattle.dwz_def_output.specs.Refusals.{InFile}
 use Rattle.dwz_def_expand.specs.OneFile.{OneFile}
 use Rattle.dwz_def_expand.specs.Output.{new_sections}
-use Rattle.dwz_def_expanded.specs.NewFile.{FileFault, expanded_bytes}
+use Rattle.dwz_def_expand.specs.NewFile.{FileFault, expanded_bytes}
 
 -- they are those of the new file, which has no fault as a whole; or it has one, and is refused with it
 abbrev pub AnswersNew : {A : Type 0} → OneFile → (A → List ℕ) → Result A GraphErr → Type 0

@@ -13,9 +13,9 @@ use Rattle.dwz_run_course.specs.Gets.{gets}
 use Rattle.dwz_def_run.specs.Out.{sup_name}
 use Rattle.dwz_def_over.specs.Over.{AreOverFiles, OverFiles}
 use Rattle.dwz_def_over.specs.Written.{AreTiedOver, CanBeWrittenOver, OverFault, ReadBackOver, file_over}
-use Rattle.dwz_def_run_over.specs.Comes.{reusing}
-use Rattle.dwz_def_run_over.specs.Reuses.{HasContents, common_got, files_got, puts_over, summary_over}
-use Rattle.dwz_def_run_over.specs.Stops.{AreOldOrMadeOver, HoldOver}
+use Rattle.dwz_def_run.specs.Comes.{reusing}
+use Rattle.dwz_def_run.specs.Reuses.{HasContents, common_got, files_got, puts_over, summary_over}
+use Rattle.dwz_def_run.specs.ReusesStops.{AreOldOrMadeOver, HoldOver}
 
 -- ---- what is asked for
 

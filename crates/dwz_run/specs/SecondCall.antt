@@ -3,7 +3,7 @@ use Rattle.std.specs.Prelude.{◌≡◌, ◌⊎◌, ◌||◌, ℕ, true, false, 
 use Rattle.dwz_def_reading.specs.Finished.{has_sup}
 use Rattle.dwz_def_tops.specs.Lists.{Nth}
 use Rattle.dwz_def_limits.specs.Within.{AreWithinLimits}
-use Rattle.dwz_def_run_batch.specs.Yields.{Yields}
+use Rattle.dwz_def_run.specs.Yields.{Yields}
 use Rattle.dwz_gen.specs.Demo.{demo_files}
 use Rattle.dwz_outside.specs.Store.{Store}
 use Rattle.dwz_outside.specs.Told.{ConsoleSeen, FilesSeen}

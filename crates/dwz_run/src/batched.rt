@@ -12,9 +12,9 @@ ghost use Rattle.dwz_graph.specs.Files.{HoldsOrFails};
 ghost use Rattle.dwz_batch.specs.Jobs.{AreOutcomes};
 ghost use Rattle.dwz_words.specs.declared.options.Options.{Options as Asked};
 ghost use Rattle.dwz_run_course.specs.Answers.{IsAnswer};
-ghost use Rattle.dwz_def_run_over.specs.Reuses.{common_got};
-ghost use Rattle.dwz_def_run_batch.specs.Batches.{IsCommonRead, IsCommonRefused, IsPast, all_got, bytes_together};
-ghost use Rattle.dwz_def_run_batch.specs.Yields.{Batched, batching, output_of_batch};
+ghost use Rattle.dwz_def_run.specs.Reuses.{common_got};
+ghost use Rattle.dwz_def_run.specs.Batches.{IsCommonRead, IsCommonRefused, IsPast, all_got, bytes_together};
+ghost use Rattle.dwz_def_run.specs.Yields.{Batched, batching, output_of_batch};
 ghost use Rattle.dwz_law_batch.specs.Jobs.{batch_of_jobs, is_refused_job, job_part, job_puts};
 ghost use Rattle.dwz_run.specs.Batching.{AreOfSections, HoldsOrRefused, IsOfSection, IsTooMany};
 

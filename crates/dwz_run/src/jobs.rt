@@ -5,10 +5,10 @@ ghost use Rattle.std.specs.Thread.{IsSync};
 ghost use Rattle.dwz_words.specs.declared.options.Options.{Options as Asked};
 ghost use Rattle.dwz_run_course.specs.Answers.{IsAnswer};
 ghost use Rattle.dwz_run_course.specs.Outcome.{writes};
-ghost use Rattle.dwz_def_run_over.specs.Comes.{reusing};
-ghost use Rattle.dwz_def_run_over.specs.Reuses.{common_got};
-ghost use Rattle.dwz_def_run_batch.specs.Batches.{Alone, FileGot, options_alone};
-ghost use Rattle.dwz_def_run_batch.specs.Yields.{batching};
+ghost use Rattle.dwz_def_run.specs.Comes.{reusing};
+ghost use Rattle.dwz_def_run.specs.Reuses.{common_got};
+ghost use Rattle.dwz_def_run.specs.Batches.{Alone, FileGot, options_alone};
+ghost use Rattle.dwz_def_run.specs.Yields.{batching};
 ghost use Rattle.dwz_law_batch.specs.Jobs.{IsOfJob, file_at, gives_of};
 ghost use Rattle.dwz_run.specs.Batching.{IsOfSection};
 

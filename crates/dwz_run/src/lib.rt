@@ -17,7 +17,7 @@
 //!
 //! Read first: `specs/Laws.antt`, `specs/Expanding.antt`, `specs/Reusing.antt` and `specs/Batched.antt`; then `Ends` (`Ends.antt` of
 //! `dwz_run_course`), `Out`, `TellsWhy`, `Compares` and `Expands` (`Out.antt`, `Tells.antt`, `Compares.antt` and `Expands.antt` of
-//! `dwz_def_run`), `Comes` (`dwz_def_run_over`) and `Yields` (`dwz_def_run_batch`).
+//! `dwz_def_run`), `Comes` (`dwz_def_run`) and `Yields` (`dwz_def_run`).
 #![tactic(auto)]
 
 mod batched;

@@ -2,7 +2,7 @@
 
 ghost use Rattle.dwz_run_course.specs.Ends.{Complete, Ends, KeepsLastRead, LeavesFiles, Refuses};
 ghost use Rattle.dwz_gen.specs.Demo.{demo_files};
-ghost use Rattle.dwz_def_run_batch.specs.Yields.{Yields};
+ghost use Rattle.dwz_def_run.specs.Yields.{Yields};
 ghost use Rattle.dwz_words.specs.Lawful.{word_bytes};
 
 use crate::work::FileWork;

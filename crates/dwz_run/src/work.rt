@@ -4,8 +4,8 @@
 //! That at most one thing comes is a law of the trait, from which completeness follows.
 
 ghost use Rattle.dwz_gen.specs.Demo.{demo_files};
-ghost use Rattle.dwz_def_run_batch.specs.Yields.{Yields};
-ghost use Rattle.dwz_def_run_batch.proofs.OneYields.{one_yields};
+ghost use Rattle.dwz_def_run.specs.Yields.{Yields};
+ghost use Rattle.dwz_def_run.proofs.OneYields.{one_yields};
 
 use dwz_gen::{Two, make};
 use dwz_model::NoMemory;

@@ -8,7 +8,7 @@ ghost use Rattle.std.specs.Option.{is_some};
 ghost use Rattle.dwz_run_course.specs.Answers.{IsAnswer};
 ghost use Rattle.dwz_def_reading.specs.Files.{ReadAll, no_files_before};
 ghost use Rattle.dwz_def_run.specs.Out.{Slims, top_scope_of};
-ghost use Rattle.dwz_def_run_batch.specs.Yields.{Yields};
+ghost use Rattle.dwz_def_run.specs.Yields.{Yields};
 ghost use Rattle.dwz_def_run.specs.Tells.{TellsWhy};
 ghost use Rattle.dwz_graph.specs.Files.{docs_of};
 ghost use Rattle.dwz_run_files.specs.Rules.{alike_scope};

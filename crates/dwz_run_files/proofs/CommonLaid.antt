@@ -11,7 +11,7 @@ use Rattle.dwz_encode.specs.Laws.{FileIs}
 use Rattle.dwz_encode.specs.Shown.{unit_count}
 use Rattle.dwz_law_layout.specs.Beside.{Alone}
 use Rattle.dwz_law_layout.specs.Facts.{RunFacts, run}
-use Rattle.dwz_law_over.specs.Either.{put_by}
+use Rattle.dwz_law_layout.specs.Either.{put_by}
 use Rattle.dwz_run_files.specs.declared.common.CommonTexts.{CommonTexts}
 use Rattle.dwz_run_files.specs.declared.work.LaidRun.{LaidRun}
 use Rattle.dwz_run_files.specs.Common.{HasTexts, bytes_if_some}

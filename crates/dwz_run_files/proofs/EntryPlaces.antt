@@ -1,17 +1,17 @@
 -- What stands after for an entry of a file that is written is written, so it has the place of its name.
 use Rattle.std.proofs.Common.{◌≡◌, Some, slice_get, sym, ap, ◌∙◌}
 use Rattle.dwz_def_tops.specs.Spots.{EntryName}
-use Rattle.dwz_def_plan.specs.Moves.{image_in}
+use Rattle.dwz_def_images.specs.Moves.{image_in}
 use Rattle.dwz_def_readback.specs.Files.{name_after}
 use Rattle.dwz_unit.specs.Rows.{units_of as raw_units}
 use Rattle.dwz_graph.specs.Resolved.{place_at}
-use Rattle.dwz_layout_numbers.specs.Names.{all_names}
+use Rattle.dwz_graph.specs.AllNames.{all_names}
 use Rattle.dwz_layout.specs.Known.{owner_of}
 use Rattle.dwz_law_layout.specs.Facts.{every, move, run}
 use Rattle.dwz_law_layout.specs.Laid.{places_of}
 use Rattle.dwz_law_layout.proofs.EntriesReach.{reached}
 use Rattle.dwz_law_layout.proofs.FileEntries.{here, named}
-use Rattle.dwz_law_over.proofs.Either.{placed_by}
+use Rattle.dwz_law_layout.proofs.Either.{placed_by}
 use Rattle.dwz_run_files.specs.Spots.{EntryPlacesLaw}
 
 pub entry_places : EntryPlacesLaw

@@ -5,21 +5,22 @@ use Rattle.dwz_def_readback.specs.Files.{Stored}
 use Rattle.dwz_graph.specs.declared.file.File.{File}
 use Rattle.dwz_graph.specs.Files.{docs_of}
 use Rattle.dwz_graph.proofs.GraphLemmas.{as_many}
-use Rattle.dwz_layout_order.proofs.FileCounts.{files_many}
+use Rattle.dwz_graph.proofs.FileCounts.{files_many}
 use Rattle.dwz_graph.specs.Index.{Index}
 use Rattle.dwz_layout_numbers.specs.declared.numbers.UnitNumbers.{UnitNumbers}
-use Rattle.dwz_layout_numbers.specs.Owners.{AreUnitNumbers, move_of}
+use Rattle.dwz_layout_numbers.specs.Owners.{AreUnitNumbers}
+use Rattle.dwz_plan.specs.MoveOf.{move_of}
 use Rattle.dwz_layout_numbers.proofs.PlanMoves.{plan_order, plan_still}
 use Rattle.dwz_def_tops.specs.Spots.{units_of}
-use Rattle.dwz_def_plan.specs.Plan.{partials}
-use Rattle.dwz_def_plan.proofs.StandLemmas.{fair}
+use Rattle.dwz_def_images.specs.Plan.{partials}
+use Rattle.dwz_def_images.proofs.StandLemmas.{fair}
 use Rattle.dwz_plan.specs.Shows.{shown_part}
 use Rattle.dwz_plan.proofs.BridgeLemmas.{file_numbers_are}
 use Rattle.dwz_def_images.specs.Units.{changes}
 use Rattle.dwz_layout_order.specs.declared.orders.Settled.{Settled as Lent}
 use Rattle.dwz_law_layout.specs.Settled.{IsSettled}
 use Rattle.dwz_plan.specs.declared.plan.Scope.{Scope}
-use Rattle.dwz_layout_input.specs.PlannedFiles.{PlannedFiles}
+use Rattle.dwz_layout_input.specs.declared.planned.PlannedFiles.{PlannedFiles}
 use Rattle.dwz_layout_input.specs.Rules.{alike_scope, rule_by}
 use Rattle.dwz_layout_input.proofs.PlanFits.{alike_is, choice_is}
 use Rattle.dwz_law_layout.specs.Beside.{Alone}

@@ -12,9 +12,9 @@ use Rattle.dwz_def_readback.proofs.OriginLemmas.{bases_found, bases_mapped}
 use Rattle.dwz_unit.specs.Rows.{units_of as raw_units}
 use Rattle.dwz_graph.specs.declared.file.File.{File}
 use Rattle.dwz_graph.specs.Index.{Index}
-use Rattle.dwz_layout_order.specs.Across.{file_units, name_at}
-use Rattle.dwz_layout_order.proofs.FileEntries.{unit_of}
-use Rattle.dwz_layout_order.proofs.ListGets.{part_get}
+use Rattle.dwz_graph.specs.Across.{file_units, name_at}
+use Rattle.dwz_graph.proofs.FileEntries.{unit_of}
+use Rattle.dwz_graph.proofs.ListGets.{part_get}
 use Rattle.dwz_law_layout.specs.Beside.{Beside}
 use Rattle.dwz_law_layout.specs.Facts.{AreFacts, HasFile, RunFacts, units}
 use Rattle.dwz_law_layout.proofs.FilesFound.{among_of, nth_at}

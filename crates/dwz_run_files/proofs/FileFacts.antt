@@ -23,15 +23,16 @@ use Rattle.dwz_graph.specs.ListOperand.{ListOperand}
 use Rattle.dwz_graph.specs.Resolved.{sources_view}
 use Rattle.dwz_graph.specs.declared.file.File.{File}
 use Rattle.dwz_graph.specs.Index.{Index}
-use Rattle.dwz_layout_order.proofs.FilesFew.{all_small}
-use Rattle.dwz_layout_numbers.specs.Images.{IsFile, IsPlanned, entry_count, starts_from}
+use Rattle.dwz_graph.proofs.FilesFew.{all_small}
+use Rattle.dwz_layout_numbers.specs.Images.{IsFile, IsPlanned}
+use Rattle.dwz_graph.specs.EntryCounts.{entry_count, starts_from}
 use Rattle.dwz_plan.specs.Planned.{Planned}
 use Rattle.dwz_layout.specs.declared.known.EntryTable.{EntryTable}
 use Rattle.dwz_layout.specs.declared.order.UnitItems.{UnitItems}
 use Rattle.dwz_layout.specs.Laid.{AllMade}
 use Rattle.dwz_law_layout.specs.Beside.{Beside}
 use Rattle.dwz_law_layout.specs.Facts.{AreFacts, RunFacts, common, every, move, run}
-use Rattle.dwz_law_over.specs.Either.{laid_by}
+use Rattle.dwz_law_layout.specs.Either.{laid_by}
 use Rattle.dwz_law_layout.proofs.FileEntries.{IsHere, here}
 use Rattle.dwz_run_files.specs.Prepared.{CanLay}
 use Rattle.dwz_encode_operands.specs.NumberLaws.{ArePlaces}

@@ -1,7 +1,7 @@
 -- The flag of a file that is written says whether it imports from the common file.
 use Rattle.std.proofs.Common.{◌≡◌, ◌+◌, ◌<◌, ℕ, Bool, false, List, get_or, length, ap, ◌∙◌, arith}
 use Rattle.dwz_def_reading.proofs.ListFacts.{got_below}
-use Rattle.dwz_layout_order.proofs.FileCounts.{are_many}
+use Rattle.dwz_graph.proofs.FileCounts.{are_many}
 use Rattle.dwz_def_readback.specs.Files.{imports_common}
 use Rattle.dwz_law_layout.specs.Beside.{Beside}
 use Rattle.dwz_law_layout.specs.Facts.{RunFacts, docs, move, units}

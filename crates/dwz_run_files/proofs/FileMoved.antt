@@ -20,8 +20,8 @@ use Rattle.dwz_law_layout.specs.Facts.{AreFacts, RunFacts, common, files_written
 use Rattle.dwz_law_layout.specs.Trees.{IsReadFile}
 use Rattle.dwz_law_layout.proofs.PartHomes.{file_read_there}
 use Rattle.dwz_law_layout.specs.Laid.{places_of}
-use Rattle.dwz_law_over.specs.Either.{first_unit_by, laid_by, put_by}
-use Rattle.dwz_law_over.proofs.Either.{laid_of, many_by}
+use Rattle.dwz_law_layout.specs.Either.{first_unit_by, laid_by, put_by}
+use Rattle.dwz_law_layout.proofs.Either.{laid_of, many_by}
 use Rattle.dwz_layout_input.proofs.RowSteps.{starts_many}
 use Rattle.dwz_run_files.specs.declared.prepared.PreparedFiles.{PreparedFiles}
 use Rattle.dwz_run_files.proofs.RanksRead.{first_counted, firsts_many}

@@ -8,7 +8,7 @@ use Rattle.dwz_def_images.specs.Units.{changes}
 use Rattle.dwz_graph.specs.declared.file.File.{File}
 use Rattle.dwz_graph.specs.Index.{Index}
 use Rattle.dwz_unit.specs.Rows.{EntryRow, units_of as raw_units}
-use Rattle.dwz_layout_numbers.specs.Images.{starts_from}
+use Rattle.dwz_graph.specs.EntryCounts.{starts_from}
 use Rattle.dwz_layout_order.specs.declared.orders.Settled.{Settled}
 use Rattle.dwz_layout_order.specs.Ordered.{FilePut, from_index, next_index}
 use Rattle.dwz_layout.specs.declared.known.EntryTable.{EntryTable}

@@ -14,8 +14,8 @@ use Rattle.dwz_graph.specs.Files.{AreKept, HasFile as StandsThere, docs_of}
 use Rattle.dwz_graph.proofs.GraphLemmas as graph
 use Rattle.dwz_graph.proofs.GraphLemmas.{files_read}
 use Rattle.dwz_unit.specs.Rows.{units_of as raw_units}
-use Rattle.dwz_layout_order.proofs.FileCounts.{are_many, files_many}
-use Rattle.dwz_layout_order.proofs.FileWalk.{is_among}
+use Rattle.dwz_graph.proofs.FileCounts.{are_many, files_many}
+use Rattle.dwz_graph.proofs.FileWalk.{is_among}
 use Rattle.dwz_run_files.specs.Stored.{FileLaw, ManyLaw, ReadLaw, StoredLaw}
 
 -- ---- what files say

@@ -12,8 +12,8 @@ use Rattle.dwz_unit.specs.Rows.{units_of as raw_units}
 use Rattle.dwz_graph.specs.declared.file.File.{File}
 use Rattle.dwz_graph.specs.Index.{Index}
 use Rattle.dwz_graph.specs.Indexed.{first_starts}
-use Rattle.dwz_layout_order.proofs.FileWalk.{is_among}
-use Rattle.dwz_layout_numbers.specs.Images.{starts_from}
+use Rattle.dwz_graph.proofs.FileWalk.{is_among}
+use Rattle.dwz_graph.specs.EntryCounts.{starts_from}
 use Rattle.dwz_layout_order.specs.Kept.{imports_at}
 use Rattle.dwz_layout_order.specs.Marks.{flag_at}
 use Rattle.dwz_layout_order.specs.declared.orders.Settled.{Settled}

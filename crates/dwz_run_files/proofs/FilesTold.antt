@@ -17,8 +17,8 @@ use Rattle.dwz_layout_order.specs.declared.orders.Settled.{Settled}
 use Rattle.dwz_law_layout.specs.Beside.{Beside}
 use Rattle.dwz_law_layout.specs.Facts.{RunFacts, common, docs, every, move, run, units}
 use Rattle.dwz_law_layout.specs.Listed.{TextsAt}
-use Rattle.dwz_law_over.specs.Either.{first_unit_by}
-use Rattle.dwz_law_over.proofs.Either.{many_by}
+use Rattle.dwz_law_layout.specs.Either.{first_unit_by}
+use Rattle.dwz_law_layout.proofs.Either.{many_by}
 use Rattle.dwz_encode_texts.specs.declared.pruning.PrunedFile.{PrunedFile}
 use Rattle.dwz_encode_texts.specs.PrunedFiles.{IsPrunedFile}
 use Rattle.dwz_encode_texts.specs.Used.{order_uses}

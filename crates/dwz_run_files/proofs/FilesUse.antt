@@ -24,8 +24,8 @@ use Rattle.dwz_law_layout.specs.Listed.{TextsAt}
 use Rattle.dwz_law_layout.specs.Named.{keys}
 use Rattle.dwz_law_layout.specs.Unfitted.{before_files, before_forms, file_keyed_forms, unfitted_file}
 use Rattle.dwz_law_layout.proofs.FilesKnown.{all_files_known, run_known}
-use Rattle.dwz_law_over.specs.Either.{first_unit_by}
-use Rattle.dwz_law_over.proofs.Either.{units_beside}
+use Rattle.dwz_law_layout.specs.Either.{first_unit_by}
+use Rattle.dwz_law_layout.proofs.Either.{units_beside}
 use Rattle.dwz_encode_texts.specs.Used.{order_uses}
 use Rattle.dwz_encode_texts.proofs.NamedUses.{named_uses}
 use Rattle.dwz_encode_texts.proofs.ShownUses.{shown_uses}

@@ -3,7 +3,8 @@ use Rattle.std.proofs.Common.{◌≡◌, ℕ, suc, List, [], ◌∷◌, length, 
 use Rattle.std.proofs.lemmas.List.{length-map}
 use Rattle.dwz_graph.specs.declared.file.File.{File}
 use Rattle.dwz_graph.specs.Index.{Index}
-use Rattle.dwz_layout_numbers.specs.Images.{AreImages, starts_from}
+use Rattle.dwz_layout_numbers.specs.Images.{AreImages}
+use Rattle.dwz_graph.specs.EntryCounts.{starts_from}
 use Rattle.dwz_layout.specs.declared.known.FileRows.{FileRows}
 use Rattle.dwz_layout.specs.declared.known.ValueCounts.{ValueCounts}
 use Rattle.dwz_layout.specs.declared.known.EntryTable.{EntryTable}

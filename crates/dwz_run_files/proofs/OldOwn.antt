@@ -7,14 +7,14 @@ use Rattle.dwz_def_reading.specs.Documents.{Node}
 use Rattle.dwz_def_reading.specs.Meanings.{IfSo}
 use Rattle.dwz_def_tops.specs.Lists.{Nth}
 use Rattle.dwz_def_tops.specs.Spots.{EntryName, FileUnit}
-use Rattle.dwz_def_plan.specs.Homes.{Local, is_home}
-use Rattle.dwz_def_plan.specs.Moves.{image_in}
+use Rattle.dwz_def_images.specs.Homes.{Local, is_home}
+use Rattle.dwz_def_images.specs.Moves.{image_in}
 use Rattle.dwz_def_images.specs.Units.{changes, kept_unit, kept_units, out_units, partial_units}
 use Rattle.dwz_def_readback.proofs.WithinLemmas.{kept_to}
 use Rattle.dwz_graph.specs.declared.file.File.{File}
 use Rattle.dwz_graph.specs.Index.{Index}
 use Rattle.dwz_unit.specs.Rows.{EntryRow}
-use Rattle.dwz_layout_numbers.specs.Names.{all_names}
+use Rattle.dwz_graph.specs.AllNames.{all_names}
 use Rattle.dwz_layout_numbers.specs.Owners.{IsFileWritten}
 use Rattle.dwz_layout_order.specs.Orders.{First}
 use Rattle.dwz_layout.specs.declared.known.EntryTable.{EntryTable}

@@ -4,7 +4,7 @@ use Rattle.dwz_def_reading.specs.Documents.{Compile, DwUnit, Entries, Kind, Node
 use Rattle.dwz_def_reading.specs.Meanings.{IfSo}
 use Rattle.dwz_def_tops.specs.Seen.{IsPartial}
 use Rattle.dwz_def_tops.specs.Spots.{EntryName, FileUnit}
-use Rattle.dwz_def_plan.specs.Moves.{image_in}
+use Rattle.dwz_def_images.specs.Moves.{image_in}
 use Rattle.dwz_def_images.specs.Units.{kept_unit, kept_units}
 use Rattle.dwz_graph.specs.declared.file.File.{File}
 use Rattle.dwz_layout_order.specs.Orders.{First}

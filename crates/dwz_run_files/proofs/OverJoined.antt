@@ -25,9 +25,9 @@ use Rattle.dwz_graph.specs.declared.file.File.{File}
 use Rattle.dwz_graph.specs.Files.{AreKept, FilesRead, docs_of}
 use Rattle.dwz_unit.specs.Rows.{units_of as raw_units}
 use Rattle.dwz_layout.specs.declared.known.EntryTable.{EntryTable}
-use Rattle.dwz_layout_order.proofs.FilesFew.{all_small}
+use Rattle.dwz_graph.proofs.FilesFew.{all_small}
 use Rattle.dwz_layout_numbers.specs.Owners.{AreUnitNumbers}
-use Rattle.dwz_layout_numbers.specs.Names.{all_names}
+use Rattle.dwz_graph.specs.AllNames.{all_names}
 use Rattle.dwz_layout_numbers.specs.OverLaws.{common_names}
 use Rattle.dwz_layout_numbers.proofs.BesideNames.{every_names}
 use Rattle.dwz_layout_numbers.proofs.OverMoves.{over_order, over_still}
@@ -35,10 +35,10 @@ use Rattle.dwz_law_layout.specs.Beside.{Over, Standing}
 use Rattle.dwz_law_layout.specs.Facts.{AreFacts, RunFacts, docs, every, move, run, units, written}
 use Rattle.dwz_law_layout.specs.Laid.{AreFew}
 use Rattle.dwz_law_layout.specs.Listed.{AreListed, TextsAt}
-use Rattle.dwz_law_over.specs.CommonRows.{AreCommonRows, standing_beside}
-use Rattle.dwz_law_over.specs.OverLaws.{AreOver}
-use Rattle.dwz_law_over.proofs.OverFacts.{are_facts, named_many}
-use Rattle.dwz_law_over.proofs.StandingRows.{standing_rows}
+use Rattle.dwz_law_layout.specs.CommonRows.{AreCommonRows, standing_beside}
+use Rattle.dwz_law_layout.specs.OverLaws.{AreOver}
+use Rattle.dwz_law_layout.proofs.OverFacts.{are_facts, named_many}
+use Rattle.dwz_law_layout.proofs.StandingRows.{standing_rows}
 use Rattle.dwz_layout_input.specs.Settled.{AreStored}
 use Rattle.dwz_layout_input.specs.SettledOver.{StandsSo}
 use Rattle.dwz_layout_input.proofs.Fits.{made}

@@ -7,13 +7,13 @@ use Rattle.dwz_def_readback.specs.Files.{Run, texts_from}
 use Rattle.dwz_def_over.specs.Over.{OverFiles, run_over, stands}
 use Rattle.dwz_graph.specs.declared.file.File.{File}
 use Rattle.dwz_graph.specs.Files.{FilesRead}
-use Rattle.dwz_layout_order.proofs.FileCounts.{are_many}
-use Rattle.dwz_layout_numbers.specs.Images.{starts_from}
+use Rattle.dwz_graph.proofs.FileCounts.{are_many}
+use Rattle.dwz_graph.specs.EntryCounts.{starts_from}
 use Rattle.dwz_layout.specs.declared.known.EntryTable.{EntryTable}
 use Rattle.dwz_law_layout.specs.Beside.{Over}
 use Rattle.dwz_law_layout.specs.Facts.{RunFacts, every, run}
 use Rattle.dwz_law_layout.specs.Listed.{AreListed, TextsAt}
-use Rattle.dwz_law_over.specs.CommonRows.{standing_beside}
+use Rattle.dwz_law_layout.specs.CommonRows.{standing_beside}
 use Rattle.dwz_encode_texts.specs.declared.pruning.PrunedFile.{PrunedFile}
 use Rattle.dwz_encode_common.specs.WithCommon.{IsWithStanding, texts_held}
 use Rattle.dwz_encode_common.proofs.SharedEntries.{rows_long}

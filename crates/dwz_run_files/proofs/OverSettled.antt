@@ -18,8 +18,8 @@ use Rattle.dwz_def_reading.proofs.MeaningUnits.{units_agree}
 use Rattle.dwz_graph.specs.Indexed.{AreIndexes}
 use Rattle.dwz_plan.specs.declared.plan.Partial.{Partial}
 use Rattle.dwz_plan.specs.Planned.{Planned}
-use Rattle.dwz_plan_files.specs.Over.{ArePlannedOver}
-use Rattle.dwz_layout_input.specs.PlannedFiles.{PlannedFiles}
+use Rattle.dwz_layout_input.specs.PlannedOver.{ArePlannedOver}
+use Rattle.dwz_layout_input.specs.declared.planned.PlannedFiles.{PlannedFiles}
 use Rattle.dwz_layout_numbers.specs.declared.numbers.UnitNumbers.{UnitNumbers}
 use Rattle.dwz_layout.specs.declared.known.EntryTable.{EntryTable}
 use Rattle.dwz_law_layout.specs.Beside.{Over, Standing}

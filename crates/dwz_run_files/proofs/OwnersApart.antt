@@ -13,8 +13,8 @@ use Rattle.dwz_graph.specs.declared.index.Starts.{Starts}
 use Rattle.dwz_graph.specs.Names.{top_in}
 use Rattle.dwz_graph.proofs.TopLemmas.{get_cases}
 use Rattle.dwz_graph.specs.Indexed.{first_starts}
-use Rattle.dwz_def_plan.specs.Homes.{Common, home}
-use Rattle.dwz_def_plan.specs.Plan.{PartialUnit}
+use Rattle.dwz_def_images.specs.Homes.{Common, home}
+use Rattle.dwz_def_images.specs.Plan.{PartialUnit}
 use Rattle.dwz_plan.specs.declared.plan.Home.{Home as Place}
 use Rattle.dwz_plan.specs.declared.plan.Home.TheVariants.{Common as InCommon, Local as InOwn, Stay as InUnit}
 use Rattle.dwz_plan.specs.ShowsMove.{IsPlaceIn}
@@ -23,7 +23,7 @@ use Rattle.dwz_def_images.specs.Units.{changes, common_units, kept_unit}
 use Rattle.dwz_graph.specs.declared.file.File.{File}
 use Rattle.dwz_graph.specs.Index.{Index}
 use Rattle.dwz_unit.specs.Rows.{EntryRow}
-use Rattle.dwz_layout_numbers.specs.Names.{all_names}
+use Rattle.dwz_graph.specs.AllNames.{all_names}
 use Rattle.dwz_layout_numbers.specs.Owners.{files_written, owner_at, owner_by}
 use Rattle.dwz_layout_numbers.proofs.ImageSteps.{in_a_top}
 use Rattle.dwz_layout_numbers.proofs.OwnerLemmas.{own_name}

@@ -11,9 +11,9 @@ use Rattle.dwz_layout_items.specs.declared.order.ItemKind.{ItemKind}
 use Rattle.dwz_layout_items.specs.declared.order.ItemKind.TheVariants.{Import, InChain, Root, Space, Top as ATopOf, Whole}
 use Rattle.dwz_layout_items.specs.declared.partial.SpaceRow.{SpaceRow as RowOfSpace}
 use Rattle.dwz_layout_items.specs.declared.partial.TopSpaces.{TopSpaces}
-use Rattle.dwz_def_plan.specs.Homes.{Common, Local, home, same_home}
-use Rattle.dwz_def_plan.specs.Plan.{PartialUnit}
-use Rattle.dwz_def_plan.proofs.PlanLemmas.{home_true}
+use Rattle.dwz_def_images.specs.Homes.{Common, Local, home, same_home}
+use Rattle.dwz_def_images.specs.Plan.{PartialUnit}
+use Rattle.dwz_def_images.proofs.PlanLemmas.{home_true}
 use Rattle.dwz_plan.specs.declared.plan.Partial.{Partial as PlannedPart}
 use Rattle.dwz_plan.specs.Shows.{shown_part}
 use Rattle.dwz_def_images.specs.Units.{changes}

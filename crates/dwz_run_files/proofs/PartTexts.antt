@@ -6,10 +6,10 @@ use Rattle.dwz_def_tops.specs.Lists.{Nth}
 use Rattle.dwz_def_tops.specs.Spots.{EntryName, Top}
 use Rattle.dwz_layout_items.specs.declared.partial.SpaceRow.{SpaceRow as RowOfSpace}
 use Rattle.dwz_layout_items.specs.declared.partial.TopSpaces.{TopSpaces}
-use Rattle.dwz_def_plan.specs.Homes.{Local, same_home}
-use Rattle.dwz_def_plan.specs.Moves.{first_unit}
-use Rattle.dwz_def_plan.specs.Plan.{PartialUnit}
-use Rattle.dwz_def_plan.proofs.PlanLemmas.{home_true}
+use Rattle.dwz_def_images.specs.Homes.{Local, same_home}
+use Rattle.dwz_def_images.specs.Moves.{first_unit}
+use Rattle.dwz_def_images.specs.Plan.{PartialUnit}
+use Rattle.dwz_def_images.proofs.PlanLemmas.{home_true}
 use Rattle.dwz_plan.specs.declared.plan.Partial.{Partial as PlannedPart}
 use Rattle.dwz_plan.specs.Shows.{shown_part}
 use Rattle.dwz_def_images.specs.Units.{partial_unit, partial_units}

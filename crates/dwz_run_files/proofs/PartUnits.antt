@@ -11,9 +11,9 @@ use Rattle.dwz_def_tops.specs.Spots.{PartialOf}
 use Rattle.dwz_layout_items.specs.declared.order.Item.{Item}
 use Rattle.dwz_layout_items.specs.declared.order.ItemKind.{ItemKind}
 use Rattle.dwz_layout_items.specs.declared.order.ItemKind.TheVariants.{Import, InChain, Root, Space, Top as ATopOf, Whole}
-use Rattle.dwz_def_plan.specs.Homes.{Local}
-use Rattle.dwz_def_plan.specs.Moves.{first_unit}
-use Rattle.dwz_def_plan.specs.Plan.{PartialUnit}
+use Rattle.dwz_def_images.specs.Homes.{Local}
+use Rattle.dwz_def_images.specs.Moves.{first_unit}
+use Rattle.dwz_def_images.specs.Plan.{PartialUnit}
 use Rattle.dwz_def_images.proofs.HeldLemmas.{part_found}
 use Rattle.dwz_def_encoding.specs.Bases.{bases_of}
 use Rattle.dwz_def_readback.specs.Files.{bases_at, origin_in, unit_in_part}

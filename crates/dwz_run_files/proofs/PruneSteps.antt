@@ -15,7 +15,7 @@ use Rattle.dwz_unit.specs.Rows.{units_of as raw_units}
 use Rattle.dwz_graph.specs.declared.file.File.{File}
 use Rattle.dwz_graph.specs.Files.{HasRead}
 use Rattle.dwz_graph.proofs.TopLemmas.{get_cases}
-use Rattle.dwz_layout_order.proofs.FileCounts.{are_many}
+use Rattle.dwz_graph.proofs.FileCounts.{are_many}
 use Rattle.dwz_layout.specs.declared.known.EntryTable.{EntryTable}
 use Rattle.dwz_layout.specs.declared.order.UnitItems.{UnitItems}
 use Rattle.dwz_encode.specs.Shown.{unit_count}
@@ -25,7 +25,7 @@ use Rattle.dwz_law_layout.proofs.FilesFound.{bytes_there, file_there}
 use Rattle.dwz_encode_texts.specs.declared.pruning.PrunedFile.{PrunedFile}
 use Rattle.dwz_encode_texts.specs.PrunedFiles.{IsPrunedFile}
 use Rattle.dwz_encode_texts.specs.Used.{order_uses}
-use Rattle.dwz_law_over.specs.Either.{first_unit_by}
+use Rattle.dwz_law_layout.specs.Either.{first_unit_by}
 use Rattle.dwz_run_files.specs.Moved.{ArePruned, IsPrunedIf}
 use Rattle.dwz_run_files.specs.declared.pruned.Written.{Written}
 use Rattle.dwz_run_files.specs.Pruned.{AreFilesWritten, FileKeeps, IsFileOf, KeepsUsed}

@@ -6,13 +6,13 @@ use Rattle.dwz_def_reading.proofs.ListFacts.{got_below, got_there}
 use Rattle.dwz_def_images.specs.Units.{changes}
 use Rattle.dwz_def_encoding.specs.Placing.{FileOut}
 use Rattle.dwz_def_readback.specs.Files.{file_out_by}
-use Rattle.dwz_layout_order.proofs.FileCounts.{are_many}
+use Rattle.dwz_graph.proofs.FileCounts.{are_many}
 use Rattle.dwz_layout.specs.declared.known.EntryTable.{EntryTable}
 use Rattle.dwz_layout.specs.declared.order.UnitItems.{UnitItems}
 use Rattle.dwz_encode.specs.Shown.{Keys, ShowFiles, unit_count}
 use Rattle.dwz_law_layout.specs.Beside.{Beside}
 use Rattle.dwz_law_layout.specs.Facts.{AreFacts, RunFacts, common, files_written, move, run, units}
-use Rattle.dwz_law_over.specs.Either.{first_unit_by, put_by}
+use Rattle.dwz_law_layout.specs.Either.{first_unit_by, put_by}
 use Rattle.dwz_run_files.specs.Prepared.{AreRanks, IsOrdered, IsRank, firsts_from}
 use Rattle.dwz_law_layout.proofs.PartHomes.{file_read_there}
 

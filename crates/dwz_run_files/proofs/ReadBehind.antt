@@ -9,7 +9,7 @@ use Rattle.dwz_def_reading.proofs.FileLemmas.{file_agrees, files_agree}
 use Rattle.dwz_def_reading.proofs.RoomLemmas.{units_fit}
 use Rattle.dwz_def_output.specs.Written.{raws, stored_behind, stored_of}
 use Rattle.dwz_graph.specs.Files.{docs_of, or_none}
-use Rattle.dwz_law_files.proofs.SpacesFew.{few_entries}
+use Rattle.dwz_graph.proofs.SpacesFew.{few_entries}
 use Rattle.dwz_run_files.proofs.FilesStored.{raws_step}
 
 -- the one leave at least as much as the others

@@ -12,8 +12,8 @@ use Rattle.dwz_law_layout.specs.Listed.{TextsAt}
 use Rattle.dwz_law_layout.specs.Unfitted.{KnowTexts}
 use Rattle.dwz_law_layout.specs.Laid.{AreFew, FilesTexts, run_numbers}
 use Rattle.dwz_law_layout.proofs.OrderOfRun.{settled_order}
-use Rattle.dwz_law_over.specs.Either.{IsOrderBy, first_unit_by}
-use Rattle.dwz_law_over.proofs.Either.{settled_over}
+use Rattle.dwz_law_layout.specs.Either.{IsOrderBy, first_unit_by}
+use Rattle.dwz_law_layout.proofs.Either.{settled_over}
 use Rattle.dwz_encode_texts.specs.declared.pruning.PrunedFile.{PrunedFile}
 use Rattle.dwz_run_files.specs.Moved.{AreMoved, ArePruned}
 use Rattle.dwz_run_files.specs.Prepared.{ArePrepared, IsOrdered}

@@ -14,7 +14,7 @@ use Rattle.dwz_graph.specs.Indexed.{AreIndexes}
 use Rattle.dwz_plan.specs.declared.plan.Partial.{Partial}
 use Rattle.dwz_plan.specs.declared.plan.Scope.{Scope}
 use Rattle.dwz_plan.specs.Planned.{Planned}
-use Rattle.dwz_layout_input.specs.PlannedFiles.{PlannedFiles}
+use Rattle.dwz_layout_input.specs.declared.planned.PlannedFiles.{PlannedFiles}
 use Rattle.dwz_layout_input.specs.Rules.{rule_by}
 use Rattle.dwz_layout_numbers.specs.declared.numbers.UnitNumbers.{UnitNumbers}
 use Rattle.dwz_layout.specs.declared.known.EntryTable.{EntryTable}

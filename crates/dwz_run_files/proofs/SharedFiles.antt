@@ -9,7 +9,7 @@ use Rattle.dwz_def_tops.specs.Spots.{EntryName, file_numbers, name_of}
 use Rattle.dwz_def_images.specs.Units.{out_units}
 use Rattle.dwz_graph.specs.declared.file.File.{File}
 use Rattle.dwz_graph.specs.Index.{Index}
-use Rattle.dwz_layout_order.proofs.FileCounts.{are_many}
+use Rattle.dwz_graph.proofs.FileCounts.{are_many}
 use Rattle.dwz_def_readback.specs.Files.{imports_common, shared_if, texts_by}
 use Rattle.dwz_layout.specs.declared.known.EntryTable.{EntryTable}
 use Rattle.dwz_layout.specs.declared.known.TextAt.{TextAt}

@@ -25,8 +25,8 @@ use Rattle.dwz_graph.proofs.TopLemmas.{get_later}
 use Rattle.dwz_graph.specs.Indexed.{AreIndexed, first_starts, starts_behind}
 use Rattle.dwz_unit.specs.Rows.{EntryRow, rows_below, rows_from, rows_in, rows_of, units_of as raw_units}
 use Rattle.dwz_unit.proofs.ShownLemmas.{rows_in-length}
-use Rattle.dwz_layout_order.specs.Across.{file_units, name_at}
-use Rattle.dwz_layout_order.proofs.TopRows.{units_long}
+use Rattle.dwz_graph.specs.Across.{file_units, name_at}
+use Rattle.dwz_graph.proofs.TopRows.{units_long}
 use Rattle.dwz_layout_order.specs.Shown.{Pairs}
 use Rattle.dwz_layout_order.specs.Spaces.{spaces_below, spaces_of, spaces_under}
 use Rattle.dwz_layout_order.proofs.ChainShown.{pairs_append, pairs_at}

@@ -31,8 +31,8 @@ use Rattle.dwz_graph.specs.ByRule.{doc_placed, numbered_rule}
 use Rattle.dwz_graph.specs.Files.{FilesRead, HasCommon, docs_of}
 use Rattle.dwz_graph.specs.declared.file.File.{File}
 use Rattle.dwz_unit.specs.Rows.{units_of}
-use Rattle.dwz_law_over.specs.CommonRows.{standing_beside}
-use Rattle.dwz_plan_files.specs.Over.{IsTakenFrom}
+use Rattle.dwz_law_layout.specs.CommonRows.{standing_beside}
+use Rattle.dwz_layout_input.specs.PlannedOver.{IsTakenFrom}
 use Rattle.dwz_run_files.specs.declared.standing.StandingCommon.{StandingCommon}
 use Rattle.dwz_run_files.specs.Over.{IsOver}
 use Rattle.dwz_run_files.specs.OverRun.{IsStanding}

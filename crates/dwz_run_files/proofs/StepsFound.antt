@@ -11,7 +11,7 @@ use Rattle.dwz_def_reading.specs.Meanings.{Sources, alone}
 use Rattle.dwz_def_reading.specs.Meant.{units_meaning}
 use Rattle.dwz_def_reading.specs.Shared.{ListOperand}
 use Rattle.dwz_def_tops.specs.Spots.{EntryName}
-use Rattle.dwz_def_plan.specs.Moves.{Move}
+use Rattle.dwz_def_images.specs.Moves.{Move}
 use Rattle.dwz_layout_numbers.specs.Images.{IsFile, IsPlanned}
 use Rattle.dwz_layout.specs.declared.known.FileRows.{FileRows}
 use Rattle.dwz_encode_operands.specs.Narrow.{FirstPlace, after_in_by, number_by}

@@ -12,10 +12,10 @@ use Rattle.dwz_graph.proofs.GraphLemmas.{files_read}
 use Rattle.dwz_graph.specs.declared.index.Starts.{Starts}
 use Rattle.dwz_graph.proofs.IndexRoom.{many_units}
 use Rattle.dwz_unit.specs.Rows.{units_of as raw_units}
-use Rattle.dwz_layout_order.specs.Across.{file_units}
-use Rattle.dwz_layout_order.proofs.FileWalk.{first_doc}
-use Rattle.dwz_layout_order.proofs.TopRows.{units_long}
-use Rattle.dwz_layout_order.proofs.FileRoom.{no_doc}
+use Rattle.dwz_graph.specs.Across.{file_units}
+use Rattle.dwz_graph.proofs.FileWalk.{first_doc}
+use Rattle.dwz_graph.proofs.TopRows.{units_long}
+use Rattle.dwz_graph.proofs.FileRoom.{no_doc}
 
 -- ---- of each file
 

@@ -2,8 +2,7 @@
 use Rattle.std.proofs.Common.{◌≡◌, ℕ, ◌+◌, ◌-◌, ◌<◌, List, Some, slice_get, refl, sym, ap, subst, ◌∙◌, arith}
 use Rattle.std.specs.Prelude.{slice_index}
 use Rattle.std.proofs.lemmas.Option.{get_or_from_slice_get}
-use Rattle.dwz_def_reading.specs.Units.{CompileUnit, PartialUnit, RawKind, RawUnit, TypeUnit, entries_in}
-use Rattle.dwz_def_reading.specs.Units.{header_size as raw_header_size}
+use Rattle.dwz_def_reading.specs.Units.{CompileUnit, PartialUnit, RawKind, RawUnit, TypeUnit, entries_in, header_size as raw_header_size}
 use Rattle.dwz_def_reading.proofs.ListFacts.{got_below, got_map, got_there, same_got}
 use Rattle.dwz_def_reading.specs.Documents.{Compile, Kind, OfType, Partial, kind_map, unit_map}
 use Rattle.dwz_def_reading.specs.Files.{around_of}
@@ -11,28 +10,27 @@ use Rattle.dwz_def_reading.specs.Meanings.{MeaningContext, MeansKind, MeansUnit,
 use Rattle.dwz_def_reading.proofs.MeaningUnits.{unit_agrees}
 use Rattle.dwz_def_tops.specs.Spots.{EntryName, FileUnit, RootOf, UnitOf, in_file}
 use Rattle.dwz_def_tops.specs.Lists.{Nth}
-use Rattle.dwz_def_plan.specs.Moves.{image_in}
+use Rattle.dwz_def_images.specs.Moves.{image_in}
 use Rattle.dwz_def_encoding.specs.Writing.{written_header_size}
 use Rattle.dwz_def_readback.specs.Files.{name_after}
 use Rattle.dwz_unit.specs.Rows.{EntryRow, rows_of, units_of as raw_units}
-use Rattle.dwz_graph.specs.Resolved.{place_at}
-use Rattle.dwz_graph.specs.Resolved.{places as entry_places_of}
-use Rattle.dwz_graph.proofs.RowLemmas.{rows-length}
+use Rattle.dwz_graph.specs.Resolved.{place_at, places as entry_places_of}
+use Rattle.dwz_unit.proofs.RowsFound.{rows-length}
 use Rattle.dwz_graph.specs.declared.file.File.{File}
 use Rattle.dwz_graph.specs.Index.{Index}
 use Rattle.dwz_graph.specs.declared.index.Starts.{Starts}
-use Rattle.dwz_layout_order.specs.Across.{file_units, name_at}
-use Rattle.dwz_layout_order.proofs.FileEntries.{unit_of}
-use Rattle.dwz_layout_numbers.specs.Images.{starts_from}
-use Rattle.dwz_layout_numbers.specs.Names.{all_names}
+use Rattle.dwz_graph.specs.Across.{file_units, name_at}
+use Rattle.dwz_graph.proofs.FileEntries.{unit_of}
+use Rattle.dwz_graph.specs.EntryCounts.{starts_from}
+use Rattle.dwz_graph.specs.AllNames.{all_names}
 use Rattle.dwz_layout.specs.declared.known.EntryTable.{EntryTable}
 use Rattle.dwz_law_layout.specs.Beside.{Beside}
 use Rattle.dwz_law_layout.specs.Facts.{AreFacts, RunFacts, every, move, run, units}
 use Rattle.dwz_law_layout.specs.Laid.{places_of}
 use Rattle.dwz_law_layout.proofs.FileEntries.{IsHere, here, named, named_every}
 use Rattle.dwz_law_layout.proofs.ImagesStand.{old}
-use Rattle.dwz_law_over.specs.Either.{laid_by}
-use Rattle.dwz_law_over.proofs.Either.{roots_by}
+use Rattle.dwz_law_layout.specs.Either.{laid_by}
+use Rattle.dwz_law_layout.proofs.Either.{roots_by}
 use Rattle.dwz_run_files.specs.Spots.{UnitPlacesLaw}
 use Rattle.dwz_run_files.proofs.EntryPlaces.{entry_places}
 use Rattle.dwz_run_files.proofs.RootRows.{HasRoot, has_root}

@@ -14,13 +14,13 @@ use Rattle.dwz_graph.specs.declared.index.Starts.{Starts}
 use Rattle.dwz_graph.proofs.IndexRoom.{many_units}
 use Rattle.dwz_unit.specs.Rows.{units_of as raw_units}
 use Rattle.dwz_unit.proofs.ShownLemmas.{units_few}
-use Rattle.dwz_layout_order.specs.Across.{file_tops, file_units}
-use Rattle.dwz_layout_order.proofs.FileRoom.{no_doc, tops_few}
-use Rattle.dwz_layout_order.proofs.FileWalk.{first_doc}
-use Rattle.dwz_layout_order.proofs.TopRows.{file_many, tops_behind, units_long}
-use Rattle.dwz_layout_order.specs.Few.{entries_in_files}
-use Rattle.dwz_layout_order.proofs.FilesFew.{all_few, all_small}
-use Rattle.dwz_layout_numbers.specs.Images.{tops_from as top_numbers}
+use Rattle.dwz_graph.specs.Across.{file_tops, file_units}
+use Rattle.dwz_graph.proofs.FileRoom.{no_doc, tops_few}
+use Rattle.dwz_graph.proofs.FileWalk.{first_doc}
+use Rattle.dwz_graph.proofs.TopRows.{file_many, tops_behind, units_long}
+use Rattle.dwz_graph.specs.Few.{entries_in_files}
+use Rattle.dwz_graph.proofs.FilesFew.{all_few, all_small}
+use Rattle.dwz_graph.specs.EntryCounts.{tops_from as top_numbers}
 use Rattle.dwz_layout_numbers.proofs.WholeLemmas.{top_entries}
 use Rattle.dwz_layout_input.proofs.Fits.{whole}
 use Rattle.dwz_run_files.specs.NumberLaws.{EntriesLaw, RoomLaw}

@@ -3,18 +3,18 @@ use Rattle.std.proofs.Common.{◌≡◌, ◌+◌, ◌<◌, ◌≤◌, ◌^◌, �
 use Rattle.std.specs.Prelude.{All}
 use Rattle.std.proofs.lemmas.Option.{slice_get-get_or}
 use Rattle.dwz_def_tops.proofs.FileNumbers.{numbers_long}
-use Rattle.dwz_layout_order.proofs.FileCounts.{are_many}
-use Rattle.dwz_layout_order.proofs.FilesFew.{all_small}
+use Rattle.dwz_graph.proofs.FileCounts.{are_many}
+use Rattle.dwz_graph.proofs.FilesFew.{all_small}
 use Rattle.dwz_graph.specs.declared.file.File.{File}
 use Rattle.dwz_graph.specs.Index.{Index}
-use Rattle.dwz_layout_numbers.specs.Images.{entry_count, starts_from, tops_from}
-use Rattle.dwz_layout_numbers.specs.Names.{AreTopEntries}
+use Rattle.dwz_graph.specs.EntryCounts.{entry_count, starts_from, tops_from}
+use Rattle.dwz_graph.specs.AllNames.{AreTopEntries}
 use Rattle.dwz_layout_numbers.proofs.WholeLemmas.{all_inside, top_entries}
 use Rattle.dwz_layout_input.proofs.Fits.{whole}
 use Rattle.dwz_layout.specs.declared.order.UnitItems.{UnitItems}
 use Rattle.dwz_law_layout.specs.Beside.{Alone, Beside}
 use Rattle.dwz_law_layout.specs.Facts.{AreFacts, RunFacts, docs, every, run}
-use Rattle.dwz_law_over.specs.Either.{laid_by}
+use Rattle.dwz_law_layout.specs.Either.{laid_by}
 use Rattle.dwz_run_files.specs.Prepared.{IsRank}
 use Rattle.dwz_run_files.specs.declared.prepared.PreparedFiles.{PreparedFiles}
 use Rattle.dwz_run_files.specs.declared.prepared.ReadyRun.{ReadyRun}

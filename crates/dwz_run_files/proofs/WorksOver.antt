@@ -5,8 +5,8 @@ use Rattle.dwz_def_reading.specs.Units.{RawUnit}
 use Rattle.dwz_def_taken.specs.Beside.{compile_doc}
 use Rattle.dwz_graph.specs.Index.{Index}
 use Rattle.dwz_graph.specs.Indexed.{AreIndexes}
-use Rattle.dwz_layout_numbers.specs.Images.{starts_from}
-use Rattle.dwz_layout_numbers.specs.Names.{AreTopEntries}
+use Rattle.dwz_graph.specs.EntryCounts.{starts_from}
+use Rattle.dwz_graph.specs.AllNames.{AreTopEntries}
 use Rattle.dwz_layout_numbers.specs.Whole.{AreWhole}
 use Rattle.dwz_layout_input.specs.Over.{IsBehind}
 use Rattle.dwz_layout_input.proofs.Fits.{whole}
@@ -14,7 +14,7 @@ use Rattle.dwz_layout.specs.declared.order.UnitItems.{UnitItems}
 use Rattle.dwz_layout.specs.Laid.{over_of, standing_view}
 use Rattle.dwz_law_layout.specs.Beside.{Over, Standing}
 use Rattle.dwz_law_layout.specs.Facts.{RunFacts, docs, every}
-use Rattle.dwz_law_over.specs.Either.{view_of}
+use Rattle.dwz_law_layout.specs.Either.{view_of}
 use Rattle.dwz_run_files.specs.declared.standing.StandingCommon.{StandingCommon}
 use Rattle.dwz_run_files.specs.declared.work.LaidRun.{LaidRun}
 use Rattle.dwz_run_files.specs.OverRun.{IsStanding}

@@ -9,7 +9,7 @@ use Rattle.dwz_def_tops.proofs.Members.{any_from}
 use Rattle.dwz_def_tops.specs.Spots.{file_numbers, tops_of, units_of}
 use Rattle.dwz_def_tops.proofs.RowLemmas.{top_of}
 use Rattle.dwz_def_tops.proofs.FileNumbers.{numbers_long}
-use Rattle.dwz_def_plan.specs.Moves.{Move}
+use Rattle.dwz_def_images.specs.Moves.{Move}
 use Rattle.dwz_def_images.specs.Units.{changes}
 use Rattle.dwz_def_images.proofs.FileLemmas.{files_are}
 use Rattle.dwz_layout_numbers.specs.Owners.{IsFileWritten}

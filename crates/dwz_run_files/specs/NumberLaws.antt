@@ -8,10 +8,10 @@ use Rattle.dwz_graph.specs.Index.{Index}
 use Rattle.dwz_graph.specs.Indexed.{AreIndexes}
 use Rattle.dwz_plan.specs.declared.plan.Scope.{Scope}
 use Rattle.dwz_plan.specs.Planned.{Planned}
-use Rattle.dwz_layout_input.specs.PlannedFiles.{PlannedFiles}
+use Rattle.dwz_layout_input.specs.declared.planned.PlannedFiles.{PlannedFiles}
 use Rattle.dwz_layout_input.specs.Fits.{FitsFiles}
 use Rattle.dwz_layout_numbers.specs.declared.numbers.UnitNumbers.{UnitNumbers}
-use Rattle.dwz_layout_numbers.specs.Images.{entry_count}
+use Rattle.dwz_graph.specs.EntryCounts.{entry_count}
 use Rattle.dwz_law_layout.specs.Beside.{Alone}
 use Rattle.dwz_law_layout.specs.Facts.{AreFacts, RunFacts, written}
 use Rattle.dwz_layout_order.specs.declared.orders.Settled.{Settled as Lent}

@@ -2,8 +2,8 @@
 use Rattle.std.specs.Prelude.{◌≡◌, ℕ, false, Bool, List, [], length, map}
 use Rattle.dwz_def_reading.specs.Documents.{Doc}
 use Rattle.dwz_def_tops.specs.Spots.{file_numbers, units_of}
-use Rattle.dwz_def_plan.specs.Homes.{Local}
-use Rattle.dwz_def_plan.specs.Moves.{Move}
+use Rattle.dwz_def_images.specs.Homes.{Local}
+use Rattle.dwz_def_images.specs.Moves.{Move}
 use Rattle.dwz_def_images.specs.Units.{changes}
 use Rattle.dwz_plan.specs.Planned.{Planned}
 use Rattle.dwz_plan.specs.Shows.{shown_part}

@@ -10,7 +10,7 @@ use Rattle.dwz_unit.specs.Rows.{units_of as raw_units}
 use Rattle.dwz_graph.specs.declared.file.File.{File}
 use Rattle.dwz_graph.specs.Files.{docs_of}
 use Rattle.dwz_graph.specs.Indexed.{AreIndexes}
-use Rattle.dwz_plan_files.specs.Over.{ArePlannedOver, IsTakenFrom}
+use Rattle.dwz_layout_input.specs.PlannedOver.{ArePlannedOver, IsTakenFrom}
 use Rattle.dwz_layout.specs.declared.known.EntryTable.{EntryTable}
 use Rattle.dwz_layout_numbers.specs.declared.numbers.UnitNumbers.{UnitNumbers}
 use Rattle.dwz_law_layout.specs.Beside.{Over, Standing}

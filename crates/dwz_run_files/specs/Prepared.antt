@@ -12,7 +12,7 @@ use Rattle.dwz_law_layout.specs.Beside.{Alone, Beside, Over}
 use Rattle.dwz_law_layout.specs.Facts.{AreFacts, RunFacts, docs, files_written, move, units}
 use Rattle.dwz_law_layout.specs.Listed.{AreListed, TextsAt}
 use Rattle.dwz_law_layout.specs.Settled.{IsSettled}
-use Rattle.dwz_law_over.specs.Either.{AreBeside, IsOrderBy, first_unit_by}
+use Rattle.dwz_law_layout.specs.Either.{AreBeside, IsOrderBy, first_unit_by}
 
 -- the order is that of what is settled; of a common file that stands nothing is written
 abbrev pub AreOrdersBy : Beside → List (List ℕ) → List Index → Settled → List (List UnitItems) → Type 0

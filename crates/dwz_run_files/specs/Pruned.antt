@@ -6,7 +6,7 @@ use Rattle.dwz_layout.specs.declared.known.EntryTable.{EntryTable}
 use Rattle.dwz_layout.specs.declared.order.UnitItems.{UnitItems}
 use Rattle.dwz_law_layout.specs.Beside.{Beside}
 use Rattle.dwz_law_layout.specs.Facts.{AreFacts, RunFacts}
-use Rattle.dwz_law_over.specs.Either.{first_unit_by}
+use Rattle.dwz_law_layout.specs.Either.{first_unit_by}
 use Rattle.dwz_run_files.specs.Prepared.{AreRanks, firsts_from}
 use Rattle.dwz_encode_texts.specs.declared.pruning.PrunedFile.{PrunedFile}
 use Rattle.dwz_encode_texts.specs.PrunedFiles.{IsPrunedFile}

@@ -9,7 +9,7 @@ use Rattle.dwz_law_layout.specs.Facts.{RunFacts, common, docs, every, move, run,
 use Rattle.dwz_law_layout.specs.Listed.{TextsAt}
 use Rattle.dwz_run_files.specs.Moved.{pruned_at}
 use Rattle.dwz_run_files.specs.Prepared.{AreRanks, CanLay, firsts_from}
-use Rattle.dwz_law_over.specs.Either.{first_unit_by}
+use Rattle.dwz_law_layout.specs.Either.{first_unit_by}
 use Rattle.dwz_layout_input.specs.Rules.{rule_by}
 use Rattle.dwz_graph.specs.Files.{docs_of}
 use Rattle.dwz_encode_texts.specs.declared.pruning.PrunedFile.{PrunedFile}

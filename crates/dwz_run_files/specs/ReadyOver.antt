@@ -7,7 +7,7 @@ use Rattle.dwz_def_over.specs.Over.{OverFiles, run_over}
 use Rattle.dwz_graph.specs.Files.{FilesRead, docs_of}
 use Rattle.dwz_law_layout.specs.Beside.{Over}
 use Rattle.dwz_law_layout.specs.Facts.{RunFacts, run}
-use Rattle.dwz_law_over.specs.CommonRows.{standing_beside}
+use Rattle.dwz_law_layout.specs.CommonRows.{standing_beside}
 use Rattle.dwz_run_files.specs.declared.prepared.PreparedFiles.{PreparedFiles}
 use Rattle.dwz_run_files.specs.declared.standing.StandingCommon.{StandingCommon}
 use Rattle.dwz_run_files.specs.Over.{IsOver}

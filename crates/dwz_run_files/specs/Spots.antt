@@ -5,13 +5,13 @@ use Rattle.dwz_def_images.specs.Units.{changes}
 use Rattle.dwz_unit.specs.Rows.{units_of as raw_units}
 use Rattle.dwz_graph.specs.declared.file.File.{File}
 use Rattle.dwz_graph.specs.Index.{Index}
-use Rattle.dwz_layout_numbers.specs.Images.{starts_from}
+use Rattle.dwz_graph.specs.EntryCounts.{starts_from}
 use Rattle.dwz_layout.specs.declared.known.EntryTable.{EntryTable}
 use Rattle.dwz_layout.specs.declared.order.UnitItems.{UnitItems}
 use Rattle.dwz_law_layout.specs.Beside.{Beside}
 use Rattle.dwz_law_layout.specs.Facts.{HasFile, RunFacts, move, units}
 use Rattle.dwz_law_layout.specs.Listed.{TextsAt}
-use Rattle.dwz_law_over.specs.Either.{laid_by}
+use Rattle.dwz_law_layout.specs.Either.{laid_by}
 use Rattle.dwz_run_files.specs.Prepared.{CanLay}
 use Rattle.dwz_encode_operands.specs.NumberLaws.{ArePlaces, AreUnitPlaces}
 

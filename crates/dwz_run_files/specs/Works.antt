@@ -6,12 +6,12 @@ use Rattle.dwz_def_encoding.specs.Writing.{joined}
 use Rattle.dwz_def_readback.specs.Files.{CommonFile, Run, sections_by}
 use Rattle.dwz_def_output.specs.Contents.{if_other}
 use Rattle.dwz_unit.specs.Rows.{units_of as raw_units}
-use Rattle.dwz_layout_numbers.specs.Images.{starts_from}
-use Rattle.dwz_layout_numbers.specs.Names.{AreTopEntries}
+use Rattle.dwz_graph.specs.EntryCounts.{starts_from}
+use Rattle.dwz_graph.specs.AllNames.{AreTopEntries}
 use Rattle.dwz_encode.specs.Pages.{units_page}
 use Rattle.dwz_law_layout.specs.Beside.{Beside}
 use Rattle.dwz_law_layout.specs.Facts.{HasFile, RunFacts, common, every, move, run, units}
-use Rattle.dwz_law_over.specs.Either.{laid_by}
+use Rattle.dwz_law_layout.specs.Either.{laid_by}
 use Rattle.dwz_run_files.specs.Prepared.{IsRank}
 use Rattle.dwz_encode_operands.specs.NumberLaws.{AreUnitPlaces}
 use Rattle.dwz_encode_texts.specs.declared.pruning.PrunedFile.{PrunedFile}

@@ -18,11 +18,10 @@ use crate::settled::settle_over;
 use crate::standing::{StandingCommon, standing_common};
 use crate::{PreparedFiles, prune_files, with_moved_texts};
 use dwz_def_taken::Fixed;
-use dwz_encode_common::with_standing;
+use dwz_encode_common::{StandingTexts, with_standing};
 use dwz_gate::Gate;
 use dwz_graph::{File, Graph, placed_laws};
 use dwz_model::NoMemory;
-use dwz_standing_texts::StandingTexts;
 use std::alloc::Global;
 use std::thread::Threads;
 

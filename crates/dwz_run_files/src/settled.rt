@@ -9,10 +9,9 @@ ghost use Rattle.dwz_run_files.specs.SettledRun.{IsSettledRun};
 use crate::standing::StandingCommon;
 use dwz_gate::Gate;
 use dwz_graph::{Graph, Index};
-use dwz_layout_input::{SettledFiles, plan_files, settle_files, settle_files_over};
+use dwz_layout_input::{SettledFiles, plan_files, plan_over, settle_files, settle_files_over};
 use dwz_model::NoMemory;
 use dwz_plan::Scope;
-use dwz_plan_files::plan_over;
 use std::alloc::Global;
 use std::thread::Threads;
 

@@ -4,8 +4,8 @@ use Rattle.std.specs.List.{list_any}
 use Rattle.std.specs.Prelude.{if◌then◌else◌}
 use Rattle.dwz_def_reading.specs.Supplementary.{sup_bytes}
 use Rattle.dwz_def_tops.specs.Spots.{EntryName, FileUnit}
-use Rattle.dwz_def_plan.specs.Homes.{Common, file_of, same_home}
-use Rattle.dwz_def_plan.specs.Plan.{PartialUnit}
+use Rattle.dwz_def_images.specs.Homes.{Common, file_of, same_home}
+use Rattle.dwz_def_images.specs.Plan.{PartialUnit}
 use Rattle.dwz_def_readback.specs.Files.{CommonFile, Run, imports_common}
 use Rattle.dwz_def_output.specs.FilesAfter.{has_common, is_common, sup_after_by, sup_of_by}
 use Rattle.dwz_run_output.specs.Making.{IsSupOf}

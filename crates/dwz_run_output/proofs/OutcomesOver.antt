@@ -22,8 +22,8 @@ use Rattle.dwz_def_over.specs.Over.{AreOverFiles, OverFiles, limits_over, move_o
 use Rattle.dwz_def_over.specs.Written.{CanBeWrittenOver, OverFault}
 use Rattle.dwz_def_over.proofs.FaultSections.{of_section_over}
 use Rattle.dwz_def_run.specs.Out.{sup_name, summary_lines_by}
-use Rattle.dwz_def_run_over.specs.Reuses.{HasContents, ReusesOf, puts_over}
-use Rattle.dwz_def_run_over.proofs.Lengths.{made_small}
+use Rattle.dwz_def_run.specs.Reuses.{HasContents, ReusesOf, puts_over}
+use Rattle.dwz_def_run.proofs.ReusesLengths.{made_small}
 use Rattle.dwz_run_output.specs.Making.{AreBytesOf, AreMadeSo, CanMake, IsSupOf}
 use Rattle.dwz_run_output.proofs.AllLengths.{lengths_by, reads_short}
 use Rattle.dwz_run_output.proofs.Outcomes.{output_is}

@@ -12,7 +12,7 @@ use Rattle.dwz_def_output.specs.Changed.{CanGiveAll}
 use Rattle.dwz_def_reading.specs.Lists.{Each}
 use Rattle.dwz_def_tops.proofs.Members.{nth_below}
 use Rattle.dwz_def_tops.proofs.FileNumbers.{numbers_long}
-use Rattle.dwz_def_plan.specs.Moves.{Move}
+use Rattle.dwz_def_images.specs.Moves.{Move}
 use Rattle.dwz_def_images.specs.Units.{changes}
 use Rattle.dwz_def_readback.specs.AllFiles.{AreRead, FileReads}
 use Rattle.dwz_def_readback.specs.Back.{run_by}

@@ -5,7 +5,7 @@
 //! too large, or file that can't be laid out. A file's bytes are made once and moved into its put. `NewFile` is filled by `dwz_run_files`.
 //! `outcome_over` does so where the common file stands already: that is never put, and has no fault.
 //!
-//! Read first: `specs/NewFiles.antt` and `OutFault` of `dwz_def_output`; `Slims` (`Out.antt` of `dwz_def_run`), and `ReusesOf` (`Reuses.antt` of `dwz_def_run_over`).
+//! Read first: `specs/NewFiles.antt` and `OutFault` of `dwz_def_output`; `Slims` (`Out.antt` of `dwz_def_run`), and `ReusesOf` (`Reuses.antt` of `dwz_def_run`).
 #![tactic(auto)]
 
 mod after;

@@ -11,8 +11,8 @@ ghost use Rattle.dwz_run_course.specs.Answers.{IsAnswer};
 ghost use Rattle.dwz_def_output.specs.NewFiles.{AreNewBy};
 ghost use Rattle.dwz_def_over.specs.Over.{AreOverFiles, OverFiles, run_over, stands};
 ghost use Rattle.dwz_def_run.specs.Out.{sup_name};
-ghost use Rattle.dwz_def_run_over.specs.Comes.{reusing};
-ghost use Rattle.dwz_def_run_over.specs.Reuses.{HasContents, ReusesOf};
+ghost use Rattle.dwz_def_run.specs.Comes.{reusing};
+ghost use Rattle.dwz_def_run.specs.Reuses.{HasContents, ReusesOf};
 
 use crate::faults::sections_refusal;
 use crate::making::all_made;

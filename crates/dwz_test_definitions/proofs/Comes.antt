@@ -1,6 +1,6 @@
 -- What files of some bytes say, and the run over them, so that all is found by computing.
 use Rattle.std.proofs.Common.{ℕ, Bool, List, Result}
-use Rattle.dwz_model.specs.declared.fault.Refusal.{Refusal}
+use Rattle.dwz_def_reading.specs.Refusal.{Refusal}
 use Rattle.dwz_def_reading.specs.Reading.{groups_at, sleb_at, uleb_at}
 use Rattle.dwz_def_reading.specs.ListKinds.{list_kind_rows}
 use Rattle.dwz_def_reading.specs.Abbrevs.{declaration_at, pair_at, table_at}
@@ -31,16 +31,14 @@ use Rattle.dwz_def_reading.specs.Ranges.{set_at}
 use Rattle.dwz_def_reading.specs.LineTables.{file_table_at, nth_path, rows_said, tables_at, values_at}
 use Rattle.dwz_def_reading.specs.Sequences.{row_at, row_items_from, times_at}
 use Rattle.dwz_def_reading.specs.Shared.{byte_places, least_place, none_shared, operands_in_lists, operands_of}
-use Rattle.dwz_def_images.specs.After.{name_from}
+use Rattle.dwz_def_tops.specs.UnitNames.{name_from}
 use Rattle.dwz_def_readback.specs.Files.{Run}
 use Rattle.dwz_words.specs.declared.options.Options.{Options}
 use Rattle.dwz_def_output.specs.Contents.{lists_after_by, offsets_after_by, ranges_after_by, sections_after_by, strs_after_by}
-use Rattle.dwz_def_output.specs.FilesAfter.{file_after_by}
-use Rattle.dwz_def_run.specs.Out.{files_puts_by, summary_lines_by}
+use Rattle.dwz_def_output.specs.FilesAfter.{file_after_by, file_after, has_common, in_order, put_in_order}
+use Rattle.dwz_def_run.specs.Out.{files_puts_by, summary_lines_by, files_puts, run_for, summary_lines}
 use Rattle.dwz_def_output.specs.Contents.{lists_after, offsets_after, ranges_after, sections_after, strs_after, with_slots}
-use Rattle.dwz_def_output.specs.FilesAfter.{file_after, has_common, in_order, put_in_order}
 use Rattle.dwz_def_output.specs.Written.{raws}
-use Rattle.dwz_def_run.specs.Out.{files_puts, run_for, summary_lines}
 use Rattle.dwz_test_definitions.proofs.Runs.{run_in}
 
 -- what files say; whatever unfolds this unfolds all by which they are read

@@ -1,7 +1,7 @@
 -- Small documents, each of one file.
 use Rattle.std.proofs.Common.{ℕ, zero, suc, ◌+◌, pos, false, true, List, [], ◌∷◌, Some}
 use Rattle.std.specs.Prelude.{codes, replicate}
-use Rattle.dwz_model.specs.declared.place.Base.TheVariants.{Unit as FromUnit}
+use Rattle.dwz_def_reading.specs.Base.TheVariants.{Unit as FromUnit}
 use Rattle.dwz_def_reading.specs.Documents.{Attr, Doc, DwUnit, Entries, File, Loc, Node, OfType, Operand, Same, Sec, Text, only, ref}
 use Rattle.dwz_def_reading.specs.Trees.{End, Entry}
 use Rattle.dwz_def_tops.proofs.SmallDocs.{base_type, computed, entry, in_language, int_type, listed, long_type, named, short_type, sized, space, then, typed, unit, unspecified, data1}

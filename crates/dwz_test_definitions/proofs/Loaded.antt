@@ -1,7 +1,7 @@
 -- Files with loaded bytes, by the definitions: these stay where they are.
 use Rattle.std.proofs.Common.{◌≡◌, ℕ, true, false, List, [], ◌∷◌, ◌++◌, None, Some, Ok, refl}
 use Rattle.std.specs.Prelude.{codes}
-use Rattle.dwz_model.specs.declared.fault.Reason.TheVariants.{Layout}
+use Rattle.dwz_def_reading.specs.Reason.TheVariants.{Layout}
 use Rattle.dwz_def_reading.specs.ElfLayout.{layout_fault}
 use Rattle.dwz_def_reading.specs.ElfReading.{elf_of}
 use Rattle.dwz_def_reading.specs.Documents.{Doc}

@@ -1,10 +1,10 @@
 -- A whole file whose location list has just room for its new numbers, and one whose list hasn't.
 use Rattle.std.proofs.Common.{◌≡◌, ◌≤◌, ◌∙◌, ℕ, true, false, List, [], ◌∷◌, map, None, Some, Ok, refl, subst, sym, inl, inr, arith}
 use Rattle.std.specs.Prelude.{codes}
-use Rattle.dwz_model.specs.declared.fault.Fault.{Fault}
-use Rattle.dwz_model.specs.declared.fault.Reason.TheVariants.{OperandWidth}
-use Rattle.dwz_model.specs.declared.fault.Refusal.{Refusal}
-use Rattle.dwz_model.specs.declared.place.Base.TheVariants.{Unit as FromUnit}
+use Rattle.dwz_def_reading.specs.Fault.{Fault}
+use Rattle.dwz_def_reading.specs.Reason.TheVariants.{OperandWidth}
+use Rattle.dwz_def_reading.specs.Refusal.{Refusal}
+use Rattle.dwz_def_reading.specs.Base.TheVariants.{Unit as FromUnit}
 use Rattle.dwz_def_reading.specs.Lists.{In}
 use Rattle.dwz_def_reading.specs.PlainFile.{plain_file, plain_section}
 use Rattle.dwz_def_reading.specs.Documents.{Doc}

@@ -17,11 +17,11 @@ use Rattle.dwz_def_tops.specs.Spaces.{space_text, tops_under}
 use Rattle.dwz_def_tops.specs.Alike.{TopScope, any_entry, joined_parts, unit_in}
 use Rattle.dwz_def_tops.specs.Deciding.{alike_test, bound_test, look_test, same_by, same_entries, same_int, same_part, same_plain, top_in}
 use Rattle.dwz_def_tops.specs.Spots.{entry_spots, file_numbers, named_files, row_from, row_in, row_tops, same_numbers, same_spot, spot_in, spots_from, top_spots, tops_among, tops_from, units_of}
-use Rattle.dwz_def_plan.specs.Gain.{attrs_weight, bare_bytes, entries_weight, gain_rule, gain_test, gains_test, group_weight, weights}
-use Rattle.dwz_def_plan.specs.Homes.{candidate, file_of, first_alike, home, numbers_from, users}
-use Rattle.dwz_def_plan.specs.Moves.{line_attrs, part_at, root_of}
-use Rattle.dwz_def_plan.specs.Plan.{beside, chain_down, chains, distinct, imports, is_pinned, is_pinned_at, leading, local_partials, partials, partials_at, representatives, row_part, row_pinned}
-use Rattle.dwz_def_plan.specs.Plan.{row_staying, stand_in, top_row, uleb_targets}
+use Rattle.dwz_def_images.specs.Gain.{attrs_weight, bare_bytes, entries_weight, gain_rule, gain_test, gains_test, group_weight, weights}
+use Rattle.dwz_def_images.specs.Homes.{candidate, file_of, first_alike, home, numbers_from, users}
+use Rattle.dwz_def_images.specs.Moves.{line_attrs, part_at, root_of}
+use Rattle.dwz_def_images.specs.Plan.{beside, chain_down, chains, distinct, imports, is_pinned, is_pinned_at, leading, local_partials, partials, partials_at, representatives, row_part, row_pinned}
+use Rattle.dwz_def_images.specs.Plan.{row_staying, stand_in, top_row, uleb_targets}
 use Rattle.dwz_def_images.specs.Units.{changes, common_units, kept_units, out_units, partial_units, tree}
 use Rattle.dwz_def_encoding.specs.Placing.{attrs_with, entries_with, files_placed, fit, fit_units, has_key, has_text, number_of_key, path_index, placed, sections, text_place, texts_bytes}
 use Rattle.dwz_def_encoding.specs.Placing.{units_placed}

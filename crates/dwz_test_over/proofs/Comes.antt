@@ -10,8 +10,8 @@ use Rattle.dwz_def_taken.specs.declared.fixed.Fixed.{Fixed}
 use Rattle.dwz_def_taken.specs.Beside.{all_attrs, all_below, then_entries}
 use Rattle.dwz_def_taken.specs.Over.{common_parts, row_map}
 use Rattle.dwz_def_over.specs.Over.{OverFiles}
-use Rattle.dwz_def_run_over.specs.Comes.{reusing}
-use Rattle.dwz_def_run_over.specs.Reuses.{summary_over}
+use Rattle.dwz_def_run.specs.Comes.{reusing}
+use Rattle.dwz_def_run.specs.Reuses.{summary_over}
 use Rattle.dwz_test_definitions.proofs.Comes.{come}
 use Rattle.dwz_test_over.proofs.Bytes.{both_file, common_file, three_file}
 use Rattle.dwz_test_over.proofs.Beside.{over_both, over_common}

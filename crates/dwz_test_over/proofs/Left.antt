@@ -2,9 +2,9 @@
 use Rattle.std.proofs.Common.{◌≡◌, ◌∙◌, ℕ, zero, suc, ◌<◌, true, false, List, [], ◌∷◌, None, MatchOption, Ok, arith, length, refl, sym, ap, subst, inl, inr}
 use Rattle.std.specs.Prelude.{codes}
 use Rattle.sha2.specs.Sha256.{compress, digest_bytes, first_words, hash_after, rounds, schedule, sha256}
-use Rattle.dwz_model.specs.declared.fault.Refusal.{Refusal}
-use Rattle.dwz_model.specs.declared.fault.Fault.{Fault}
-use Rattle.dwz_model.specs.Lists.{In, Nth, Rising}
+use Rattle.dwz_def_reading.specs.Refusal.{Refusal}
+use Rattle.dwz_def_reading.specs.Fault.{Fault}
+use Rattle.dwz_def_reading.specs.Lists.{In, Nth, Rising}
 use Rattle.dwz_def_reading.specs.Files.{file_meaning_by, files_meaning, limits_after, no_files_before}
 use Rattle.dwz_def_reading.specs.Finished.{common_sup_fault, rule_of_common}
 use Rattle.dwz_def_reading.specs.FirstOf.{OfFirst}
@@ -27,8 +27,8 @@ use Rattle.dwz_def_taken.specs.Over.{common_parts, row_map}
 use Rattle.dwz_def_taken.specs.Takes.{Blocked, CanTake, CanTakeAlong, IsFixed, IsImage, IsTaken, Takes, image_at, is_blocked, takes_of}
 use Rattle.dwz_def_over.specs.Over.{AreOverFiles, OverFiles, run_over, stands}
 use Rattle.dwz_def_run.specs.Out.{sup_name}
-use Rattle.dwz_def_run_over.specs.Comes.{Comes}
-use Rattle.dwz_def_run_over.specs.Reuses.{output_over}
+use Rattle.dwz_def_run.specs.Comes.{Comes}
+use Rattle.dwz_def_run.specs.Reuses.{output_over}
 use Rattle.dwz_test_definitions.proofs.Comes.{come, said}
 use Rattle.dwz_test_over.proofs.Bytes.{both_file, three_file}
 use Rattle.dwz_test_over.proofs.Beside.{over_both, three_doc}

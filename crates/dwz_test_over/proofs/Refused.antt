@@ -3,14 +3,14 @@ use Rattle.std.proofs.Common.{◌≡◌, [], ◌∷◌, Err, refl, inl}
 use Rattle.std.specs.Prelude.{codes}
 use Rattle.std.specs.Fmt.{digits}
 use Rattle.sha2.specs.Sha256.{compress, digest_bytes, first_words, hash_after, rounds, schedule, sha256}
-use Rattle.dwz_model.specs.declared.fault.Reason.TheVariants.{Checksum}
-use Rattle.dwz_model.specs.declared.fault.Refusal.{Refusal}
+use Rattle.dwz_def_reading.specs.Reason.TheVariants.{Checksum}
+use Rattle.dwz_def_reading.specs.Refusal.{Refusal}
 use Rattle.dwz_def_reading.specs.Finished.{beside_meaning, common_sup_fault}
 use Rattle.dwz_def_reading.specs.Supplementary.{read_sup}
 use Rattle.dwz_def_reading.proofs.FinishedLemmas.{beside_agrees}
 use Rattle.dwz_report.specs.Texts.{refusal_text}
 use Rattle.dwz_run_course.specs.Outcome.{name_of_file, refuses}
-use Rattle.dwz_def_run_over.specs.Comes.{Comes}
+use Rattle.dwz_def_run.specs.Comes.{Comes}
 use Rattle.dwz_test_definitions.proofs.Comes.{come, said}
 use Rattle.dwz_test_over.proofs.Bytes.{bad_file, three_file}
 use Rattle.dwz_test_over.proofs.Comes.{asked}

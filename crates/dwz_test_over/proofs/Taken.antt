@@ -3,14 +3,14 @@ use Rattle.std.proofs.Common.{Result, Ok, Err, ◌≡◌, ◌⊎◌, ◌∙◌, 
 use Rattle.std.proofs.Common.{sym, ap, subst, inl, inr}
 use Rattle.dwz_def_reading.specs.Units.{RawUnit}
 use Rattle.dwz_def_reading.proofs.FileLemmas.{file_agrees_by, files_agree}
-use Rattle.dwz_model.specs.declared.fault.Fault.{Fault}
+use Rattle.dwz_def_reading.specs.Fault.{Fault}
 use Rattle.sha2.specs.Sha256.{compress, digest_bytes, first_words, hash_after, rounds, schedule, sha256}
 use Rattle.dwz_def_reading.specs.Documents.{Doc}
 use Rattle.dwz_def_reading.specs.Files.{file_meaning_by, files_meaning, limits_after, no_files_before}
 use Rattle.dwz_def_reading.specs.Finished.{common_sup_fault, rule_of_common}
 use Rattle.dwz_def_reading.specs.Places.{Place}
 use Rattle.dwz_def_reading.specs.Supplementary.{read_sup}
-use Rattle.dwz_model.specs.Lists.{In, Nth, Rising}
+use Rattle.dwz_def_reading.specs.Lists.{In, Nth, Rising}
 use Rattle.dwz_def_tops.specs.Alike.{Together}
 use Rattle.dwz_def_tops.specs.Deciding.{alike_test}
 use Rattle.dwz_def_tops.specs.Spaces.{IsSpace, space_text}
@@ -19,8 +19,7 @@ use Rattle.dwz_def_tops.proofs.AlikeLaws.{alike_decides}
 use Rattle.dwz_def_readback.specs.PrunableTest.{is_prunable, tables_lack_strp}
 use Rattle.dwz_def_readback.proofs.PrunableDecided.{prunable_decided}
 use Rattle.dwz_def_taken.specs.Beside.{CommonAlike, Reused, all_attrs, all_below, look_units, own_tops, reused_beside, then_entries, together}
-use Rattle.dwz_def_taken.specs.Takes.{Blocked, CanTake, CanTakeAlong, HasSpace, IsFixed, IsImage, IsTaken, PartRefers, Takes, image_at, is_blocked}
-use Rattle.dwz_def_taken.specs.Takes.{is_of_unit, part_unit, takes_of, unit_goes_to}
+use Rattle.dwz_def_taken.specs.Takes.{Blocked, CanTake, CanTakeAlong, HasSpace, IsFixed, IsImage, IsTaken, PartRefers, Takes, image_at, is_blocked, is_of_unit, part_unit, takes_of, unit_goes_to}
 use Rattle.dwz_def_over.specs.Over.{AreOverFiles}
 use Rattle.dwz_test_definitions.proofs.Comes.{come, said}
 use Rattle.dwz_test_over.proofs.Bytes.{common_file, three_file}

@@ -2,9 +2,9 @@
 use Rattle.std.proofs.Common.{◌≡◌, ℕ, ◌<◌, false, List, [], ◌∷◌, None, Some, arith, length, refl, sym, subst, inl, inr}
 use Rattle.std.specs.Prelude.{codes}
 use Rattle.sha2.specs.Sha256.{compress, digest_bytes, first_words, hash_after, rounds, schedule, sha256}
-use Rattle.dwz_model.specs.declared.fault.Fault.{Fault}
-use Rattle.dwz_model.specs.declared.fault.Refusal.{Refusal}
-use Rattle.dwz_model.specs.Lists.{Each}
+use Rattle.dwz_def_reading.specs.Fault.{Fault}
+use Rattle.dwz_def_reading.specs.Refusal.{Refusal}
+use Rattle.dwz_def_reading.specs.Lists.{Each}
 use Rattle.dwz_def_reading.specs.ElfLayout.{layout_fault, rebuilt_length}
 use Rattle.dwz_def_reading.specs.Finished.{common_sup_fault}
 use Rattle.dwz_def_reading.specs.Supplementary.{read_sup}
@@ -24,8 +24,8 @@ use Rattle.dwz_def_taken.specs.Beside.{all_attrs, all_below, then_entries}
 use Rattle.dwz_def_taken.specs.Over.{common_parts, row_map}
 use Rattle.dwz_def_over.specs.Over.{OverFiles, run_over, stands}
 use Rattle.dwz_def_run.specs.Out.{sup_name}
-use Rattle.dwz_def_run_over.specs.Comes.{Comes}
-use Rattle.dwz_def_run_over.specs.Reuses.{output_over}
+use Rattle.dwz_def_run.specs.Comes.{Comes}
+use Rattle.dwz_def_run.specs.Reuses.{output_over}
 use Rattle.dwz_test_definitions.proofs.Comes.{come}
 use Rattle.dwz_test_over.proofs.Bytes.{common_file, three_file, three_new}
 use Rattle.dwz_test_over.proofs.Comes.{asked, options, taken}

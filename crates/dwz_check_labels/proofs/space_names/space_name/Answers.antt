@@ -1,7 +1,7 @@
 use Rattle.std.proofs.Common.{arith}
 use Rattle.dwz_def_reading.specs.Meanings.{scope_of}
 use Rattle.dwz_def_reading.proofs.ListFacts.{got_below}
-use Rattle.dwz_graph.proofs.RowLemmas.{rows-length}
+use Rattle.dwz_unit.proofs.RowsFound.{rows-length}
 use Rattle.dwz_unit.specs.Rows.{rows_of}
 use Rattle.dwz_check_labels.specs.Files.{raw_in}
 use Rattle.dwz_check_labels.proofs.EntryLemmas.{knows_texts, row_of, shown_row, unit_shown}

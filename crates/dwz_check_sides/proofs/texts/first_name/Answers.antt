@@ -3,7 +3,7 @@ use Rattle.dwz_def_reading.specs.Entries.{RawAttr}
 use Rattle.dwz_def_reading.specs.Meanings.{MeansValue}
 use Rattle.dwz_graph.proofs.RowUnits.{unit_within}
 use Rattle.dwz_graph.proofs.UnitBuilding.{root_within}
-use Rattle.dwz_graph.proofs.RowLemmas.{entry_row}
+use Rattle.dwz_unit.proofs.RowsFound.{entry_row}
 use Rattle.dwz_unit.specs.declared.rows.RawEntry.{RawEntry}
 use Rattle.dwz_unit.specs.Rows.{attr_view, units_of}
 use Rattle.dwz_check_sides.proofs.NameTexts.{has_text, is_scope, row, row_found, scope}

@@ -1,5 +1,5 @@
 use Rattle.std.proofs.Common.{ℕ, List, subst, sym}
-use Rattle.dwz_model.specs.Lists.{In}
+use Rattle.dwz_def_reading.specs.Lists.{In}
 use Rattle.dwz_def_tops.specs.Spots.{spots_from}
 use Rattle.dwz_def_tops.proofs.NameLists.{found_there, spots_firsts}
 use Rattle.dwz_def_tops.proofs.TopNumbers.{top_there}

@@ -1,6 +1,6 @@
 use Rattle.std.proofs.Common.{◌++◌, ◌∙◌, List, ℕ, ap, sym, arith}
 use Rattle.dwz_unit.specs.Rows.{rows_of, units_of}
-use Rattle.dwz_graph.proofs.RowLemmas.{row_there, rows-length}
+use Rattle.dwz_unit.proofs.RowsFound.{row_there, rows-length}
 use Rattle.dwz_encode_texts.proofs.TextSteps.{flat_all, flat_more}
 use Rattle.dwz_encode_common.specs.Numbers.{row_numbers}
 use Rattle.dwz_encode_common.proofs.numbers.numbers_of_file.Goals as goal

@@ -3,7 +3,7 @@ use Rattle.std.specs.Prelude.{OnOk}
 use Rattle.std.proofs.lemmas.Bool.{ltb-false}
 use Rattle.std.proofs.lemmas.Option.{slice_get_past}
 use Rattle.dwz_unit.specs.Rows.{units_of}
-use Rattle.dwz_graph.proofs.RowLemmas as rows
+use Rattle.dwz_unit.proofs.RowsFound as rows
 use Rattle.dwz_layout.proofs.KnownLemmas.{file_found}
 use Rattle.dwz_encode_common.specs.Gathered.{with_all}
 use Rattle.dwz_encode_common.proofs.PathSteps.{no_file, no_row, row_there}

@@ -6,7 +6,7 @@ use Rattle.dwz_forms.specs.RawValues.{raw_view}
 use Rattle.dwz_unit.specs.Rows.{units_of}
 use Rattle.dwz_unit.proofs.ReadsLemmas.{reads_count, reads_next}
 use Rattle.dwz_graph.specs.Resolved.{sources_view}
-use Rattle.dwz_graph.proofs.RowLemmas.{row_there}
+use Rattle.dwz_unit.proofs.RowsFound.{row_there}
 use Rattle.dwz_graph.proofs.ValueSteps.{next_read, no_pair}
 use Rattle.dwz_encode_common.specs.Placed.{entry_places}
 use Rattle.dwz_encode_common.specs.Stored.{text_read}

@@ -1,7 +1,7 @@
 use Rattle.std.proofs.Common.{arith}
 use Rattle.std.proofs.lemmas.List.{length-take-le}
 use Rattle.dwz_unit.specs.Rows.{rows_of, units_of}
-use Rattle.dwz_graph.proofs.RowLemmas.{row_there, rows-length}
+use Rattle.dwz_unit.proofs.RowsFound.{row_there, rows-length}
 use Rattle.dwz_encode_common.specs.Placed.{said_in}
 use Rattle.dwz_encode_common.specs.TextsIn.{is_made, texts_in}
 use Rattle.dwz_encode_common.proofs.PlacedSteps.{rows_all, rows_placed}

@@ -5,7 +5,7 @@ use Rattle.std.proofs.lemmas.List.{length-map}
 use Rattle.std.proofs.lemmas.Option.{slice_get_past}
 use Rattle.dwz_def_reading.proofs.ListFacts.{got_below, item_got}
 use Rattle.dwz_unit.specs.Rows.{units_of}
-use Rattle.dwz_graph.proofs.RowLemmas.{row_there}
+use Rattle.dwz_unit.proofs.RowsFound.{row_there}
 use Rattle.dwz_layout.proofs.KnownLemmas.{entry_none, file_found}
 use Rattle.dwz_encode_common.specs.Stored.{file_bases}
 use Rattle.dwz_encode_common.proofs.PlaceSteps.{bases_found, file_at, no_file, no_row, row_found, rows_none, units_found}

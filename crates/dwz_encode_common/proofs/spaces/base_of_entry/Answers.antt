@@ -1,8 +1,8 @@
 use Rattle.std.proofs.Common.{◌∙◌, ap, slice_get, sym, arith}
 use Rattle.std.specs.Option.{option_and_then}
 use Rattle.dwz_unit.specs.Rows.{units_of}
-use Rattle.dwz_graph.proofs.RowLemmas.{row_there}
-use Rattle.dwz_graph.proofs.UnitThere.{unit_ends, unit_there}
+use Rattle.dwz_unit.proofs.RowsFound.{row_there}
+use Rattle.dwz_unit.proofs.UnitThere.{unit_ends, unit_there}
 use Rattle.dwz_graph.proofs.RowUnits.{unit_within}
 use Rattle.dwz_encode_texts.proofs.RowUnits.{shown_unit}
 use Rattle.dwz_encode_common.specs.Stored.{slots_base}

@@ -1,6 +1,6 @@
 use Rattle.std.proofs.Common.{◌∙◌, refl, sym, arith}
 use Rattle.dwz_unit.specs.Rows.{units_of}
-use Rattle.dwz_graph.proofs.RowLemmas.{row_there}
+use Rattle.dwz_unit.proofs.RowsFound.{row_there}
 use Rattle.dwz_layout.proofs.KnownLemmas.{file_found}
 use Rattle.dwz_encode_common.proofs.NameSteps.{name_there, no_row}
 use Rattle.dwz_encode_common.proofs.spaces.name_at.Goals as goal

@@ -6,7 +6,7 @@ use Rattle.dwz_def_reading.specs.Meant.{meaning}
 use Rattle.dwz_encode_operands.specs.Walked.{NotesOperands}
 use Rattle.dwz_encode_operands.proofs.EntryLemmas.{ValuesLeft, values_all, values_end, values_more, values_sibling}
 use Rattle.dwz_def_output.specs.Refusals.{operands_of_attr}
-use Rattle.dwz_graph.proofs.RowLemmas.{row_there}
+use Rattle.dwz_unit.proofs.RowsFound.{row_there}
 use Rattle.dwz_graph.proofs.ValueSteps.{next_read, no_pair}
 use Rattle.dwz_unit.specs.Rows.{units_of}
 use Rattle.dwz_unit.proofs.ReadsLemmas.{reads_count, reads_next}

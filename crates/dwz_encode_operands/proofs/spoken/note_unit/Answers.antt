@@ -6,7 +6,7 @@ use Rattle.dwz_def_reading.specs.Meanings.{scope_of}
 use Rattle.dwz_encode_operands.specs.Walked.{NotesOperands, rows_operands}
 use Rattle.dwz_encode_operands.proofs.UnitLemmas.{unit_noted, unit_notes}
 use Rattle.dwz_def_output.specs.Refusals.{operands_of_unit}
-use Rattle.dwz_graph.proofs.UnitThere.{unit_ends, unit_there}
+use Rattle.dwz_unit.proofs.UnitThere.{unit_ends, unit_there}
 use Rattle.dwz_unit.specs.Rows.{units_of}
 use Rattle.dwz_encode_operands.proofs.spoken.note_unit.Goals as goal
 

@@ -3,7 +3,7 @@ use Rattle.std.proofs.lemmas.Option.{slice_get-get_or}
 use Rattle.dwz_def_reading.specs.Meanings.{first_raw}
 use Rattle.dwz_unit.specs.Rows.{EntryRow, rows_of, units_of}
 use Rattle.dwz_graph.specs.Resolved.{around}
-use Rattle.dwz_graph.proofs.RowLemmas.{row_there}
+use Rattle.dwz_unit.proofs.RowsFound.{row_there}
 use Rattle.dwz_graph.specs.declared.index.SpaceEntry.{SpaceEntry}
 use Rattle.dwz_graph.proofs.RowUnits.{unit_within}
 use Rattle.dwz_encode_texts.specs.Names.{name_by_row, named_text}

@@ -5,8 +5,8 @@ use Rattle.dwz_graph.specs.Files.{docs_of}
 use Rattle.dwz_graph.specs.Index.{Index}
 use Rattle.dwz_graph.specs.Resolved.{around}
 use Rattle.dwz_graph.proofs.IndexesThere.{of_indexes}
-use Rattle.dwz_law_files.proofs.FileCounts.{are_many}
-use Rattle.dwz_law_files.proofs.FileWalk.{is_among}
+use Rattle.dwz_graph.proofs.FileCounts.{are_many}
+use Rattle.dwz_graph.proofs.FileWalk.{is_among}
 use Rattle.dwz_encode_texts.specs.Names.{HaveNames, names_of_spaces}
 use Rattle.dwz_encode_texts.proofs.NameSteps.{have_names, names_all, names_more}
 use Rattle.dwz_encode_texts.proofs.SpaceEntries.{spaces_within}

@@ -5,7 +5,7 @@ use Rattle.dwz_forms.specs.RawValues.{raw_view}
 use Rattle.dwz_unit.specs.Rows.{rows_of, units_of}
 use Rattle.dwz_unit.proofs.DeclarationLemmas.{numbers_length}
 use Rattle.dwz_unit.proofs.ReadsLemmas.{reads_count, reads_next}
-use Rattle.dwz_graph.proofs.RowLemmas.{row_there}
+use Rattle.dwz_unit.proofs.RowsFound.{row_there}
 use Rattle.dwz_graph.proofs.ValueSteps.{next_read, no_pair}
 use Rattle.dwz_encode_texts.proofs.EndLemmas.{ends_told, texts_behind}
 use Rattle.dwz_encode_texts.proofs.TextSteps.{texts_all, texts_push, texts_stay}

@@ -1,6 +1,6 @@
 use Rattle.std.proofs.Common.{[], arith}
 use Rattle.dwz_unit.specs.Rows.{units_of}
-use Rattle.dwz_graph.proofs.UnitThere.{unit_ends, unit_there}
+use Rattle.dwz_unit.proofs.UnitThere.{unit_ends, unit_there}
 use Rattle.dwz_encode_texts.specs.Texts.{slots_base}
 use Rattle.dwz_encode_texts.proofs.TextSteps.{map_push}
 use Rattle.dwz_encode_texts.proofs.texts.slot_bases.Goals as goal

@@ -1,7 +1,7 @@
 use Rattle.std.proofs.Common.{◌≡◌, ◌++◌, ◌∙◌, ap, sym, arith}
 use Rattle.dwz_unit.specs.Rows.{rows_of, units_of}
 use Rattle.dwz_graph.specs.Resolved.{around}
-use Rattle.dwz_graph.proofs.RowLemmas.{row_there, rows-length}
+use Rattle.dwz_unit.proofs.RowsFound.{row_there, rows-length}
 use Rattle.dwz_graph.proofs.RowUnits.{unit_within}
 use Rattle.dwz_encode_texts.specs.Texts.{own_texts, row_texts, slots_base_at}
 use Rattle.dwz_encode_texts.proofs.RowUnits.{base_there, bases_many, shown_unit}

@@ -5,7 +5,7 @@ use Rattle.dwz_def_reading.specs.Meanings.{without_siblings}
 use Rattle.dwz_graph.specs.Resolved.{stored}
 use Rattle.dwz_forms.specs.RawValues.{raw_view}
 use Rattle.dwz_unit.proofs.ReadsLemmas.{reads_count, reads_next}
-use Rattle.dwz_graph.proofs.RowLemmas.{row_there}
+use Rattle.dwz_unit.proofs.RowsFound.{row_there}
 use Rattle.dwz_graph.proofs.ValueSteps.{next_read, no_pair}
 use Rattle.dwz_expand_passes.specs.Files.{raw_in}
 use Rattle.dwz_expand_passes.proofs.OperandLemmas.{take_whole}

@@ -5,7 +5,7 @@ use Rattle.dwz_def_reading.specs.Units.{entries_in}
 use Rattle.dwz_check_labels.proofs.EntryLemmas.{shown_row}
 use Rattle.dwz_check_labels.specs.Files.{IsHereOf}
 use Rattle.dwz_graph.specs.Here.{Here}
-use Rattle.dwz_graph.proofs.RowLemmas.{entry_row}
+use Rattle.dwz_unit.proofs.RowsFound.{entry_row}
 use Rattle.dwz_unit.specs.declared.rows.RawEntry.{RawEntry as EntryOfCode}
 use Rattle.dwz_expand_layout.specs.Laid.{layout_view}
 use Rattle.dwz_expand_passes.proofs.KindLemmas.{here_there}

@@ -1,5 +1,5 @@
 use Rattle.dwz_expand_layout.specs.Shown.{keys_of}
-use Rattle.dwz_law_copies.specs.Numbered.{key_in}
+use Rattle.dwz_expand_passes.specs.Numbered.{key_in}
 use Rattle.dwz_expand.specs.OneKnown.{stands_of}
 use Rattle.dwz_expand.proofs.PlanLemmas.{keys_known}
 use Rattle.dwz_expand.proofs.RefusalSteps.{sites_answered}

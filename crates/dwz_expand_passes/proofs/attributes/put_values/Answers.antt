@@ -10,7 +10,7 @@ use Rattle.dwz_expand_layout.specs.Entries.{CanStore}
 use Rattle.dwz_expand_layout.specs.declared.entries.NewAttr.{NewAttr}
 use Rattle.dwz_forms.specs.RawValues.{raw_view}
 use Rattle.dwz_unit.proofs.ReadsLemmas.{reads_count, reads_next}
-use Rattle.dwz_graph.proofs.RowLemmas.{row_there}
+use Rattle.dwz_unit.proofs.RowsFound.{row_there}
 use Rattle.dwz_graph.proofs.ValueSteps.{next_read, no_pair}
 use Rattle.dwz_expand_passes.specs.Known.{raw_of}
 use Rattle.dwz_expand_passes.proofs.RawLemmas.{keeps_constant}

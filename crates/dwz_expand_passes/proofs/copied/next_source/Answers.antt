@@ -1,5 +1,5 @@
 use Rattle.dwz_expand_layout.specs.Shown.{keys_of}
-use Rattle.dwz_law_copies.specs.Numbered.{key_in}
+use Rattle.dwz_expand_passes.specs.Numbered.{key_in}
 use Rattle.dwz_expand_passes.proofs.copied.next_source.Goals as goal
 
 pub returns : goal.returns

@@ -5,12 +5,12 @@ use Rattle.dwz_expand_layout.specs.Depths.{with_ends}
 use Rattle.dwz_expand_layout.specs.Entries.{NewLine, line_view}
 use Rattle.dwz_expand_layout.specs.Shown.{keys_of}
 use Rattle.dwz_expand_layout.specs.declared.entries.NewOperand.{NewOperand}
-use Rattle.dwz_law_copies.specs.Numbered.{key_in}
+use Rattle.dwz_expand_passes.specs.Numbered.{key_in}
 use Rattle.dwz_expand_passes.specs.Files.{SpeaksEntry, entry_count}
 use Rattle.dwz_expand_passes.specs.Noted.{Noted, noted_of}
 use Rattle.dwz_expand_passes.proofs.NotedLemmas.{none_noted, noted_none, noted_some, one_noted}
 use Rattle.dwz_expand_passes.specs.Steps.{copied_deep, depth_at, lines_before, rest_of}
-use Rattle.dwz_law_copies.proofs.ReferLemmas.{no_roots}
+use Rattle.dwz_expand_passes.proofs.ReferLemmas.{no_roots}
 use Rattle.dwz_expand_passes.proofs.StepLemmas.{at_none, at_some, lines_are, lines_push, none_passed, one_passed, refuses_at, rest_each, rest_is, source_is}
 use Rattle.dwz_expand_passes.proofs.entries.pass_entries.Goals as goal
 

@@ -1,7 +1,7 @@
 use Rattle.std.proofs.Common.{◌≡◌, ◌∙◌, ℕ, Bool, None, Some, get_or, slice_get, refl, sym, ap, subst, arith}
 use Rattle.dwz_unit.specs.Rows.{units_of}
 use Rattle.dwz_graph.specs.Here.{Here}
-use Rattle.dwz_graph.proofs.RowLemmas.{entry_row}
+use Rattle.dwz_unit.proofs.RowsFound.{entry_row}
 use Rattle.dwz_unit.specs.declared.rows.RawEntry.{RawEntry as EntryOfCode}
 use Rattle.dwz_check_labels.proofs.EntryLemmas.{shown_row}
 use Rattle.dwz_check_labels.specs.Files.{IsHereOf}

@@ -1,7 +1,7 @@
 use Rattle.std.proofs.Common.{ap, ◌∙◌}
 use Rattle.dwz_unit.specs.declared.rows.RawEntry.{RawEntry as EntryOfCode}
 use Rattle.dwz_unit.specs.Rows.{units_of}
-use Rattle.dwz_graph_resolve.proofs.RowLemmas.{row_is}
+use Rattle.dwz_unit.proofs.RowsFound.{row_is}
 use Rattle.dwz_graph.proofs.SpaceLemmas.{by_name, no_space}
 use Rattle.dwz_graph.proofs.spaces.is_space.Goals as goal
 

@@ -1,7 +1,7 @@
 use Rattle.std.proofs.Common.{sym, ◌∙◌, arith}
 use Rattle.dwz_graph_pruning.specs.Stays.{row_stays}
 use Rattle.dwz_graph_pruning.proofs.RowLemmas.{between_all, between_fails, between_more, between_none}
-use Rattle.dwz_graph.proofs.RowLemmas.{row_there}
+use Rattle.dwz_unit.proofs.RowsFound.{row_there}
 use Rattle.dwz_unit.specs.Rows.{rows_of, units_of}
 use Rattle.dwz_graph_pruning.proofs.units.entries_stay.Goals as goal
 

@@ -5,7 +5,7 @@ use Rattle.std.specs.Prelude.{IsOk}
 use Rattle.dwz_def_reading.specs.Entries.{RawAttr}
 use Rattle.dwz_forms.specs.RawValues.{raw_view}
 use Rattle.dwz_graph_pruning.proofs.RowLemmas.{none_asked, passes, unasked}
-use Rattle.dwz_graph.proofs.RowLemmas.{all_done, all_fails, all_more, row_there}
+use Rattle.dwz_unit.proofs.RowsFound.{all_done, all_fails, all_more, row_there}
 use Rattle.dwz_graph.proofs.ValueSteps.{next_read, no_pair}
 use Rattle.dwz_graph_pruning.specs.Stays.{asks}
 use Rattle.dwz_unit.specs.Known.{pairs_of}

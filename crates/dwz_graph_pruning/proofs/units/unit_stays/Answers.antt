@@ -1,5 +1,5 @@
 use Rattle.std.proofs.Common.{refl, arith}
-use Rattle.dwz_graph.proofs.UnitThere.{unit_ends, unit_there}
+use Rattle.dwz_unit.proofs.UnitThere.{unit_ends, unit_there}
 use Rattle.dwz_unit.specs.Rows.{units_of}
 use Rattle.dwz_graph_pruning.proofs.UnitLemmas.{unit_stays_iff}
 use Rattle.dwz_graph_pruning.proofs.units.unit_stays.Goals as goal

@@ -4,7 +4,7 @@ use Rattle.dwz_unit.specs.declared.rows.RawEntry.{RawEntry as EntryOfCode}
 use Rattle.dwz_unit.specs.Rows.{attr_view, units_of}
 use Rattle.dwz_unit.proofs.ReadsLemmas.{reads_count}
 use Rattle.dwz_graph_resolve.proofs.RootLemmas.{first_here, first_none, first_passed, pair_is}
-use Rattle.dwz_graph_resolve.proofs.RowLemmas.{attr_there, row_is, row_there}
+use Rattle.dwz_unit.proofs.RowsFound.{attr_there, row_is, row_there}
 use Rattle.dwz_graph_resolve.proofs.first.first_attr.Goals as goal
 
 pub loop-k-init : goal.loop-k-init

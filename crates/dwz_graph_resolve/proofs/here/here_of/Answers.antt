@@ -1,7 +1,8 @@
 use Rattle.std.proofs.Common.{refl, sym, ap, arith}
 use Rattle.dwz_unit.specs.declared.rows.RawUnit.{RawUnit as UnitOfCode}
 use Rattle.dwz_unit.specs.Rows.{units_of}
-use Rattle.dwz_graph_resolve.proofs.UnitThere.{own_places, root_ends, root_found, unit_ends, unit_there}
+use Rattle.dwz_graph_resolve.proofs.UnitThere.{own_places}
+use Rattle.dwz_unit.proofs.UnitThere.{root_ends, root_found, unit_ends, unit_there}
 use Rattle.dwz_graph_resolve.proofs.here.here_of.Goals as goal
 
 pub returns : goal.returns

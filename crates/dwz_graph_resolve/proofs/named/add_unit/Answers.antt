@@ -16,9 +16,10 @@ use Rattle.dwz_graph_resolve.specs.Resolved.{Goes, StateAt, StateIn}
 use Rattle.dwz_graph_resolve.specs.Surroundings.{around_in, common_view, scope_within}
 use Rattle.dwz_graph_resolve.specs.State.{IsState}
 use Rattle.dwz_graph_resolve.proofs.NamedSteps.{added_known, adds_all, adds_more, adds_none, behind_none, fails_at, fails_behind, fails_first}
-use Rattle.dwz_graph_resolve.proofs.RowLemmas.{row_there}
+use Rattle.dwz_unit.proofs.RowsFound.{row_there}
 use Rattle.dwz_graph_resolve.proofs.StateLemmas.{unit_begins, unit_ends as unit_left}
-use Rattle.dwz_graph_resolve.proofs.UnitThere.{end_there, entries_many, entry_there, here_there, shown_there, unit_ends, unit_there}
+use Rattle.dwz_graph_resolve.proofs.UnitThere.{end_there, entries_many, entry_there, here_there, shown_there}
+use Rattle.dwz_unit.proofs.UnitThere.{unit_ends, unit_there}
 use Rattle.dwz_graph_resolve.proofs.named.add_unit.Goals as goal
 
 pub here_of-here-requires : goal.here_of-here-requires

@@ -19,7 +19,7 @@ use Rattle.dwz_graph_resolve.specs.Parts.{numbers_file}
 use Rattle.dwz_graph_resolve.proofs.LineSteps.{learns_next, learns_none}
 use Rattle.dwz_graph_resolve.proofs.NamedSteps.{Added, adds_more, adds_none, fails_at}
 use Rattle.dwz_graph_resolve.proofs.QuickSteps.{TakesValue, state_untouched, takes_behind}
-use Rattle.dwz_graph_resolve.proofs.RowLemmas.{row_there}
+use Rattle.dwz_unit.proofs.RowsFound.{row_there}
 use Rattle.dwz_graph_resolve.proofs.StateLemmas.{with_found}
 use Rattle.dwz_graph_resolve.proofs.StopSteps.{all_read, at_stop, none, stop_there, value_there}
 use Rattle.dwz_graph_resolve.proofs.ValueSteps.{no_pair}

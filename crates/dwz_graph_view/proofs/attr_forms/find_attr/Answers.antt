@@ -3,7 +3,7 @@ use Rattle.std.proofs.lemmas.Bool.{eq-eqb, ne_eqb}
 use Rattle.dwz_def_reading.specs.Input.{Input}
 use Rattle.dwz_model.specs.declared.place.Pair.{Pair}
 use Rattle.dwz_def_reading.specs.Units.{RawUnit, entries_in}
-use Rattle.dwz_graph.proofs.RowLemmas.{row_there}
+use Rattle.dwz_unit.proofs.RowsFound.{row_there}
 use Rattle.dwz_unit.specs.Rows.{EntryRow, attr_count, rows_of, units_of}
 use Rattle.dwz_unit.specs.Values.{Reads}
 use Rattle.dwz_graph_view.proofs.AttrSteps.{Seeks, has_pairs, pair_at, seeks_count, seeks_end, seeks_found, seeks_pass, values_many}

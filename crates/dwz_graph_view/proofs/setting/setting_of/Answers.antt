@@ -3,7 +3,7 @@ use Rattle.dwz_def_reading.specs.Files.{around_of}
 use Rattle.dwz_def_reading.specs.LineTables.{FileTable}
 use Rattle.dwz_def_reading.specs.Meanings.{scope_of}
 use Rattle.dwz_def_reading.proofs.ListFacts.{item_got}
-use Rattle.dwz_graph.proofs.RowLemmas.{row_is}
+use Rattle.dwz_unit.proofs.RowsFound.{row_is}
 use Rattle.dwz_graph.proofs.UnitBuilding.{root_within}
 use Rattle.dwz_label_entries.specs.Plain.{KnowsLine}
 use Rattle.dwz_unit.specs.Rows.{units_of}

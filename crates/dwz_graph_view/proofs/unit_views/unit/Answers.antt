@@ -4,7 +4,7 @@ use Rattle.dwz_graph.specs.declared.file.File.{File}
 use Rattle.dwz_graph.specs.Files.{AreKept, docs_of}
 use Rattle.dwz_graph_view.specs.Finding.{HasUnit}
 use Rattle.dwz_graph_view.proofs.FileDocs.{at_index}
-use Rattle.dwz_law_files.proofs.FileCounts.{files_many}
+use Rattle.dwz_graph.proofs.FileCounts.{files_many}
 use Rattle.dwz_graph_view.proofs.UnitSteps.{main_small, root_there, unit_low, unit_shows}
 use Rattle.dwz_graph_view.proofs.unit_views.unit.Goals as goal
 

@@ -3,7 +3,7 @@ use Rattle.std.specs.List.{flat_map}
 use Rattle.std.specs.Option.{option_map}
 use Rattle.std.proofs.lemmas.List.{take_all}
 use Rattle.dwz_unit.specs.Rows.{rows_of, units_of}
-use Rattle.dwz_graph.proofs.RowLemmas.{row_there, rows-length}
+use Rattle.dwz_unit.proofs.RowsFound.{row_there, rows-length}
 use Rattle.dwz_imports.specs.Said.{raw_beside}
 use Rattle.dwz_imports.specs.Stored.{row_edges, row_imports}
 use Rattle.dwz_imports.proofs.RowParts.{next_edges, next_flag}

@@ -1,6 +1,6 @@
 use Rattle.std.proofs.Common.{◌≡◌, ◌↔◌, ◌+◌, ℕ, Some, List, Bor, Option, subst, sym}
 use Rattle.std.specs.Option.{option_map}
-use Rattle.dwz_bytes.specs.Spelling.{reach}
+use Rattle.dwz_def_reading.specs.Spelling.{reach}
 use Rattle.dwz_def_reading.specs.Classes.{Class}
 use Rattle.dwz_def_reading.specs.Meanings
 use Rattle.dwz_def_reading.specs.Units.{RawUnit}

@@ -1,7 +1,7 @@
 use Rattle.std.proofs.Common.{◌++◌, ◌-◌, ℕ, ap, drop, sym, ◌∙◌}
 use Rattle.dwz_graph.proofs.TreeLemmas.{node_attrs}
 use Rattle.dwz_label.specs.Labels.{number}
-use Rattle.dwz_graph.proofs.RowLemmas.{row_is}
+use Rattle.dwz_unit.proofs.RowsFound.{row_is}
 use Rattle.dwz_unit.specs.declared.rows.RawEntry.{RawEntry as EntryOfCode}
 use Rattle.dwz_label_entries.specs.Sources.{raw_of, scope_at}
 use Rattle.dwz_label_entries.proofs.RowsLemmas.{entry_told}

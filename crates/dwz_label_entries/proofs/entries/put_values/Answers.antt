@@ -3,7 +3,7 @@ use Rattle.std.specs.Prelude.{IsOk}
 use Rattle.dwz_def_reading.specs.Entries.{RawAttr}
 use Rattle.dwz_forms.specs.RawValues.{raw_view}
 use Rattle.dwz_unit.proofs.ReadsLemmas.{reads_count, reads_next}
-use Rattle.dwz_graph.proofs.RowLemmas.{row_there}
+use Rattle.dwz_unit.proofs.RowsFound.{row_there}
 use Rattle.dwz_graph.proofs.ValueSteps.{next_read, no_pair}
 use Rattle.dwz_graph.specs.Resolved.{around}
 use Rattle.dwz_graph.proofs.StepLemmas.{entry}

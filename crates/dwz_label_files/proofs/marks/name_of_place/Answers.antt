@@ -10,12 +10,12 @@ use Rattle.dwz_graph.specs.Chains.{AreSpacesAt, IsOut}
 use Rattle.dwz_graph.specs.Files.{docs_of}
 use Rattle.dwz_graph.specs.Index.{Index}
 use Rattle.dwz_graph.specs.Resolved.{IsHere, around}
-use Rattle.dwz_graph.proofs.RowLemmas.{rows-length}
+use Rattle.dwz_unit.proofs.RowsFound.{rows-length}
 use Rattle.dwz_label.specs.Labels.{place_label}
 use Rattle.dwz_label_files.specs.Marked.{IsPlace}
 use Rattle.dwz_label_files.specs.Unit.{IsUnitRow}
 use Rattle.dwz_label_files.proofs.TopLemmas.{entry_there, known, language_is, leads, outward, spaces_of, spaces_there}
-use Rattle.dwz_law_files.proofs.FileEntries.{gives_top}
+use Rattle.dwz_graph.proofs.FileEntries.{gives_top}
 use Rattle.dwz_unit.specs.Rows.{entry_shown, rows_of, shown_entries, units_of as raw_units}
 use Rattle.dwz_label_files.proofs.marks.name_of_place.Goals as goal
 

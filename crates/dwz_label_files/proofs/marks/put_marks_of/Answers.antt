@@ -1,8 +1,8 @@
 use Rattle.std.proofs.Common.{◌≡◌, ◌+◌, ℕ, List, Some, ap, arith, drop, refl, slice_get, subst, sym, ◌∙◌}
 use Rattle.std.specs.Prelude.{OnOk, slice_index}
 use Rattle.std.proofs.lemmas.List.{get_or_read}
-use Rattle.dwz_law_files.specs.Across.{name_at}
-use Rattle.dwz_law_files.proofs.FileEntries.{all_entries, gives_top}
+use Rattle.dwz_graph.specs.Across.{name_at}
+use Rattle.dwz_graph.proofs.FileEntries.{all_entries, gives_top}
 use Rattle.dwz_label_files.proofs.TopLemmas.{ends_there, entry_there, knows_names, known, line_of, line_there, top_at, unit_is}
 use Rattle.dwz_def_reading.specs.Trees.{End, Entry}
 use Rattle.dwz_def_reading.proofs.ListFacts.{got_below, got_in, item_got, same_got}

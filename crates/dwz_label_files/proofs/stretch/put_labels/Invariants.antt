@@ -4,7 +4,7 @@ use Rattle.dwz_def_tops.specs.Deciding.{AreMovable}
 use Rattle.dwz_def_tops.specs.Spots.{units_of}
 use Rattle.dwz_graph.specs.Files.{docs_of}
 use Rattle.dwz_label_files.specs.Marked.{HasPlace, TellFrom}
-use Rattle.dwz_label_names.specs.Known.{StaysNamed}
+use Rattle.dwz_label_words.specs.Known.{StaysNamed}
 use Rattle.dwz_label_files.proofs.stretch.put_labels.Given as goal
 
 abbrev pub invariant-loop-n : goal.invariant-loop-n

@@ -4,7 +4,7 @@ use Rattle.dwz_def_tops.specs.Spots.{units_of as file_units}
 use Rattle.dwz_graph.specs.Files.{docs_of}
 use Rattle.dwz_graph.specs.declared.file.File.{File}
 use Rattle.dwz_label_files.specs.Marked.{AreFileNames, TellFrom}
-use Rattle.dwz_label_names.specs.Known.{FileNames}
+use Rattle.dwz_label_words.specs.Known.{FileNames}
 use Rattle.dwz_unit.specs.Declarations.{AreOf, Declarations}
 use Rattle.dwz_unit.specs.Rows.{rows_of, units_of}
 use Rattle.dwz_label_files.proofs.stretch.with_file.Goals as goal

@@ -3,7 +3,8 @@ use Rattle.dwz_def_reading.specs.Units.{RawUnit}
 use Rattle.dwz_def_reading.specs.Meanings.{scope_of}
 use Rattle.dwz_def_reading.specs.Meant.{unit_meaning}
 use Rattle.dwz_def_reading.proofs.MeaningUnits.{node_agrees, unit_agrees}
-use Rattle.dwz_graph.proofs.UnitThere.{root_found, same_unit, unit_ends, unit_there}
+use Rattle.dwz_graph.proofs.UnitThere.{same_unit}
+use Rattle.dwz_unit.proofs.UnitThere.{root_found, unit_ends, unit_there}
 use Rattle.dwz_unit.specs.Rows.{units_of}
 use Rattle.dwz_label_files.proofs.unit.unit_row.Goals as goal
 

@@ -5,7 +5,7 @@ use Rattle.dwz_def_reading.specs.Units.{RawUnit}
 use Rattle.dwz_def_tops.specs.Spots.{EntryName}
 use Rattle.dwz_graph.specs.Rows.{IsEntryMeant}
 use Rattle.dwz_label_entries.specs.Sources.{KnowsUnit, raw_of, scope_at}
-use Rattle.dwz_label_names.specs.Known.{StaysNamed}
+use Rattle.dwz_label_words.specs.Known.{StaysNamed}
 use Rattle.dwz_label_words.specs.Told.{IsUsual, TellsFirst}
 use Rattle.dwz_unit.specs.Rows.{EntryRow, rows_of}
 use Rattle.dwz_unit.specs.Values.{Reads}

@@ -4,7 +4,7 @@ use Rattle.std.proofs.lemmas.Int.{to_z-of_z}
 use Rattle.std.proofs.lemmas.Result.{on_ok_weaker}
 use Rattle.dwz_def_reading.specs.Documents.{File}
 use Rattle.dwz_label.specs.Labels.{plain_label}
-use Rattle.dwz_label_names.specs.Known.{HasName}
+use Rattle.dwz_label_words.specs.Known.{HasName}
 use Rattle.dwz_label_marks.proofs.AddsLemmas.{adds_named}
 use Rattle.dwz_label_words.proofs.RowLemmas.{path_row}
 use Rattle.dwz_label_words.proofs.files.put_path_mark.Goals as goal

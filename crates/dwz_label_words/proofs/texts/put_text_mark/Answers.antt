@@ -2,7 +2,7 @@ use Rattle.std.proofs.Common.{ℕ, List, Option, length, ap, subst, arith}
 use Rattle.std.proofs.lemmas.Result.{on_ok_weaker}
 use Rattle.dwz_def_reading.specs.Documents.{Text}
 use Rattle.dwz_label.specs.Labels.{plain_label}
-use Rattle.dwz_label_names.specs.Known.{HasName}
+use Rattle.dwz_label_words.specs.Known.{HasName}
 use Rattle.dwz_label_marks.proofs.AddsLemmas.{adds_named}
 use Rattle.dwz_label_words.proofs.RowLemmas.{none_behind}
 use Rattle.dwz_label_words.proofs.texts.put_text_mark.Goals as goal

@@ -5,7 +5,7 @@ use Rattle.dwz_def_reading.specs.Units.{RawUnit}
 use Rattle.dwz_def_tops.specs.Spots.{EntryName}
 use Rattle.dwz_graph.specs.Rows.{AreRowsMeant}
 use Rattle.dwz_label_entries.specs.Sources.{KnowsUnit, raw_of, scope_at}
-use Rattle.dwz_label_names.specs.Known.{StaysNamed}
+use Rattle.dwz_label_words.specs.Known.{StaysNamed}
 use Rattle.dwz_label_words.specs.Told.{AreUsual, rows_marks}
 use Rattle.dwz_label_words.proofs.RowsLemmas.{RowsLeft}
 use Rattle.dwz_unit.specs.Rows.{EntryRow}

@@ -1,6 +1,6 @@
 use Rattle.std.proofs.Common.{◌≡◌, ℕ, ◌-◌, ◌∙◌, ◌++◌, length, map, replicate, sym, ap, arith, vec_len}
 use Rattle.std.proofs.lemmas.List.{length-map}
-use Rattle.dwz_graph_resolve.proofs.RowLemmas.{row_is, row_there, rows-length}
+use Rattle.dwz_unit.proofs.RowsFound.{row_is, row_there, rows-length}
 use Rattle.dwz_unit.specs.declared.rows.RawEntry.{RawEntry as EntryOfCode}
 use Rattle.dwz_unit.specs.Rows.{EntryRow, rows_of, units_of}
 use Rattle.dwz_unit.proofs.FlatLemmas.{all_added, none_added, one_added}

@@ -1,7 +1,7 @@
 use Rattle.std.proofs.Common.{[], sym, ap, arith}
 use Rattle.dwz_def_reading.specs.Units.{RawUnit}
-use Rattle.dwz_graph_resolve.proofs.RowLemmas.{row_is}
-use Rattle.dwz_graph_resolve.proofs.UnitThere.{root_found, unit_ends, unit_there}
+use Rattle.dwz_unit.proofs.RowsFound.{row_is}
+use Rattle.dwz_unit.proofs.UnitThere.{root_found, unit_ends, unit_there}
 use Rattle.dwz_unit.specs.declared.rows.RawEntry.{RawEntry as EntryOfCode}
 use Rattle.dwz_unit.specs.Rows.{units_of}
 use Rattle.dwz_unit.proofs.FlatLemmas.{all_added, one_added}

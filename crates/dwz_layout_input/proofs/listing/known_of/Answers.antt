@@ -1,7 +1,7 @@
 use Rattle.std.proofs.Common.{◌≡◌, ℕ, List, sym, subst, ◌∙◌}
 use Rattle.std.proofs.lemmas.List.{append-nil}
-use Rattle.dwz_layout_numbers.specs.Images.{tops_from}
-use Rattle.dwz_layout_numbers.specs.Names.{AreTopEntries}
+use Rattle.dwz_graph.specs.EntryCounts.{tops_from}
+use Rattle.dwz_graph.specs.AllNames.{AreTopEntries}
 use Rattle.dwz_layout_numbers.proofs.WholeLemmas.{top_entries}
 use Rattle.dwz_law_layout.specs.Beside.{Alone}
 use Rattle.dwz_law_layout.specs.Facts.{docs}

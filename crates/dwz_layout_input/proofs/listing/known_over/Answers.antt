@@ -1,6 +1,6 @@
 use Rattle.std.proofs.Common.{ℕ, ◌∷◌, ◌++◌, [], List, sym, subst}
 use Rattle.dwz_def_taken.specs.Beside.{compile_doc}
-use Rattle.dwz_layout_numbers.specs.Names.{AreTopEntries}
+use Rattle.dwz_graph.specs.AllNames.{AreTopEntries}
 use Rattle.dwz_law_layout.specs.Beside.{Over}
 use Rattle.dwz_law_layout.specs.Facts.{docs}
 use Rattle.dwz_layout_input.proofs.listing.known_over.Goals as goal

@@ -1,5 +1,5 @@
 use Rattle.std.proofs.Common.{refl, sym, arith}
-use Rattle.dwz_layout_order.proofs.FileCounts.{are_many}
+use Rattle.dwz_graph.proofs.FileCounts.{are_many}
 use Rattle.dwz_graph.specs.Files.{docs_of}
 use Rattle.dwz_graph.proofs.IndexesThere.{indexes_there}
 use Rattle.dwz_layout_input.proofs.settled.settle.Goals as goal

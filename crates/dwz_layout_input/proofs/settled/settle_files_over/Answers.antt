@@ -3,7 +3,7 @@ use Rattle.std.proofs.lemmas.Result.{IfOk-weaker}
 use Rattle.dwz_def_tops.specs.Spots.{tops_of, units_of}
 use Rattle.dwz_graph.specs.Files.{docs_of}
 use Rattle.dwz_graph.proofs.IndexesThere.{indexes_there}
-use Rattle.dwz_layout_order.proofs.FileCounts.{are_many}
+use Rattle.dwz_graph.proofs.FileCounts.{are_many}
 use Rattle.dwz_layout_input.specs.Parts.{AreParts, HoldSome}
 use Rattle.dwz_layout_input.proofs.FactsOver.{planned_over}
 use Rattle.dwz_layout_input.proofs.FirstOver.{hold_over}

@@ -1,6 +1,6 @@
 use Rattle.std.proofs.Common.{◌≡◌, ℕ, ◌+◌, ◌∷◌, ◌++◌, [], List, map, sym, subst, ◌∙◌}
 use Rattle.dwz_def_taken.specs.Beside.{compile_doc}
-use Rattle.dwz_layout_numbers.specs.Names.{AreTopEntries}
+use Rattle.dwz_graph.specs.AllNames.{AreTopEntries}
 use Rattle.dwz_layout_input.specs.Over.{tops_behind}
 use Rattle.dwz_layout_input.proofs.FitsOver.{entries_behind}
 use Rattle.dwz_layout_input.proofs.standing.tops_over.Goals as goal

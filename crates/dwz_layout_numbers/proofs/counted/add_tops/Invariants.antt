@@ -1,5 +1,5 @@
 use Rattle.std.proofs.Common.{◌≡◌, ◌++◌, take}
-use Rattle.dwz_layout_numbers.specs.Images.{tops_in}
+use Rattle.dwz_graph.specs.EntryCounts.{tops_in}
 use Rattle.dwz_layout_numbers.proofs.counted.add_tops.Given as goal
 
 abbrev pub invariant-loop-top : goal.invariant-loop-top

@@ -1,6 +1,6 @@
 use Rattle.std.proofs.Common.{All, ◌+◌, ◌++◌, ◌<◌, ℕ, List, ap, sym, subst, ◌∙◌, arith}
 use Rattle.dwz_graph.specs.declared.index.TopEntry.{TopEntry}
-use Rattle.dwz_layout_numbers.specs.Images.{tops_in}
+use Rattle.dwz_graph.specs.EntryCounts.{tops_in}
 use Rattle.dwz_layout_numbers.proofs.CountLemmas.{Tops, inside_at, left_room, tops_end, tops_first, tops_fit, tops_next}
 use Rattle.dwz_layout_numbers.proofs.counted.tops.Goals as goal
 

@@ -1,7 +1,7 @@
 use Rattle.std.proofs.Common.{ℕ, List, take}
 use Rattle.dwz_def_reading.specs.Documents.{Doc}
 use Rattle.dwz_def_tops.specs.Spots.{EntryName}
-use Rattle.dwz_def_plan.specs.Moves.{Move}
+use Rattle.dwz_def_images.specs.Moves.{Move}
 use Rattle.dwz_layout_numbers.specs.Images.{AreImages, IsFile, IsPlanned}
 use Rattle.dwz_layout_numbers.proofs.images.references.Given as goal
 

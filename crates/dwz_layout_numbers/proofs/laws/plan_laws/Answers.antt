@@ -1,5 +1,5 @@
 use Rattle.dwz_def_tops.specs.Spots.{units_of}
-use Rattle.dwz_def_plan.proofs.StandLemmas.{fair}
+use Rattle.dwz_def_images.proofs.StandLemmas.{fair}
 use Rattle.dwz_layout_numbers.proofs.PlanMoves.{plan_holds, plan_order, plan_stands, plan_still}
 use Rattle.dwz_layout_numbers.proofs.laws.plan_laws.Goals as goal
 

@@ -7,7 +7,7 @@ use Rattle.dwz_layout_items.specs.declared.order.Outer.{Outer}
 use Rattle.dwz_layout_items.specs.Lines.{line, lines, row_lines}
 use Rattle.dwz_layout_items.specs.Order.{import_lines, order_lines}
 use Rattle.dwz_layout_items.specs.Outline.{ShowsRow}
-use Rattle.dwz_def_plan.specs.Plan.{pinned_first, row_staying}
+use Rattle.dwz_def_images.specs.Plan.{pinned_first, row_staying}
 use Rattle.dwz_unit.specs.Rows.{units_of}
 use Rattle.dwz_layout_order.specs.Kept.{IsKept, IsWhole, behind_kind, behind_unit}
 use Rattle.dwz_layout_order.specs.Outline.{outers_in}

@@ -2,7 +2,7 @@ use Rattle.std.proofs.Common.{ℕ, List, [], ◌∷◌, ◌++◌, map, take, sym
 use Rattle.std.proofs.lemmas.List.{take_all}
 use Rattle.dwz_def_reading.specs.Units.{RawUnit}
 use Rattle.dwz_def_reading.proofs.MeaningUnits.{units_agree}
-use Rattle.dwz_graph_resolve.proofs.UnitThere.{unit_ends, unit_there}
+use Rattle.dwz_unit.proofs.UnitThere.{unit_ends, unit_there}
 use Rattle.dwz_unit.specs.Rows.{units_of}
 use Rattle.dwz_unit.proofs.FlatLemmas.{map_got}
 use Rattle.dwz_match.proofs.RootFacts.{root_at, roots_said}

@@ -3,7 +3,8 @@ use Rattle.dwz_def_tops.specs.Spots.{EntryName}
 use Rattle.dwz_def_reading.specs.Units.{RawUnit, entries_in}
 use Rattle.dwz_graph.specs.Index.{IsIndex}
 use Rattle.dwz_graph.specs.Resolved.{AreEntries}
-use Rattle.dwz_move.specs.Known.{NamesEntries, tops_of_refs}
+use Rattle.dwz_move.specs.Known.{tops_of_refs}
+use Rattle.dwz_graph.specs.Standing.{NamesEntries}
 use Rattle.dwz_move.proofs.into.tops_of.Given as goal
 
 abbrev pub invariant-loop-entry : goal.invariant-loop-entry

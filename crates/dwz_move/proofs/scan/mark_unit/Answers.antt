@@ -5,7 +5,8 @@ use Rattle.dwz_def_reading.specs.Trees.{End, Entry}
 use Rattle.dwz_def_reading.specs.Units.{RawUnit, entry_count}
 use Rattle.dwz_def_reading.proofs.CaseFacts.{on_ok}
 use Rattle.dwz_graph.specs.Rows.{AreRowsMeant, nodes}
-use Rattle.dwz_graph.proofs.UnitThere.{same_unit, unit_ends, unit_there}
+use Rattle.dwz_graph.proofs.UnitThere.{same_unit}
+use Rattle.dwz_unit.proofs.UnitThere.{unit_ends, unit_there}
 use Rattle.dwz_move.specs.Bound.{EachInto}
 use Rattle.dwz_def_reading.specs.Documents.{unit_map}
 use Rattle.dwz_def_reading.specs.Meanings.{scope_of}

@@ -1,4 +1,4 @@
-use Rattle.dwz_move.proofs.StandLemmas.{stands_there}
+use Rattle.dwz_graph.proofs.StandLemmas.{stands_there}
 use Rattle.dwz_move.proofs.standing.stand_laws.Goals as goal
 
 pub returns : goal.returns

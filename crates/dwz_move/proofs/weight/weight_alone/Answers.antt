@@ -2,7 +2,7 @@ use Rattle.std.proofs.Common.{ℕ, ◌+◌, sym, ap, ◌∙◌, if◌then◌else
 use Rattle.std.specs.Prelude.{nat_lt}
 use Rattle.dwz_unit.specs.declared.rows.RawEntry.{RawEntry}
 use Rattle.dwz_unit.specs.Rows.{units_of}
-use Rattle.dwz_move.proofs.RowSteps.{shown_row}
+use Rattle.dwz_graph.proofs.RowSteps.{shown_row}
 use Rattle.dwz_move.proofs.weight.weight_alone.Goals as goal
 
 pub returns : goal.returns

@@ -5,7 +5,7 @@ use Rattle.dwz_forms.specs.RawValues.{raw_view}
 use Rattle.dwz_def_reading.specs.Documents.{node_map}
 use Rattle.dwz_unit.specs.Rows.{units_of}
 use Rattle.dwz_unit.proofs.ReadsLemmas.{reads_count, reads_next}
-use Rattle.dwz_graph.proofs.RowLemmas.{row_there}
+use Rattle.dwz_unit.proofs.RowsFound.{row_there}
 use Rattle.dwz_graph.proofs.ValueSteps.{next_read, no_pair}
 use Rattle.dwz_move.specs.Weights.{node_weight}
 use Rattle.dwz_move.proofs.WeightSteps.{AreLeft, left_all, left_more, left_none, left_sibling, own_low}

@@ -6,7 +6,7 @@ use Rattle.dwz_def_tops.specs.Spots.{tops_of, units_of}
 use Rattle.dwz_graph.specs.Files.{docs_of}
 use Rattle.dwz_def_reading.specs.Files.{around_of}
 use Rattle.dwz_unit.specs.Rows.{units_of as raw_units}
-use Rattle.dwz_law_files.specs.Across.{name_at}
+use Rattle.dwz_graph.specs.Across.{name_at}
 use Rattle.dwz_move_files.proofs.DraftSteps.{binds_named, binds_so, knows_at, number_low, stands_end}
 use Rattle.dwz_move_files.proofs.draft.binds.Goals as goal
 

@@ -1,7 +1,7 @@
 use Rattle.dwz_def_tops.specs.Spots.{units_of}
 use Rattle.dwz_graph.specs.Files.{docs_of}
 use Rattle.dwz_move_files.specs.Named.{AreNamed}
-use Rattle.dwz_law_files.specs.Across.{starts_at}
+use Rattle.dwz_graph.specs.Across.{starts_at}
 use Rattle.dwz_move_files.specs.Drafts.{IsDraft}
 use Rattle.dwz_move_files.proofs.draft.gather.Given as goal
 

@@ -1,7 +1,7 @@
 use Rattle.std.proofs.Common.{ap, ◌∙◌}
 use Rattle.dwz_unit.specs.Rows.{units_of as raw_units}
-use Rattle.dwz_law_files.specs.Across.{name_at}
-use Rattle.dwz_law_files.proofs.FileEntries.{all_entries, names_entries}
+use Rattle.dwz_graph.specs.Across.{name_at}
+use Rattle.dwz_graph.proofs.FileEntries.{all_entries, names_entries}
 use Rattle.dwz_move.specs.Known.{tops_of_refs}
 use Rattle.dwz_move_files.proofs.FileSteps.{refs_low}
 use Rattle.dwz_graph.specs.Names.{names_from}

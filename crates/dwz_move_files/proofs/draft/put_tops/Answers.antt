@@ -6,7 +6,7 @@ use Rattle.dwz_graph.specs.Files.{docs_of}
 use Rattle.dwz_graph.specs.declared.index.Starts.{Starts}
 use Rattle.dwz_graph.specs.declared.index.TopEntry.{TopEntry}
 use Rattle.dwz_move.specs.Bound.{HasTops}
-use Rattle.dwz_law_files.proofs.FileEntries.{gives_top}
+use Rattle.dwz_graph.proofs.FileEntries.{gives_top}
 use Rattle.dwz_move_files.specs.Drafts.{IsDraft}
 use Rattle.dwz_move_files.specs.Ranges.{HaveUnits}
 use Rattle.dwz_move_files.proofs.UnitOrder.{have_units}

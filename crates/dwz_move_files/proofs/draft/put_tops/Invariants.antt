@@ -4,7 +4,7 @@ use Rattle.dwz_graph.specs.Files.{docs_of}
 use Rattle.dwz_graph.specs.declared.index.TopEntry.{TopEntry}
 use Rattle.dwz_move_files.specs.Named.{AreNamed}
 use Rattle.dwz_move.specs.Bound.{HasTops}
-use Rattle.dwz_law_files.specs.Across.{IsFileAmong}
+use Rattle.dwz_graph.specs.Across.{IsFileAmong}
 use Rattle.dwz_move_files.specs.Drafts.{IsDraft}
 use Rattle.dwz_move_files.specs.Ranges.{HaveUnits}
 use Rattle.dwz_move_files.proofs.draft.put_tops.Given as goal

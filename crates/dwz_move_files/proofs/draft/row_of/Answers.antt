@@ -4,9 +4,10 @@ use Rattle.dwz_def_tops.specs.Spots.{tops_of, units_of}
 use Rattle.dwz_graph.specs.Files.{docs_of}
 use Rattle.dwz_def_reading.specs.Files.{around_of}
 use Rattle.dwz_def_plan.specs.Plan.{is_pinned}
-use Rattle.dwz_move.specs.Known.{KnowsRefs, StandsAt, tops_of_refs}
+use Rattle.dwz_move.specs.Known.{KnowsRefs, tops_of_refs}
+use Rattle.dwz_graph.specs.Standing.{StandsAt}
 use Rattle.dwz_unit.specs.Rows.{Source, units_of as raw_units}
-use Rattle.dwz_law_files.specs.Across.{name_at}
+use Rattle.dwz_graph.specs.Across.{name_at}
 use Rattle.dwz_move_files.proofs.DraftSteps.{knows_own, number_low, place_named, stands_end, weighs}
 use Rattle.dwz_move_files.proofs.draft.row_of.Goals as goal
 

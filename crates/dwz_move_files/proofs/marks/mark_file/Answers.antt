@@ -8,8 +8,8 @@ use Rattle.dwz_def_plan.specs.Plan.{pinned_in}
 use Rattle.dwz_move.specs.Known.{tops_of_refs}
 use Rattle.dwz_move.specs.Marked.{Marks, MarksIf}
 use Rattle.dwz_unit.specs.Rows.{units_of}
-use Rattle.dwz_law_files.specs.Across.{file_units, name_at}
-use Rattle.dwz_law_files.proofs.FileEntries.{all_entries, names_entries}
+use Rattle.dwz_graph.specs.Across.{file_units, name_at}
+use Rattle.dwz_graph.proofs.FileEntries.{all_entries, names_entries}
 use Rattle.dwz_move_files.specs.Lists.{entries_of, uleb_tops}
 use Rattle.dwz_move_files.proofs.FileMarks.{units_mean}
 use Rattle.dwz_move_files.proofs.FileSteps.{file_any, file_uleb, knows_at, refs_low, rows_low}

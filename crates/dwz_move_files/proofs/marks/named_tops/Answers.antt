@@ -1,5 +1,5 @@
 use Rattle.std.proofs.Common.{◌≤◌, length, arith}
-use Rattle.dwz_law_files.specs.Across.{starts_at}
+use Rattle.dwz_graph.specs.Across.{starts_at}
 use Rattle.dwz_def_tops.specs.Alike.{is_in, names_in_unit}
 use Rattle.dwz_graph.specs.Files.{docs_of}
 use Rattle.dwz_def_plan.specs.Plan.{is_pinned, pinned_in}

@@ -3,7 +3,7 @@ use Rattle.dwz_def_tops.specs.Spots.{units_of}
 use Rattle.dwz_graph.specs.Files.{docs_of}
 use Rattle.dwz_def_plan.specs.Plan.{pinned_in}
 use Rattle.std.proofs.Common.{length}
-use Rattle.dwz_law_files.specs.Across.{starts_at}
+use Rattle.dwz_graph.specs.Across.{starts_at}
 use Rattle.dwz_move_files.proofs.MarkSteps.{MarkedBy}
 use Rattle.dwz_move_files.proofs.marks.named_tops.Given as goal
 

@@ -2,8 +2,8 @@ use Rattle.std.proofs.Common.{◌+◌, ◌∙◌, false, sym, ap, arith}
 use Rattle.std.specs.Prelude.{replicate}
 use Rattle.dwz_def_reading.proofs.ListFacts.{item_got}
 use Rattle.dwz_graph.specs.declared.index.Starts.{Starts}
-use Rattle.dwz_law_files.specs.Across.{starts_at}
-use Rattle.dwz_law_files.proofs.FileCounts.{next_starts_are}
+use Rattle.dwz_graph.specs.Across.{starts_at}
+use Rattle.dwz_graph.proofs.FileCounts.{next_starts_are}
 use Rattle.dwz_move_files.proofs.MarkSteps.{put_more, starts_zero}
 use Rattle.dwz_move_files.proofs.marks.unset_flags.Goals as goal
 

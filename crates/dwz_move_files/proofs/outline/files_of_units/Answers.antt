@@ -2,8 +2,8 @@ use Rattle.std.proofs.Common.{◌∙◌, arith}
 use Rattle.dwz_def_reading.proofs.ListFacts.{item_got}
 use Rattle.dwz_graph.specs.Files.{docs_of}
 use Rattle.dwz_graph.proofs.FileLemmas.{files_few}
-use Rattle.dwz_law_files.proofs.FileCounts.{files_many}
-use Rattle.dwz_law_files.proofs.UnitFiles.{files_end, files_none, files_step}
+use Rattle.dwz_graph.proofs.FileCounts.{files_many}
+use Rattle.dwz_graph.proofs.UnitFiles.{files_end, files_none, files_step}
 use Rattle.dwz_move_files.proofs.outline.files_of_units.Goals as goal
 
 pub loop-number-init : goal.loop-number-init

@@ -1,6 +1,6 @@
 use Rattle.std.proofs.Common.{◌≡◌, take}
 use Rattle.dwz_graph.specs.Files.{docs_of}
-use Rattle.dwz_law_files.proofs.UnitFiles.{files_from}
+use Rattle.dwz_graph.proofs.UnitFiles.{files_from}
 use Rattle.dwz_move_files.proofs.outline.files_of_units.Given as goal
 
 abbrev pub invariant-loop-number : goal.invariant-loop-number

@@ -1,6 +1,6 @@
 use Rattle.std.proofs.Common.{◌∙◌, arith}
 use Rattle.dwz_graph.proofs.FileLemmas.{files_few}
-use Rattle.dwz_law_files.proofs.FileCounts.{files_many}
+use Rattle.dwz_graph.proofs.FileCounts.{files_many}
 use Rattle.dwz_move_files.proofs.outline.with_units.Goals as goal
 
 pub overflow_cast-files : goal.overflow_cast-files

@@ -5,8 +5,8 @@ use Rattle.dwz_def_tops.specs.Spots.{tops_of, units_of}
 use Rattle.dwz_graph.specs.Files.{docs_of}
 use Rattle.dwz_graph.proofs.FileLemmas.{files_few}
 use Rattle.dwz_graph.proofs.IndexesThere.{indexes_there}
-use Rattle.dwz_law_files.specs.Across.{starts_at}
-use Rattle.dwz_law_files.proofs.FileCounts.{all_ends, are_many}
+use Rattle.dwz_graph.specs.Across.{starts_at}
+use Rattle.dwz_graph.proofs.FileCounts.{all_ends, are_many}
 use Rattle.dwz_move_files.specs.declared.draft.Draft.{Draft}
 use Rattle.dwz_move_files.specs.Drafts.{AreParts, IsFileDraft}
 use Rattle.dwz_move_files.proofs.PartSteps.{file_parts}

@@ -1,7 +1,7 @@
 use Rattle.std.proofs.Common.{◌≡◌, ℕ, ◌+◌, ◌-◌, ◌≤◌, List, length, Some, slice_get}
 use Rattle.dwz_def_reading.specs.Documents.{Doc}
 use Rattle.dwz_graph.specs.Index.{Index}
-use Rattle.dwz_law_files.specs.Across.{starts_at}
+use Rattle.dwz_graph.specs.Across.{starts_at}
 use Rattle.dwz_move_files.specs.Stretches.{AreStretches}
 use Rattle.dwz_move_files.proofs.stretches.cut_file.Given as goal
 

@@ -1,8 +1,8 @@
 use Rattle.std.proofs.Common.{◌≡◌, ℕ, ◌+◌, List, length, Some, slice_get, sym, ap, subst, ◌∙◌}
 use Rattle.dwz_def_reading.proofs.ListFacts.{item_got}
 use Rattle.dwz_graph.specs.declared.index.TopEntry.{TopEntry}
-use Rattle.dwz_law_files.specs.Across.{starts_at}
-use Rattle.dwz_law_files.proofs.FileCounts.{next_starts_are}
+use Rattle.dwz_graph.specs.Across.{starts_at}
+use Rattle.dwz_graph.proofs.FileCounts.{next_starts_are}
 use Rattle.dwz_move_files.specs.Stretches.{AreStretches}
 use Rattle.dwz_move_files.proofs.StretchSteps.{none_cut}
 use Rattle.dwz_move_files.proofs.stretches.cut_files.Goals as goal

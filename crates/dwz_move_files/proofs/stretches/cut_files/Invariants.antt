@@ -1,7 +1,7 @@
 use Rattle.std.proofs.Common.{ℕ, List}
 use Rattle.dwz_def_reading.specs.Documents.{Doc}
 use Rattle.dwz_graph.specs.Indexed.{AreIndexes}
-use Rattle.dwz_law_files.specs.Across.{starts_at}
+use Rattle.dwz_graph.specs.Across.{starts_at}
 use Rattle.dwz_move_files.specs.Stretches.{AreStretches}
 use Rattle.dwz_move_files.proofs.stretches.cut_files.Given as goal
 

@@ -2,7 +2,7 @@ use Rattle.std.proofs.Common.{ℕ, ◌<◌, length, subst, ◌∙◌, sym, arith
 use Rattle.std.proofs.lemmas.Option.{get_or_from_slice_get}
 use Rattle.dwz_def_reading.proofs.ListFacts.{got_below, got_there}
 use Rattle.dwz_graph.specs.Files.{docs_of}
-use Rattle.dwz_law_files.proofs.FileCounts.{all_ends, are_many}
+use Rattle.dwz_graph.proofs.FileCounts.{all_ends, are_many}
 use Rattle.dwz_move_files.specs.Stretches.{AreStretches}
 use Rattle.dwz_move_files.proofs.FilesLow.{tops_few}
 use Rattle.dwz_move_files.proofs.OutlineFileSteps.{few_steps}

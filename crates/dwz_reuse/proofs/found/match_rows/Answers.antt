@@ -1,6 +1,6 @@
 use Rattle.std.proofs.Common.{◌≡◌, ℕ, List, length, sym, ap, subst, ◌∙◌, arith}
 use Rattle.dwz_graph.specs.Files.{docs_of}
-use Rattle.dwz_law_files.proofs.FilesFew.{all_small}
+use Rattle.dwz_graph.proofs.FilesFew.{all_small}
 use Rattle.dwz_match.specs.MatchRows.{AreKinRows}
 use Rattle.dwz_match.proofs.RowFacts.{match_law}
 use Rattle.dwz_reuse.proofs.LookSizes.{classes_many, cross_few}

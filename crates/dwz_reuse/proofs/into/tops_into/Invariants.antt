@@ -3,7 +3,7 @@ use Rattle.dwz_check_index.specs.Both.{from_top}
 use Rattle.dwz_check_index.specs.Index.{IsCrossIndex}
 use Rattle.dwz_def_reading.specs.Documents.{Doc}
 use Rattle.dwz_def_taken.specs.Beside.{own_tops, reused_of}
-use Rattle.dwz_match_files.specs.Read.{IsCommonRead}
+use Rattle.dwz_reuse.specs.Read.{IsCommonRead}
 use Rattle.dwz_reuse.specs.Into.{common_name}
 use Rattle.dwz_move.specs.Known.{tops_of_refs}
 use Rattle.dwz_unit.specs.Rows.{units_of}

@@ -2,7 +2,7 @@ use Rattle.std.proofs.Common.{◌+◌, ℕ, None, length, sym, ap, subst, ◌∙
 use Rattle.std.proofs.lemmas.Result.{IfOk-weaker}
 use Rattle.dwz_check_labels.specs.FilesSaid.{IsNamed, around_given}
 use Rattle.dwz_def_reading.proofs.MeaningUnits.{units_agree}
-use Rattle.dwz_match_files.proofs.CrossFew.{cross_fit}
+use Rattle.dwz_reuse.proofs.CrossFew.{cross_fit}
 use Rattle.dwz_unit.specs.Rows.{units_of}
 use Rattle.dwz_reuse.proofs.AllInside.{joined_inside}
 use Rattle.dwz_reuse.proofs.look.all_labels.Goals as goal

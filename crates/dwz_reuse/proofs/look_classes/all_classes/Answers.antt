@@ -13,8 +13,8 @@ use Rattle.dwz_label_files.proofs.LabelLemmas.{all_shown, targets_low, tops_show
 use Rattle.dwz_match.specs.Bare.{AreCommonNames, ShowBare}
 use Rattle.dwz_match.specs.ClassLaws.{AreCommonFlags}
 use Rattle.dwz_match.proofs.FlagFacts.{flags_law}
-use Rattle.dwz_match_files.proofs.CommonPlaced.{compile_keys}
-use Rattle.dwz_match_files.proofs.PlaceNames.{name_at, names_found}
+use Rattle.dwz_reuse.proofs.CommonPlaced.{compile_keys}
+use Rattle.dwz_reuse.proofs.PlaceNames.{name_at, names_found}
 use Rattle.dwz_reuse.proofs.LookSizes.{cross_few}
 use Rattle.dwz_reuse.proofs.look_classes.all_classes.Goals as goal
 

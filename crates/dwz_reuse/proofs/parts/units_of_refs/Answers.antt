@@ -1,8 +1,8 @@
 use Rattle.std.proofs.Common.{◌≡◌, ◌<◌, ℕ, Some, get_or, ap, sym, ◌∙◌}
 use Rattle.dwz_def_reading.specs.Units.{entries_in}
-use Rattle.dwz_graph.proofs.RowLemmas.{row_there}
+use Rattle.dwz_unit.proofs.RowsFound.{row_there}
 use Rattle.dwz_move.proofs.IntoLemmas.{entry_at, refs_next}
-use Rattle.dwz_move.proofs.RowSteps.{shown_row}
+use Rattle.dwz_graph.proofs.RowSteps.{shown_row}
 use Rattle.dwz_unit.specs.declared.rows.RawEntry.{RawEntry}
 use Rattle.dwz_unit.specs.Rows.{units_of}
 use Rattle.dwz_reuse.proofs.parts.units_of_refs.Goals as goal

@@ -8,11 +8,11 @@ use Rattle.dwz_def_taken.proofs.NamesOver.{named_over}
 use Rattle.dwz_def_taken.proofs.PlaceLemmas.{whole}
 use Rattle.dwz_def_tops.specs.Spots.{Top, tops_of, units_of}
 use Rattle.dwz_graph.specs.Files.{docs_of}
-use Rattle.dwz_law_files.proofs.FilesFew.{all_small}
+use Rattle.dwz_graph.proofs.FilesFew.{all_small}
 use Rattle.dwz_match.specs.RowLaws.{HaveTops}
 use Rattle.dwz_match.specs.Units.{MovesIn}
-use Rattle.dwz_match_files.proofs.LeastLow.{least_low}
-use Rattle.dwz_match_files.proofs.TopFiles.{rows_many}
+use Rattle.dwz_reuse.proofs.LeastLow.{least_low}
+use Rattle.dwz_reuse.proofs.TopFiles.{rows_many}
 use Rattle.dwz_takes.specs.declared.rows.Rows.{Rows}
 use Rattle.dwz_takes.specs.Takes.{AreBelow, list_at}
 use Rattle.dwz_match.specs.Parts.{HavePartTops}

@@ -5,7 +5,7 @@ use Rattle.dwz_def_tops.specs.Spots.{Top, tops_of, units_of}
 use Rattle.dwz_groups.specs.declared.tops.TopRow.{TopRow}
 use Rattle.dwz_check_labels.proofs.StepLemmas.{found_or}
 use Rattle.dwz_plan.specs.Shows.{ShowsRows}
-use Rattle.dwz_match_files.proofs.TopFiles.{next_file, row_top, rows_many}
+use Rattle.dwz_reuse.proofs.TopFiles.{next_file, row_top, rows_many}
 use Rattle.dwz_reuse.proofs.top_units.top_units.Goals as goal
 
 abbrev none : TopRow

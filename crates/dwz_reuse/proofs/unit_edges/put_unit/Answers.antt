@@ -8,7 +8,8 @@ use Rattle.dwz_def_reading.proofs.CaseFacts.{on_ok}
 use Rattle.dwz_def_taken.specs.Takes.{unit_goes_to}
 use Rattle.dwz_def_tops.specs.Alike.{is_in}
 use Rattle.dwz_graph.specs.Rows.{AreRowsMeant, nodes}
-use Rattle.dwz_graph.proofs.UnitThere.{same_unit, unit_ends, unit_there}
+use Rattle.dwz_graph.proofs.UnitThere.{same_unit}
+use Rattle.dwz_unit.proofs.UnitThere.{unit_ends, unit_there}
 use Rattle.dwz_move.specs.Bound.{EachInto}
 use Rattle.dwz_move.proofs.RowMarks.{rows_said}
 use Rattle.dwz_move.proofs.UnitSteps.{there, unit_into, unit_meant, unit_said}

@@ -1,7 +1,7 @@
 use Rattle.std.proofs.Common.{◌≡◌, ◌+◌, ℕ, List, [], Vec, Global, get_or, length, map, take, suc, ap, subst, ◌∙◌, add-one, arith}
 use Rattle.dwz_def_reading.specs.Files.{longest_files}
-use Rattle.dwz_def_run_over.specs.Reuses.{common_got}
-use Rattle.dwz_def_run_batch.specs.Batches.{all_got, bytes_together}
+use Rattle.dwz_def_run.specs.Reuses.{common_got}
+use Rattle.dwz_def_run.specs.Batches.{all_got, bytes_together}
 use Rattle.dwz_run.proofs.JobsDone.{all_few, bytes_more, is_past}
 use Rattle.dwz_run.proofs.batched.first_past.Goals as goal
 

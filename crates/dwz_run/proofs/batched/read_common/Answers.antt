@@ -2,9 +2,9 @@ use Rattle.std.proofs.Common.{◌≡◌, ℕ, List, [], Vec, Global, length, map
 use Rattle.dwz_model.specs.declared.fault.GraphErr.{GraphErr}
 use Rattle.dwz_def_reading.specs.Finished.{beside_meaning}
 use Rattle.dwz_graph.specs.Files.{FilesFail}
-use Rattle.dwz_def_run_over.specs.Reuses.{common_got}
-use Rattle.dwz_def_run_batch.specs.Batches.{IsCommonRefused}
-use Rattle.dwz_def_run_batch.specs.Yields.{batching}
+use Rattle.dwz_def_run.specs.Reuses.{common_got}
+use Rattle.dwz_def_run.specs.Batches.{IsCommonRefused}
+use Rattle.dwz_def_run.specs.Yields.{batching}
 use Rattle.dwz_run.proofs.ByNumber.{common_is_read, common_is_refused}
 use Rattle.dwz_run.proofs.batched.read_common.Goals as goal
 

@@ -1,9 +1,9 @@
 use Rattle.std.proofs.Common.{◌≡◌, ◌+◌, ◌-◌, ◌<◌, ◌≤◌, ℕ, suc, List, [], ◌∷◌, ◌++◌, Vec, Global, get_or, length, map, take, drop, sym, ap, ◌∙◌, add-one, arith}
 use Rattle.std.proofs.lemmas.List.{get_or_past, length-map}
-use Rattle.dwz_def_run_over.specs.Comes.{reusing}
-use Rattle.dwz_def_run_over.specs.Reuses.{common_got}
-use Rattle.dwz_def_run_batch.specs.Batches.{options_alone}
-use Rattle.dwz_def_run_batch.specs.Yields.{batching}
+use Rattle.dwz_def_run.specs.Comes.{reusing}
+use Rattle.dwz_def_run.specs.Reuses.{common_got}
+use Rattle.dwz_def_run.specs.Batches.{options_alone}
+use Rattle.dwz_def_run.specs.Yields.{batching}
 use Rattle.dwz_law_batch.specs.Jobs.{file_at}
 use Rattle.dwz_words.specs.declared.options.Options.{Options}
 use Rattle.dwz_run.proofs.OneJob.{alone_got, one_between}

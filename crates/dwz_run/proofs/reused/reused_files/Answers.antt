@@ -2,7 +2,7 @@ use Rattle.std.proofs.Common.{◌≡◌, ℕ, suc, List, [], Vec, Global, get_or
 use Rattle.std.specs.List.{range_with_len}
 use Rattle.std.proofs.lemmas.List.{length-map}
 use Rattle.std.proofs.lemmas.List.FromFn.{length-map-range_with_len}
-use Rattle.dwz_def_run_over.specs.Comes.{reusing}
+use Rattle.dwz_def_run.specs.Comes.{reusing}
 use Rattle.dwz_run.proofs.FilesReused.{behind_got, reuses_got, tail_got}
 use Rattle.dwz_run.proofs.reused.reused_files.Goals as goal
 

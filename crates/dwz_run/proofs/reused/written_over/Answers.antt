@@ -1,8 +1,8 @@
 use Rattle.std.proofs.Common.{ℕ, List, Vec, Global, map, subst, ◌∙◌}
 use Rattle.std.proofs.lemmas.List.{length-map}
 use Rattle.std.proofs.lemmas.Result.{err_from_is_err_and}
-use Rattle.dwz_def_run_over.specs.Comes.{reusing}
-use Rattle.dwz_def_run_over.specs.Reuses.{ReusesOf}
+use Rattle.dwz_def_run.specs.Comes.{reusing}
+use Rattle.dwz_def_run.specs.Reuses.{ReusesOf}
 use Rattle.dwz_run_course.specs.Answers.{IsAnswer}
 use Rattle.dwz_run.proofs.FilesReused.{are, given_files, has, has_common, is_over, known, rows_over, unread_over, x}
 use Rattle.dwz_run.proofs.reused.written_over.Goals as goal

@@ -3,7 +3,7 @@ use Rattle.dwz_def_reading.specs.ElfLayout.{too_large}
 use Rattle.dwz_def_reading.proofs.ListFacts.{item_got}
 use Rattle.dwz_def_readback.specs.Files.{paths, texts}
 use Rattle.dwz_graph.specs.declared.file.File.{File}
-use Rattle.dwz_layout_numbers.specs.Images.{starts_from}
+use Rattle.dwz_graph.specs.EntryCounts.{starts_from}
 use Rattle.dwz_layout.specs.declared.order.UnitItems.{UnitItems}
 use Rattle.dwz_def_readback.specs.Sound.{FewTexts}
 use Rattle.dwz_def_encoding.specs.Placing.{lines_bytes, texts_bytes}

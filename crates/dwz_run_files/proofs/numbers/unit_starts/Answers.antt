@@ -2,7 +2,7 @@ use Rattle.std.proofs.Common.{[], sym, ap}
 use Rattle.dwz_def_reading.specs.Units.{RawUnit}
 use Rattle.dwz_unit.specs.declared.rows.RawUnit.{RawUnit as UnitOfCode}
 use Rattle.dwz_unit.specs.Rows.{units_of}
-use Rattle.dwz_graph.proofs.UnitThere.{unit_there}
+use Rattle.dwz_unit.proofs.UnitThere.{unit_there}
 use Rattle.dwz_encode_texts.proofs.TextSteps.{map_push}
 use Rattle.dwz_run_files.proofs.numbers.unit_starts.Goals as goal
 

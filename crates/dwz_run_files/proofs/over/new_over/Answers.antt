@@ -1,7 +1,7 @@
 use Rattle.std.proofs.Common.{ℕ, List, ◌+◌, length, refl, sym, subst, ap, ◌∙◌, arith}
 use Rattle.dwz_graph.specs.Files.{docs_of}
 use Rattle.dwz_plan.specs.declared.plan.Partial.{Partial}
-use Rattle.dwz_law_over.specs.CommonRows.{standing_beside}
+use Rattle.dwz_law_layout.specs.CommonRows.{standing_beside}
 use Rattle.dwz_run_files.specs.OverRun.{IsStanding}
 use Rattle.dwz_run_files.proofs.OverReady.{new_over}
 use Rattle.dwz_run_files.proofs.StandingThere.{room, standing_so}

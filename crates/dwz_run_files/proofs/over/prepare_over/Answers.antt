@@ -2,7 +2,7 @@ use Rattle.std.proofs.Common.{ℕ, List, Option, length, refl, ap, subst, ◌∙
 use Rattle.dwz_def_reading.specs.Units.{RawUnit}
 use Rattle.dwz_layout.specs.declared.order.UnitItems.{UnitItems}
 use Rattle.dwz_law_layout.specs.Beside.{Over}
-use Rattle.dwz_law_over.specs.CommonRows.{standing_beside}
+use Rattle.dwz_law_layout.specs.CommonRows.{standing_beside}
 use Rattle.dwz_encode_texts.specs.declared.pruning.PrunedFile.{PrunedFile}
 use Rattle.dwz_run_files.specs.Moved.{AreMoved, ArePruned}
 use Rattle.dwz_run_files.proofs.OverJoined.{AreJoinedOver, joined}

@@ -3,7 +3,7 @@ use Rattle.dwz_def_taken.specs.Beside.{reused_of}
 use Rattle.dwz_def_taken.specs.Takes.{IsFixed}
 use Rattle.dwz_def_taken.specs.declared.fixed.Fixed.{Fixed}
 use Rattle.dwz_graph.specs.Files.{docs_of}
-use Rattle.dwz_plan_files.specs.Over.{ArePlannedOver}
+use Rattle.dwz_layout_input.specs.PlannedOver.{ArePlannedOver}
 use Rattle.dwz_run_files.specs.declared.settled.SettledRun.{SettledRun}
 use Rattle.dwz_run_files.proofs.OverSettled.{settled_over}
 use Rattle.dwz_run_files.proofs.settled.settle_over.Goals as goal

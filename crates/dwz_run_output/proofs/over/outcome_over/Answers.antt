@@ -6,8 +6,8 @@ use Rattle.dwz_def_reading.specs.Values.{AreBytes}
 use Rattle.dwz_def_output.specs.NewFiles.{IsFound}
 use Rattle.dwz_def_over.specs.Over.{run_over, stands}
 use Rattle.dwz_def_run.specs.Out.{files_puts_by, sup_name, summary_lines_by}
-use Rattle.dwz_def_run_over.specs.Comes.{reusing}
-use Rattle.dwz_def_run_over.specs.Reuses.{ReusesOf}
+use Rattle.dwz_def_run.specs.Comes.{reusing}
+use Rattle.dwz_def_run.specs.Reuses.{ReusesOf}
 use Rattle.dwz_outside.specs.declared.puts.Put.{Put}
 use Rattle.dwz_run_output.specs.Making.{AreBefore, AreBytesOf, AreMadeSo}
 use Rattle.dwz_run_output.proofs.Outcomes.{err_answer, none_of_files, numbered, sections_found}

@@ -2,7 +2,7 @@ use Rattle.std.proofs.Common.{subst, ℕ}
 use Rattle.dwz_def_reading.specs.Documents.{Node}
 use Rattle.dwz_expand_layout.specs.Shown.{keys_of}
 use Rattle.dwz_expand_passes.specs.Files.{AnswersEntry}
-use Rattle.dwz_law_copies.specs.Numbered.{key_in}
+use Rattle.dwz_expand_passes.specs.Numbered.{key_in}
 use Rattle.dwz_expand_passes.proofs.LineSteps.{line_answer, node_there}
 use Rattle.dwz_expand_passes.proofs.copied.CopiedEntry.copy.Goals as goal
 

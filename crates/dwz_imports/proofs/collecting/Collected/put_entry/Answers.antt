@@ -4,7 +4,7 @@ use Rattle.dwz_def_reading.proofs.CaseFacts.{on_ok}
 use Rattle.dwz_unit.specs.declared.rows.RawEntry.{RawEntry as EntryOfCode}
 use Rattle.dwz_unit.specs.Rows.{units_of}
 use Rattle.dwz_graph.proofs.RowUnits.{unit_within}
-use Rattle.dwz_graph.proofs.RowLemmas.{entry_row, row_is}
+use Rattle.dwz_unit.proofs.RowsFound.{entry_row, row_is}
 use Rattle.dwz_imports.specs.Said.{raw_beside}
 use Rattle.dwz_imports.proofs.RowParts.{entry_edges, other_edges, other_flag, parts_are, place_of_unit, some_flag, told, whatever}
 use Rattle.dwz_imports.proofs.collecting.Collected.put_entry.Goals as goal

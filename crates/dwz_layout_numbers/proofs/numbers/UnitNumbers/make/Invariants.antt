@@ -1,6 +1,6 @@
 use Rattle.std.proofs.Common.{◌≡◌, ℕ, List, drop, length}
 use Rattle.dwz_def_reading.specs.Documents.{Doc}
-use Rattle.dwz_def_plan.specs.Moves.{Move}
+use Rattle.dwz_def_images.specs.Moves.{Move}
 use Rattle.dwz_def_images.specs.Units.{common_units}
 use Rattle.dwz_layout_numbers.specs.Numbering.{HaveUnits}
 use Rattle.dwz_layout_numbers.proofs.MakeLemmas.{Going}

@@ -1,6 +1,6 @@
 use Rattle.std.proofs.Common.{ℕ, List, Vec, Global, map}
-use Rattle.dwz_def_run_over.specs.Reuses.{common_got}
-use Rattle.dwz_def_run_batch.specs.Yields.{batching}
+use Rattle.dwz_def_run.specs.Reuses.{common_got}
+use Rattle.dwz_def_run.specs.Yields.{batching}
 use Rattle.dwz_law_batch.specs.Jobs.{file_at}
 use Rattle.dwz_run.proofs.jobs.FileJobsJob.work.Goals as goal
 

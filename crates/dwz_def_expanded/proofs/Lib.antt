@@ -1,3 +1,0 @@
-pub mod OneRefusal
-pub mod EitherOne
-pub mod OfSections

@@ -1,3 +1,0 @@
-pub mod NewFile
-pub mod After
-pub mod Laws

@@ -1,4 +1,0 @@
-pub mod Batches
-pub mod Yields
-pub mod Stops
-pub mod Laws

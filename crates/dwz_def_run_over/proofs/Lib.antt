@@ -1,9 +1,0 @@
-pub mod OneReuse
-pub mod Stopping
-pub mod Gotten
-pub mod HeldOver
-pub mod NotPut
-pub mod Lengths
-pub mod SomeTaken
-pub mod OneComes
-pub mod FitReuse

@@ -1,4 +1,0 @@
-pub mod Reuses
-pub mod Comes
-pub mod Stops
-pub mod Laws

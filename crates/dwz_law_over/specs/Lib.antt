@@ -1,3 +1,0 @@
-pub mod CommonRows
-pub mod OverLaws
-pub mod Either

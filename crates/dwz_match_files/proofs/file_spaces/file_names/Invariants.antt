@@ -1,5 +1,0 @@
-use Rattle.dwz_match_files.specs.FileSpaces.{HaveIndexes}
-use Rattle.dwz_match_files.proofs.file_spaces.file_names.Given as goal
-
-abbrev pub invariant-loop-file : goal.invariant-loop-file
-invariant-loop-file l = HaveIndexes l.files l.file-index l.indexes.items

@@ -1,5 +1,0 @@
-use Rattle.std.proofs.Common.{◌≡◌, false, All, map, take}
-use Rattle.dwz_plan_files.proofs.behind.rows_behind.Given as goal
-
-abbrev pub invariant-loop-number : goal.invariant-loop-number
-invariant-loop-number l = (map (λ row. row.unit) l.rows.items ≡ take l.number l.units) × All (λ row. row.movable ≡ false) l.rows.items

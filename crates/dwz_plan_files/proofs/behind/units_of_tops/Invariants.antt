@@ -1,7 +1,0 @@
-use Rattle.std.proofs.Common.{◌≡◌, ◌+◌, ◌++◌, drop, map}
-use Rattle.dwz_plan_files.specs.Behind.{units_from}
-use Rattle.dwz_plan_files.proofs.behind.units_of_tops.Given as goal
-
-abbrev pub invariant-loop-number : goal.invariant-loop-number
-invariant-loop-number l =
-    l.units.items ++ units_from l.end (l.unit + l.number) (drop l.number (map (λ s. s.top) l.starts)) ≡ units_from l.end l.unit (map (λ s. s.top) l.starts)

@@ -1,4 +1,0 @@
-use Rattle.dwz_plan_files.proofs.laws.space_mark_laws.Goals as goal
-
-pub returns : goal.returns
-returns c = λ moved units marks tops pinned. record { tops = tops; spaces = pinned.each }

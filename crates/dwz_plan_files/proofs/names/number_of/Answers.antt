@@ -1,6 +1,0 @@
-use Rattle.std.proofs.Common.{inr, refl, sym}
-use Rattle.std.proofs.lemmas.Map.Text.{btree_map_updates_str}
-use Rattle.dwz_plan_files.proofs.names.number_of.Goals as goal
-
-pub returns-in_ok-insert-in-None : goal.returns-in_ok-insert-in-None
-returns-in_ok-insert-in-None c = inr (sym c.in-None.ensures.value, refl, btree_map_updates_str c.args.text.now c.args.seen.now c.insert.new.self _ c.in_ok-insert-in-None.ensures.updates)

@@ -1,5 +1,0 @@
-use Rattle.dwz_plan_files.proofs.NumberSteps.{none_more}
-use Rattle.dwz_plan_files.proofs.pinned.no_numbers.Goals as goal
-
-pub loop-preserved : goal.loop-preserved
-loop-preserved c = none_more c.loop.numbers.items c.push.new.self.items c.loop.counter c.loop.invariant c.in_ok-push.ensures.items

@@ -5,7 +5,6 @@ use Rattle.std.proofs.lemmas.List.{length-map}
 use Rattle.std.proofs.Math.Logic.{inl, inr}
 use Rattle.dwz_def_reading.specs.Pair.{Pair}
 use Rattle.dwz_def_reading.specs.Spelling.{SpellsSleb, fits_i64, reach, le_bytes}
-use Rattle.dwz_def_reading.specs.Forms.{form_rows}
 use Rattle.dwz_def_reading.specs.Abbrevs.{SpellsPair}
 use Rattle.dwz_def_reading.specs.Documents.{Attr, Expr, Plain, Sec, Text, Value, only, ref, value_map}
 use Rattle.dwz_def_reading.specs.Entries.{RawAttr}
@@ -13,7 +12,7 @@ use Rattle.dwz_def_reading.specs.Meanings.{IsExpression, IsFileBy, MeansAs, Mean
 use Rattle.dwz_def_reading.specs.Classes.{OfAddress, OfBlock, OfCommonEntry, OfCommonText, OfConstant, OfExpression, OfFlag, OfIndex, OfInfoEntry, OfListIndex}
 use Rattle.dwz_def_reading.specs.Classes.{Class}
 use Rattle.dwz_def_reading.specs.Classes.{OfOffset, OfSignature, OfText, OfTextBySlot, OfTextInLineStr, OfTextInStr, OfUnitEntry, Unread}
-use Rattle.dwz_def_reading.specs.Classes.{class_in, class_of, class_rows}
+use Rattle.dwz_def_reading.specs.Classes.{class_of, class_rows}
 use Rattle.dwz_def_reading.specs.Classes.{names_file, names_list}
 use Rattle.dwz_def_reading.specs.declared.exprs.Operand.{Operand}
 use Rattle.dwz_def_reading.specs.Exprs.{ExprContext, Expression, SpellsExpr, parts_of}
@@ -28,17 +27,12 @@ use Rattle.dwz_def_encoding.specs.Placing.{Chosen, UnitForms, as_constant, as_fi
 use Rattle.dwz_def_encoding.specs.Sound.{HasBytes, SoundAttr, StoresAs}
 use Rattle.dwz_def_encoding.specs.Writing.{block_in, expr_bytes, pair_of, text_or_empty}
 use Rattle.dwz_def_encoding.proofs.ValuesMean.{plain_is, so_not}
-use Rattle.dwz_def_reading.proofs.FixedLemmas.{fixed_written}
-use Rattle.dwz_def_reading.specs.Rows.{has}
 use Rattle.dwz_def_encoding.proofs.PoolLemmas.{le_are}
 use Rattle.dwz_def_encoding.proofs.StoredClasses.{class_agrees, expression_form, exprloc_block, is_bytes, is_number, offset_class, rows_agree, stores_bytes}
 use Rattle.dwz_def_encoding.proofs.FilledParts.{expr_as_long}
+use Rattle.dwz_def_encoding.proofs.FormsKnown.{import_class, implicit_is, no_list, offset_spelled}
 
 -- ---- an attribute that came from a file
-
-pub implicit_is : (form : ℕ) (number : ℤ) (bytes : List ℕ) (raw : Raw) → form ≡ 0x21 → SpellsShape (shape_of written_rows form) number bytes raw → raw ≡ Number number
-unfolding form_rows
-implicit_is form number bytes raw e is = (let is' = subst (λ (f : ℕ). SpellsShape (shape_of written_rows f) number bytes raw) e is in is'.value)
 
 constant_fits : (p : Pair) (bytes : List ℕ) → SpellsPair bytes p → p.form ≡ 0x21 → fits_i64 p.constant ≡ true
 constant_fits p bytes is e = go (eqb p.form 0x21) (eq-eqb p.form 0x21 e) is.constant where
@@ -361,10 +355,6 @@ module _ {K : Type 0} (from : From) (origin : Bases) (a : Attr K) (came : CameFr
   pub came_is : Kinds
   came_is = by_class (class_of a.form) refl came.built (subst (λ (f : ℕ). MeansAs (class_of f) w.scope old w.read.value) same_form w.means.value)
 
-pub import_class : class_of 0x10 ≡ OfInfoEntry
-unfolding class_rows class_in
-import_class = refl
-
 imports_is : {K : Type 0} (a : Attr K) → Imports a → Reference a
 imports_is a is = record {
   class = subst IsEntryClass (sym (ap class_of is.form ∙ import_class)) tt;
@@ -377,14 +367,6 @@ imports_is a is = record {
 }
 
 -- ---- the line table of a partial unit
-
-pub no_list : names_list 0x10 ≡ false
-unfolding has
-no_list = refl
-
-offset_spelled : (number : ℤ) (x : ℕ) → x < 2 ^ 32 → SpellsShape (shape_of written_rows 0x17) number (le_bytes 4 x) (Number (pos x))
-unfolding form_rows
-offset_spelled number x lt = record { content = x; spelled = fixed_written 4 x (omega (arith, lt)); value = refl }
 
 lines_is : {K : Type 0} (a : Attr K) → NamesLines a → Other a
 lines_is a is =

@@ -18,7 +18,7 @@ use Rattle.dwz_def_encoding.specs.Placing.{as_strp_if}
 use Rattle.dwz_def_encoding.specs.Placing.{as_text, fit, fit_as, fit_attr, fit_unit, fit_units, has_text, holder_of, reach_of, ref_form, slot_number, unit_forms, with_keys}
 use Rattle.dwz_def_encoding.specs.Pruned.{AttrStays, StaysAs, StaysIn, UnitStays}
 use Rattle.dwz_def_encoding.specs.Writing.{text_or_empty}
-use Rattle.dwz_def_encoding.proofs.Carrying.{import_class}
+use Rattle.dwz_def_encoding.proofs.FormsKnown.{import_class}
 use Rattle.dwz_def_encoding.proofs.Chosen.{bases_fit}
 use Rattle.dwz_def_encoding.proofs.StoredClasses.{offset_class}
 

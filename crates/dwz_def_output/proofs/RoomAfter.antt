@@ -24,7 +24,7 @@ use Rattle.dwz_def_encoding.specs.Carried.{CarriedUnit, From, OfFile}
 use Rattle.dwz_def_encoding.specs.Fitting.{HasRoom, HasRoomAs, UnitHasRoom}
 use Rattle.dwz_def_encoding.specs.Writing.{Numbering}
 use Rattle.dwz_def_encoding.proofs.CarriedMaps.{unit_carried}
-use Rattle.dwz_def_encoding.proofs.Carrying.{import_class}
+use Rattle.dwz_def_encoding.proofs.FormsKnown.{import_class}
 use Rattle.dwz_def_encoding.proofs.Renumbered.{renumbered_room}
 use Rattle.dwz_def_readback.specs.AllFiles.{AreRead}
 use Rattle.dwz_def_readback.specs.Back.{FileOver, WasReadFrom, run_of}

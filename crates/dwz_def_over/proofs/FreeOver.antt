@@ -20,7 +20,7 @@ use Rattle.dwz_def_images.specs.Units.{partial_unit, partial_units, tree}
 use Rattle.dwz_def_images.proofs.NodeLemmas.{EntryOfTop}
 use Rattle.dwz_def_encoding.specs.Bases.{Bases}
 use Rattle.dwz_def_encoding.specs.Carried.{CarriedAttr, CarriedUnit, From}
-use Rattle.dwz_def_encoding.proofs.Carrying.{no_list}
+use Rattle.dwz_def_encoding.proofs.FormsKnown.{no_list}
 use Rattle.dwz_def_encoding.proofs.Chosen.{join_attrs, join_entries}
 use Rattle.dwz_def_encoding.proofs.StoredClasses.{list_form, offset_class, offset_form}
 use Rattle.dwz_def_readback.specs.Files.{origin_in}

@@ -21,7 +21,7 @@ use Rattle.dwz_def_images.specs.Units.{kept_unit, kept_units, out_units, partial
 use Rattle.dwz_def_encoding.specs.Bases.{Bases}
 use Rattle.dwz_def_encoding.specs.Carried.{AttrOperands, CarriedUnit, From, OperandsStand, OperandsStandAs}
 use Rattle.dwz_def_encoding.specs.Meant.{OperandIn, Own, Tells, all_entry_keys, entry_keys, own_of}
-use Rattle.dwz_def_encoding.proofs.Carrying.{import_class}
+use Rattle.dwz_def_encoding.proofs.FormsKnown.{import_class}
 use Rattle.dwz_def_readback.specs.Files.{origin_in}
 use Rattle.dwz_def_readback.proofs.AttrLemmas.{attrs_in, attrs_mapped, kept_attrs}
 use Rattle.dwz_def_readback.proofs.FreeOperands.{UnitAsksNone, asks_operands}

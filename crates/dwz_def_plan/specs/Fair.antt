@@ -1,4 +1,4 @@
--- Rules that say the same of alike tops.
+-- Inner: rules that say the same of alike tops.
 use Rattle.std.specs.Prelude.{◌≡◌, ℕ, true, List}
 use Rattle.dwz_def_tops.specs.Alike.{IsAlike, TopScope}
 use Rattle.dwz_def_tops.specs.Spots.{EntryName, FileUnit}

@@ -39,7 +39,7 @@ use Rattle.dwz_def_encoding.specs.Placing.{KeyedForms, UnitForms, Forms, UnitRol
 use Rattle.dwz_def_encoding.specs.Placing.{as_text, fit}
 use Rattle.dwz_def_encoding.specs.Placing.{fit_as, fit_attr, fit_unit, fit_units, has_text, reach_of, ref_form, unit_forms, slot_number, with_form, with_keys}
 use Rattle.dwz_def_encoding.specs.Writing.{Numbering, text_or_empty}
-use Rattle.dwz_def_encoding.proofs.Carrying.{import_class, no_list}
+use Rattle.dwz_def_encoding.proofs.FormsKnown.{import_class, no_list}
 use Rattle.dwz_def_encoding.proofs.Chosen.{join_attrs, join_entries}
 use Rattle.dwz_def_tops.specs.Shown.{units_keys}
 use Rattle.dwz_def_encoding.proofs.StoredClasses.{list_form, offset_class, offset_form}

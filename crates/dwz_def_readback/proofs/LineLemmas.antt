@@ -36,7 +36,7 @@ use Rattle.dwz_def_encoding.specs.Bases.{Bases, bases_in, offset_in}
 use Rattle.dwz_def_encoding.specs.Carried.{BasesStand, CarriedAttr, CarriedNode, CarriedUnit, FileStands, From, LineFor, NamesLines, NumbersFile}
 use Rattle.dwz_def_encoding.specs.Fitting.{EachAttr}
 use Rattle.dwz_def_encoding.specs.Placing.{CommonUnit, NewUnit}
-use Rattle.dwz_def_encoding.proofs.Carrying.{import_class, no_list}
+use Rattle.dwz_def_encoding.proofs.FormsKnown.{import_class, no_list}
 use Rattle.dwz_def_encoding.proofs.StoredClasses.{offset_class}
 use Rattle.dwz_def_readback.proofs.CarriedRoots.{RootsCarried}
 use Rattle.dwz_def_readback.specs.Files.{origin_in}

@@ -1,5 +1,7 @@
 //! Rows that are used again.
 
+ghost use Rattle.std.specs.Prelude.{◌≡◌, []};
+
 use dwz_expr::Operand;
 use std::alloc::Global;
 
@@ -16,7 +18,11 @@ pub struct Room {
 
 impl Room {
     /// Empty rows.
-    pub fn new(alloc: Global) -> Room {
+    pub fn new(alloc: Global) -> Room
+        ensures made { result.made.items ≡ [] }
+        ensures operands { result.operands.items ≡ [] }
+        ensures path { result.path.items ≡ [] }
+    {
         Room {
             made: Vec::new(alloc),
             operands: Vec::new(alloc),

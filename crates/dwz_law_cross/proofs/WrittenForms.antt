@@ -23,7 +23,7 @@ use Rattle.dwz_def_encoding.specs.Bases.{Bases}
 use Rattle.dwz_def_encoding.specs.Carried.{CarriedAttr, CarriedUnit, From, IsBuilt, IsBuiltAs}
 use Rattle.dwz_def_encoding.specs.Fitting.{EachAttr, depth}
 use Rattle.dwz_def_encoding.specs.Placing.{Chosen, Forms, KeyedForms, UnitForms, fit_as, fit_attr, fit_unit, fit_units, holder_of, unit_forms, with_keys}
-use Rattle.dwz_def_encoding.proofs.Carrying.{import_class}
+use Rattle.dwz_def_encoding.proofs.FormsKnown.{import_class}
 use Rattle.dwz_def_encoding.proofs.Chosen.{join_attrs, join_entries}
 use Rattle.dwz_def_encoding.proofs.Places.{IsSame}
 use Rattle.dwz_def_encoding.proofs.StoredClasses.{offset_class}

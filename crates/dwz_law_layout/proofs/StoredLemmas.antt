@@ -11,7 +11,7 @@ use Rattle.dwz_def_reading.specs.Classes.{Class, class_of, class_rows}
 use Rattle.dwz_def_reading.specs.Pair.{Pair}
 use Rattle.dwz_def_encoding.specs.Carried.{IsStored}
 use Rattle.dwz_def_encoding.proofs.StoredClasses.{class_agrees, is_bytes, is_number, rows_agree, stores_bytes}
-use Rattle.dwz_def_encoding.proofs.Carrying.{implicit_is}
+use Rattle.dwz_def_encoding.proofs.FormsKnown.{implicit_is}
 use Rattle.dwz_law_layout.proofs.FormWays.{is_read}
 
 module _ (a : RawAttr) (stored : IsStored a) where

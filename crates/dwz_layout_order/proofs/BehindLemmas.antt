@@ -8,14 +8,12 @@ use Rattle.dwz_def_reading.proofs.ListFacts.{got_below, in_cases}
 use Rattle.dwz_def_reading.specs.Documents.{Doc}
 use Rattle.dwz_def_tops.proofs.Members.{in_map_from, nth_get}
 use Rattle.dwz_def_tops.specs.Spots.{EntryName, FileUnit, file_numbers, units_of}
-use Rattle.dwz_groups.specs.declared.tops.TopRow.{TopRow}
 use Rattle.dwz_groups.specs.declared.tops.Tops.{Tops}
 use Rattle.dwz_def_images.specs.Homes.{Common, Home, Local, Rule}
 use Rattle.dwz_def_images.specs.Moves.{plan}
 use Rattle.dwz_def_images.specs.Plan.{PartialUnit, distinct, local_partials, partial_with, partials, partials_at, representatives, users_of}
 use Rattle.dwz_def_images.proofs.PlanLemmas.{distinct_in}
 use Rattle.dwz_def_images.proofs.UserLemmas.{Numbered, user_unit}
-use Rattle.dwz_plan.specs.declared.plan.Home.{Home as Place}
 use Rattle.dwz_plan.specs.declared.plan.Home.TheVariants.{Stay as InUnit}
 use Rattle.dwz_plan.specs.Planned.{Planned}
 use Rattle.dwz_plan.specs.Shows.{ShowsPlan, ShowsTops}

@@ -28,7 +28,8 @@ use Rattle.dwz_def_run.proofs.BatchesStopping.{held_law, keeps_law, not_put_law,
 use Rattle.dwz_run.specs.Batched.{AsksToBatch, ComesAlone, HoldAlone, IsBackAlone, files_of}
 use Rattle.dwz_run.proofs.CommonName.{of_either}
 use Rattle.dwz_run.proofs.FirstGot.{first_held}
-use Rattle.dwz_run.proofs.OfBytes.{bytes_at, each_bytes}
+use Rattle.dwz_def_output.proofs.FilesRead.{content_bytes}
+use Rattle.dwz_run.proofs.OfBytes.{each_bytes}
 
 -- ---- contents are bytes
 
@@ -36,7 +37,7 @@ file_bytes : (contents : List (List ℕ)) → Each AreBytes contents → (names 
     → AreBytes file.content
 unfolding got_from
 file_bytes contents all [] n file is = absurd is
-file_bytes contents all (name ∷ names) n file (inl is) = subst AreBytes (ap (λ (f : FileGot). f.content) is) (bytes_at contents all n)
+file_bytes contents all (name ∷ names) n file (inl is) = subst AreBytes (ap (λ (f : FileGot). f.content) is) (content_bytes contents all n)
 file_bytes contents all (name ∷ names) n file (inr is) = file_bytes contents all names (suc n) file is
 
 module _ (o : Options) (fit : FitTogether o) (common : List ℕ) (batches : o.batch ≡ Some common) where

@@ -14,17 +14,17 @@ use Rattle.dwz_words.specs.declared.options.Options.{Options}
 use Rattle.dwz_def_run.specs.Compares.{common_in}
 use Rattle.dwz_def_run.specs.Expands.{IsOneRead, one_in}
 use Rattle.dwz_run.specs.Expanding.{MeansAfter, ReadsAfter}
-use Rattle.dwz_run.proofs.OfBytes.{bytes_at}
+use Rattle.dwz_def_output.proofs.FilesRead.{content_bytes}
 
 module _ (contents : List (List ℕ)) (all : Each AreBytes contents) where
   file_bytes : (sup : Option (List ℕ)) → AreBytes (one_in sup contents)
-  file_bytes None = bytes_at contents all 0
-  file_bytes (Some name) = bytes_at contents all 1
+  file_bytes None = content_bytes contents all 0
+  file_bytes (Some name) = content_bytes contents all 1
 
   common_bytes : (sup : Option (List ℕ)) (common : Option FileRead) → option_map (λ c. c.bytes) common ≡ common_in sup contents → CommonIsBytes common
   common_bytes sup None e = tt
   common_bytes None (Some c) e = absurd cc
-  common_bytes (Some name) (Some c) e = subst AreBytes (sym (same c.bytes (get_or contents 0 []) e)) (bytes_at contents all 0) where
+  common_bytes (Some name) (Some c) e = subst AreBytes (sym (same c.bytes (get_or contents 0 []) e)) (content_bytes contents all 0) where
     same : (a b : List ℕ) → Some a ≡ Some b → a ≡ b
     same a b e = cc
 

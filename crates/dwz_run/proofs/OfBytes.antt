@@ -1,5 +1,5 @@
 -- Contents whose elements are numbers below 256 are contents of bytes.
-use Rattle.std.proofs.Common.{ℕ, zero, suc, ◌^◌, ◌<◌, List, [], ◌∷◌, get_or, arith}
+use Rattle.std.proofs.Common.{ℕ, suc, ◌^◌, ◌<◌, List, [], ◌∷◌, arith}
 use Rattle.std.specs.Prelude.{All}
 use Rattle.dwz_def_reading.specs.Values.{AreBytes}
 use Rattle.dwz_def_reading.specs.Lists.{Each}
@@ -12,9 +12,3 @@ are_bytes (b ∷ content) all = (all 0 0 (omega arith), are_bytes content (λ k 
 pub each_bytes : (contents : List (List ℕ)) → AreOfBytes contents → Each AreBytes contents
 each_bytes [] all = tt
 each_bytes (c ∷ contents) all = (are_bytes c (all 0 [] (omega arith)), each_bytes contents (λ k d less. all (suc k) d (omega (arith, less))))
-
--- so is the content of each number; behind the last one it is empty
-pub bytes_at : (contents : List (List ℕ)) → Each AreBytes contents → (k : ℕ) → AreBytes (get_or contents k [])
-bytes_at [] all k = tt
-bytes_at (c ∷ contents) all zero = all.0
-bytes_at (c ∷ contents) all (suc k) = bytes_at contents all.1 k

@@ -27,14 +27,15 @@ use Rattle.dwz_def_run.proofs.ReusesGotten.{common_held, got_whole}
 use Rattle.dwz_def_run.proofs.NotPut.{holds_over, not_put, stops_over}
 use Rattle.dwz_run.specs.Reusing.{name_over}
 use Rattle.dwz_run.proofs.CommonName.{of_either}
-use Rattle.dwz_run.proofs.OfBytes.{bytes_at, each_bytes}
+use Rattle.dwz_def_output.proofs.FilesRead.{content_bytes}
+use Rattle.dwz_run.proofs.OfBytes.{each_bytes}
 
 -- ---- contents are bytes
 
 each_at : (contents : List (List ℕ)) → Each AreBytes contents → (names : List (List ℕ)) (i : ℕ) → Each AreBytes (map (λ n. get_or contents (suc n) []) (numbers_from i names))
 unfolding numbers_from
 each_at contents all [] i = tt
-each_at contents all (x ∷ names) i = (bytes_at contents all (suc i), each_at contents all names (suc i))
+each_at contents all (x ∷ names) i = (content_bytes contents all (suc i), each_at contents all names (suc i))
 
 module _ (o : Options) (fit : FitTogether o) (common : List ℕ) (reuses : o.reuse ≡ Some common) where
   -- ---- words

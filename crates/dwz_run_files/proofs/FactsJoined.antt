@@ -1,6 +1,6 @@
 -- What was settled, ordered and listed of the files of a run makes facts, and what is written of them is prepared: with the texts of the
 -- common file it can be pruned, and laid.
-use Rattle.std.proofs.Common.{◌≡◌, ℕ, Bool, List, map, refl, sym, ap, subst, ◌∙◌}
+use Rattle.std.proofs.Common.{◌≡◌, ℕ, Bool, List, map, refl, sym, subst, ◌∙◌}
 use Rattle.dwz_def_reading.specs.Values.{AreBytes}
 use Rattle.dwz_def_reading.specs.Lists.{Each}
 use Rattle.dwz_def_tops.specs.Spots.{file_numbers}

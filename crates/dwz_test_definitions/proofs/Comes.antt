@@ -35,9 +35,9 @@ use Rattle.dwz_def_tops.specs.UnitNames.{name_from}
 use Rattle.dwz_def_readback.specs.Files.{Run}
 use Rattle.dwz_words.specs.declared.options.Options.{Options}
 use Rattle.dwz_def_output.specs.Contents.{lists_after_by, offsets_after_by, ranges_after_by, sections_after_by, strs_after_by}
-use Rattle.dwz_def_output.specs.FilesAfter.{file_after_by, file_after, has_common, in_order, put_in_order}
-use Rattle.dwz_def_run.specs.Out.{files_puts_by, summary_lines_by, files_puts, run_for, summary_lines}
-use Rattle.dwz_def_output.specs.Contents.{lists_after, offsets_after, ranges_after, sections_after, strs_after, with_slots}
+use Rattle.dwz_def_output.specs.FilesAfter.{file_after_by, has_common, in_order, put_in_order}
+use Rattle.dwz_def_run.specs.Out.{files_puts_by, summary_lines_by, run_for}
+use Rattle.dwz_def_output.specs.Contents.{with_slots}
 use Rattle.dwz_def_output.specs.Written.{raws}
 use Rattle.dwz_test_definitions.proofs.Runs.{run_in}
 

@@ -1,7 +1,6 @@
-use Rattle.std.proofs.Common.{◌≡◌, ◌+◌, ◌<◌, ℕ, length, refl, sym, ap, ◌∙◌, arith}
+use Rattle.std.proofs.Common.{◌≡◌, ◌+◌, ◌<◌, length, refl, sym, ap, ◌∙◌, arith}
 use Rattle.std.proofs.lemmas.Result.{IfOk-weaker}
 use Rattle.dwz_groups.specs.Groups.{values_at}
-use Rattle.dwz_layout.specs.declared.order.UnitItems.{UnitItems}
 use Rattle.dwz_layout_order.specs.Ordered.{AreOrders, AreOrdersBehind}
 use Rattle.dwz_layout_order.specs.Parts.{file_pairs}
 use Rattle.dwz_layout_order.proofs.FileSteps.{files_long, with_common}

@@ -1,7 +1,6 @@
-use Rattle.std.proofs.Common.{◌≡◌, ◌+◌, ℕ, List, length, sym, subst, ap, ◌∙◌, arith}
+use Rattle.std.proofs.Common.{◌≡◌, ◌+◌, length, sym, ◌∙◌, arith}
 use Rattle.std.proofs.lemmas.Result.{IfOk-weaker}
 use Rattle.dwz_groups.specs.Groups.{grouped}
-use Rattle.dwz_plan.specs.declared.plan.Partial.{Partial}
 use Rattle.dwz_layout_order.specs.Parts.{file_pairs}
 use Rattle.dwz_layout_order.proofs.FileSteps.{files_long}
 use Rattle.dwz_layout_order.proofs.PartSteps.{files_low}

@@ -1,4 +1,4 @@
-use Rattle.std.proofs.Common.{◌≡◌, ℕ, List, Vec, Global, length, map, sym}
+use Rattle.std.proofs.Common.{◌≡◌, ℕ, Vec, Global, length, map, sym}
 use Rattle.dwz_def_run.specs.Yields.{batching}
 use Rattle.dwz_run.proofs.AllBatched.{all_batched}
 use Rattle.dwz_run.proofs.batched.batched_files.Goals as goal

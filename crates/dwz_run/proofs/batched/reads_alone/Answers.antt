@@ -1,9 +1,7 @@
-use Rattle.std.proofs.Common.{◌≡◌, ℕ, List, [], Vec, Global, map, ap, subst, sym, ◌∙◌, Ok, Result}
+use Rattle.std.proofs.Common.{◌≡◌, ℕ, List, [], Vec, Global, map, ap, subst, sym, ◌∙◌}
 use Rattle.std.proofs.lemmas.Result.{err_from_is_err_and}
-use Rattle.dwz_model.specs.declared.fault.Refusal.{Refusal}
-use Rattle.dwz_def_reading.specs.Finished.{BesideDocs, beside_meaning}
+use Rattle.dwz_def_reading.specs.Finished.{beside_meaning}
 use Rattle.dwz_graph.specs.Files.{FilesFail, said_beside}
-use Rattle.dwz_def_run.specs.Reuses.{common_got}
 use Rattle.dwz_run.proofs.batched.reads_alone.Goals as goal
 
 abbrev contents : List (Vec ℕ Global) → List (List ℕ)

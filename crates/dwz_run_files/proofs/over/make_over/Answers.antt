@@ -1,4 +1,4 @@
-use Rattle.std.proofs.Common.{◌+◌, ℕ, List, Bor, Option, Some, length, sym, ap, subst}
+use Rattle.std.proofs.Common.{◌+◌, Bor, Option, length, sym, ap, subst}
 use Rattle.std.specs.Option.{option_map}
 use Rattle.dwz_def_reading.specs.Lists.{Each}
 use Rattle.dwz_def_reading.specs.Values.{AreBytes}

@@ -1,4 +1,4 @@
-use Rattle.std.proofs.Common.{ℕ, List, Option, length, refl, ap, subst, ◌∙◌}
+use Rattle.std.proofs.Common.{List, Option, length, refl, ap, subst, ◌∙◌}
 use Rattle.dwz_def_reading.specs.Units.{RawUnit}
 use Rattle.dwz_layout.specs.declared.order.UnitItems.{UnitItems}
 use Rattle.dwz_law_layout.specs.Beside.{Over}

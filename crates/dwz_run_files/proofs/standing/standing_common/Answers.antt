@@ -1,4 +1,4 @@
-use Rattle.std.proofs.Common.{◌≡◌, ℕ, length, ◌∙◌, subst, arith}
+use Rattle.std.proofs.Common.{◌≡◌, length, ◌∙◌, subst, arith}
 use Rattle.dwz_def_tops.specs.Spots.{tops_of, units_of}
 use Rattle.dwz_def_taken.specs.Beside.{own_tops, reused_of}
 use Rattle.dwz_graph.specs.Files.{docs_of}

@@ -1,4 +1,4 @@
-use Rattle.std.proofs.Common.{ℕ, List, Vec, Global, map}
+use Rattle.std.proofs.Common.{ℕ, Vec, Global, map}
 use Rattle.dwz_def_run.specs.Reuses.{common_got}
 use Rattle.dwz_def_run.specs.Yields.{batching}
 use Rattle.dwz_law_batch.specs.Jobs.{file_at}

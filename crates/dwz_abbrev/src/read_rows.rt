@@ -37,14 +37,14 @@ impl Model for ReadRows {
 }
 
 impl ReadRows {
-    // No declarations.
-    pub(crate) fn new(alloc: Global) -> ReadRows
-        ensures { result ≡ [] }
+    // No declarations, and room for so many.
+    pub(crate) fn with_capacity(alloc: Global, room: usize) -> Result<ReadRows, NoMemory>
+        ensures { IfOk result (λ rows. rows ≡ []) }
     {
-        ReadRows {
-            decls: Vec::new(alloc),
+        Ok(ReadRows {
+            decls: Vec::with_capacity(alloc, room)?,
             codes: Codes::new(alloc),
-        }
+        })
     }
 
     // Whether one of them has a code.

@@ -62,6 +62,9 @@ pub struct ReadTable {
     pub stop: Option<usize>,
 }
 
+// For how many declarations there is room at once.
+const ROOM: usize = 32;
+
 // Whether a place is in one of the lists, which ascend.
 fn is_stop(stops: &[&[usize]], place: usize) -> bool
     ensures { result ≡ true → IsStop stops.now place }
@@ -93,8 +96,8 @@ fn rows(
     if at > section.len() {
         return Err(bad(at));
     }
-    let mut rows = ReadRows::new(alloc);
-    let mut starts = Vec::new(alloc);
+    let mut rows = ReadRows::with_capacity(alloc, ROOM)?;
+    let mut starts = Vec::with_capacity(alloc, ROOM)?;
     let mut cursor = Cursor::new(section, at);
     let mut start = at;
     while !is_stop(stops, start) {

@@ -43,6 +43,13 @@ impl Rows {
         }
     }
 
+    // Makes room for so many more.
+    pub(crate) fn reserve(&mut self, room: usize) -> Result<(), NoMemory>
+        ensures { self.new ≡ self.old }
+    {
+        self.decls.reserve(room)
+    }
+
     // The declaration with a code, if one has it.
     #[inline(always)]
     pub(crate) fn decl(&self, code: u64) -> Option<&Decl>

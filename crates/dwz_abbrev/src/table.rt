@@ -94,6 +94,13 @@ impl Table {
         }
     }
 
+    /// Makes room for so many more declarations.
+    pub fn reserve(&mut self, room: usize) -> Result<(), NoMemory>
+        ensures { self.new ≡ self.old }
+    {
+        self.rows.reserve(room)
+    }
+
     /// How many declarations there are.
     #[inline(always)]
     pub fn len(&self) -> usize

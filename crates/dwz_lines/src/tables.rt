@@ -1,6 +1,6 @@
 //! Directories and files (DWARF 5, 6.2.4): formats, how many rows there are, and the rows.
 
-ghost use Rattle.std.specs.Prelude.{◌≡◌, ◌||◌, map};
+ghost use Rattle.std.specs.Prelude.{◌≡◌, ◌||◌, map, min};
 ghost use Rattle.dwz_lines.specs.Reading;
 ghost use Rattle.dwz_lines.specs.Reading.{TriesAt, dirs_in, files_in, paths_in, rows_in};
 ghost use Rattle.dwz_lines.specs.RowViews.{row_view, strings_view};
@@ -21,6 +21,16 @@ pub(crate) struct Directories<'a> {
     pub(crate) strp: bool,
 }
 
+// For how many rows there is room at once, at most: what a table says of their number isn't believed.
+const ROOM: u64 = 64;
+
+// For how many rows there is room at once, where a table says that it has so many.
+fn room_for(count: u64) -> usize
+    ensures { result ≡ min count 64 }
+{
+    count.min(ROOM) as usize
+}
+
 // The paths of so many directories.
 #[tactic(auto, unfolding(crate::specs::Reading::paths_in))]
 fn directory_paths<'a>(
@@ -34,7 +44,7 @@ fn directory_paths<'a>(
     ensures { TriesAt (λ v. map (λ p. p.now) v.items) bad cursor.new result
         (paths_in (strings_view strings.entry) (format_views formats.now) count cursor.old) }
 {
-    let mut paths = Vec::new(alloc);
+    let mut paths = Vec::with_capacity(alloc, room_for(count))?;
     for _number in 0..count {
         let Some(row) = one_row(cursor, formats, strings, count) else {
             return Err(ReadErr::Refused(bad));
@@ -77,7 +87,7 @@ fn rows_of_files<'a>(
     ensures { TriesAt (λ v. map row_view v.items) bad cursor.new result
         (rows_in (strings_view strings.entry) dirs (format_views formats.now) count cursor.old) }
 {
-    let mut rows = Vec::new(alloc);
+    let mut rows = Vec::with_capacity(alloc, room_for(count))?;
     for _number in 0..count {
         let Some(row) = one_row(cursor, formats, strings, dirs) else {
             return Err(ReadErr::Refused(bad));

@@ -1,6 +1,6 @@
 //! Lists that lie in one row.
 
-ghost use Rattle.std.specs.Prelude.{◌≡◌, ◌<◌, ◌++◌, ◌∷◌, All, OnErr, OnOk, Some, [], length, map, slice_get};
+ghost use Rattle.std.specs.Prelude.{◌≡◌, ◌<◌, ◌++◌, ◌∷◌, All, IfOk, OnErr, OnOk, Some, [], length, map, slice_get};
 ghost use Rattle.dwz_unit.specs.Spans.{IsWithin, part_of};
 
 use crate::stops::Stop;
@@ -42,16 +42,6 @@ impl<T> Model for FlatRows<T> {
 }
 
 impl<T> FlatRows<T> {
-    /// No list.
-    pub fn new(alloc: Global) -> FlatRows<T>
-        ensures { result ≡ [] }
-    {
-        FlatRows {
-            items: Vec::new(alloc),
-            spans: Vec::new(alloc),
-        }
-    }
-
     /// The parts of a row.
     pub fn from_parts(items: Vec<T>, spans: Vec<Span>) -> FlatRows<T>
         requires { All (IsWithin (length items.items)) spans.items }
@@ -88,6 +78,16 @@ impl<T> FlatRows<T> {
 }
 
 impl<T: Copy> FlatRows<T> {
+    /// No list, and room for so many, and for so many items.
+    pub fn with_capacity(alloc: Global, lists: usize, items: usize) -> Result<FlatRows<T>, NoMemory>
+        ensures { IfOk result (λ rows. rows ≡ []) }
+    {
+        Ok(FlatRows {
+            items: Vec::with_capacity(alloc, items)?,
+            spans: Vec::with_capacity(alloc, lists)?,
+        })
+    }
+
     /// Puts a list behind the others.
     pub fn push(&mut self, list: &[T]) -> Result<(), NoMemory>
         ensures ok { OnOk result (self.new ≡ self.old ++ list.now ∷ []) }

@@ -167,8 +167,13 @@ impl<'a> JoinedTables<'a> {
     pub fn into_pairs(self, alloc: Global) -> Result<PairRows, NoMemory>
         ensures { IfOk result (λ pairs. pairs ≡ self.entry.decls) }
     {
-        let JoinedTables { reads, pairs, .. } = self;
-        let mut spans = Vec::new(alloc);
+        let JoinedTables {
+            reads,
+            pairs,
+            count,
+            ..
+        } = self;
+        let mut spans = Vec::with_capacity(alloc, count as usize)?;
         for read in reads.as_slice() {
             put_spans(read.rows.as_slice(), &mut spans)?;
         }

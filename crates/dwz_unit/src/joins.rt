@@ -42,7 +42,7 @@ fn starts_of<'t>(
     reads: &'t [JoinedTable],
     open: &[usize],
 ) -> Result<Vec<&'t [usize]>, NoMemory> {
-    let mut starts = Vec::new(alloc);
+    let mut starts = Vec::with_capacity(alloc, open.len())?;
     for base in open {
         if let Some(read) = reads.get(*base) {
             starts.push(read.starts.as_slice())?;

@@ -11,6 +11,9 @@ use dwz_forms::fixed_size;
 use dwz_model::{NoMemory, Pair};
 use std::alloc::Global;
 
+// How many stops there is room for at once, for each declaration: most have no more.
+const STOPS: usize = 4;
+
 /// A value of an entry that is looked at.
 #[derive(Clone, Copy, Debug, PartialEq, Eq)]
 pub struct Stop {
@@ -71,9 +74,10 @@ fn put_stops(pairs: &[Pair], stops: &mut Vec<Stop>) -> Result<(), NoMemory>
 pub(crate) fn stop_rows(alloc: Global, decls: &PairRows) -> Result<StopRows, NoMemory>
     ensures { IfOk result (λ stops. stops ≡ map stops_of decls.now) }
 {
-    let mut rows = FlatRows::new(alloc);
+    let count = decls.len();
+    let mut rows = FlatRows::with_capacity(alloc, count, count.saturating_mul(STOPS))?;
     let mut stops = Vec::new(alloc);
-    for number in 0..decls.len() {
+    for number in 0..count {
         stops.clear();
         put_stops(decls.get(number), &mut stops)?;
         rows.push(stops.as_slice())?;

@@ -20,7 +20,7 @@ pub loop-cursor-init : goal.loop-cursor-init
 loop-cursor-init c =
     let section = c.args.pairs.now.section in
     let within : c.args.at ≤ length section = subst (λ (s : List ℕ). c.args.at ≤ length s) c.section-section.ensures (omega (arith, c.if-at-section.false)) in
-    rw (c.new-rows.ensures, c.new-starts.ensures.items, c.new-cursor.ensures, c.section-section.ensures) (record {
+    rw (c.in_ok-rows.ensures, c.in_ok-starts.ensures.items, c.new-cursor.ensures, c.section-section.ensures) (record {
       section = refl;
       read = refl;
       reach = reach_none section c.args.at;
@@ -40,7 +40,7 @@ declaration-requires c = subst (λ (s : List ℕ). IsIn s c.loop-cursor.cursor) 
 
 pub returns-in_err-decl-clause-fault : goal.returns-in_err-decl-clause-fault
 returns-in_err-decl-clause-fault c =
-    let p = err_from_is_err_and c.from_residual.result c.from_residual.ensures.1 in
+    let p = err_from_is_err_and c.from_residual-in_err-decl.result c.from_residual-in_err-decl.ensures.1 in
     rw (p.1, p.2) (table_fails_so _ _ _ _ _ c.loop-cursor.invariant.read c.in_err-decl.ensures.decl)
 
 -- what was read before stands in the row as it is now

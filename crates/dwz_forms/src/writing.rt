@@ -16,6 +16,7 @@ use dwz_codes::Shape;
 use dwz_model::NoMemory;
 
 // How many bytes a number occupies.
+#[inline(always)]
 fn number_size(shape: Shape, number: i128) -> u64
     requires { FitsNumber shape number }
     ensures { result ≡ number_len shape number }
@@ -34,6 +35,7 @@ fn number_size(shape: Shape, number: i128) -> u64
 }
 
 // How many bytes the content of a text or a block occupies.
+#[inline(always)]
 fn run_size(shape: Shape, content: &[u8]) -> u64
     ensures { result ≡ run_len shape content.now }
 {
@@ -50,6 +52,7 @@ fn run_size(shape: Shape, content: &[u8]) -> u64
 }
 
 /// How many bytes a raw value occupies where it is written in a form. Some bytes have to spell it in this form.
+#[inline(always)]
 pub fn size_of_value(form: u16, raw: &Raw) -> u64
     requires { HasSpelling form (raw_view raw.now) }
     ensures { result ≡ length (value_bytes form (raw_view raw.now)) }

@@ -11,6 +11,7 @@ ghost use Rattle.std.specs.Prelude.{◌≡◌};
 ghost use Rattle.std.specs.Option.{option_map};
 ghost use Rattle.dwz_def_reading.specs.Texts;
 
+mod hints;
 mod offset_tables;
 mod pruned;
 mod pruning;

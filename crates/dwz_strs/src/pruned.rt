@@ -1,8 +1,11 @@
 //! What pruning gives.
 
-ghost use Rattle.std.specs.Prelude.{◌≡◌};
+ghost use Rattle.std.specs.Prelude.{◌≡◌, IfOk};
 ghost use Rattle.dwz_strs.specs.Pruned.{RisesAlong, moved_in, pruning};
 
+use crate::hints::Hints;
+use dwz_model::NoMemory;
+use std::alloc::Global;
 use std::marker::Model;
 
 /// A section from which what isn't used is taken out, and where the texts that are used stand in it. Clauses see its bytes, the
@@ -12,6 +15,8 @@ pub struct Pruned {
     bytes: Vec<u8>,
     uses: Vec<u32>,
     numbers: Vec<u32>,
+    // Where a use may stand among them. No clause speaks of these.
+    hints: Hints,
 }
 
 impl Model for Pruned {
@@ -26,15 +31,22 @@ impl Model for Pruned {
 
 impl Pruned {
     // What is left, and the new number of each use.
-    pub(crate) fn new(bytes: Vec<u8>, uses: Vec<u32>, numbers: Vec<u32>) -> Pruned
+    pub(crate) fn new(
+        alloc: Global,
+        bytes: Vec<u8>,
+        uses: Vec<u32>,
+        numbers: Vec<u32>,
+    ) -> Result<Pruned, NoMemory>
         requires { RisesAlong uses.items numbers.items }
-        ensures { result ≡ pruning bytes.items uses.items numbers.items }
+        ensures { IfOk result (λ r. r ≡ pruning bytes.items uses.items numbers.items) }
     {
-        Pruned {
+        let hints = Hints::new(alloc, uses.as_slice())?;
+        Ok(Pruned {
             bytes,
             uses,
             numbers,
-        }
+            hints,
+        })
     }
 
     /// The new section.
@@ -49,6 +61,10 @@ impl Pruned {
     pub fn moved(&self, offset: u32) -> Option<u32>
         ensures { result ≡ moved_in self.now offset }
     {
+        let place = self.hints.place(offset);
+        if place < self.uses.len() && self.uses[place] == offset {
+            return Some(self.numbers[place]);
+        }
         match self.uses.binary_search(&offset) {
             Ok(place) => Some(self.numbers[place]),
             Err(_) => None,

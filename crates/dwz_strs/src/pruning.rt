@@ -62,7 +62,7 @@ fn prune_sorted(alloc: Global, section: &[u8], uses: Vec<u32>) -> Result<Pruned,
         end = next;
         numbers.push((bytes.len() - (next - start)) as u32)?;
     }
-    Ok(Pruned::new(bytes, uses, numbers))
+    Pruned::new(alloc, bytes, uses, numbers)
 }
 
 /// Takes out of a section of texts what isn't used. The range of a use goes from it up to and including the next zero byte; the new

@@ -1,5 +1,6 @@
-use Rattle.std.proofs.Common.{◌∙◌, ◌-◌, get_or, List, ℕ, ap, arith, subst, sym}
+use Rattle.std.proofs.Common.{◌≡◌, ◌∙◌, ◌-◌, get_or, List, ℕ, ap, arith, subst, sym}
 use Rattle.std.specs.List.Sorted.{IsStrictlyIncreasing}
+use Rattle.std.proofs.lemmas.Result.{IfOk-weaker}
 use Rattle.dwz_strs.specs.Pruned.{IsPruned, Pruning, RisesAlong, pruning}
 use Rattle.dwz_strs.proofs.PruneSteps.{all_pruned, bounds_at, counted_at, next_at, none_yet, rises_along}
 use Rattle.dwz_strs.proofs.pruning.prune_sorted.Goals as goal
@@ -69,9 +70,11 @@ new-requires c =
 
 pub returns : goal.returns
 returns c =
+    let section = c.args.section.now in
     let uses = c.deref-used-items.result.now in
     let rises : IsStrictlyIncreasing uses = subst IsStrictlyIncreasing (sym c.deref-used-items.ensures.value) c.requires.rises in
-    subst (λ (p : Pruning). IsPruned c.args.section.now c.args.uses.items p) (sym c.new.ensures)
-    (subst (λ (us : List ℕ). IsPruned c.args.section.now us (pruning c.loop-used.bytes.items us c.loop-used.numbers.items)) c.deref-used-items.ensures.value
-    (all_pruned c.args.section.now uses c.loop-used.used-index c.loop-used.end c.loop-used.bytes.items c.loop-used.numbers.items c.loop-used.invariant rises c.loop-used-test.false
-    c.loop-used.auto.used-index-end))
+    let left = pruning c.loop-used.bytes.items c.args.uses.items c.loop-used.numbers.items in
+    let is : IsPruned section c.args.uses.items left = subst (λ (us : List ℕ). IsPruned section us (pruning c.loop-used.bytes.items us c.loop-used.numbers.items)) c.deref-used-items.ensures.value
+    (all_pruned section uses c.loop-used.used-index c.loop-used.end c.loop-used.bytes.items c.loop-used.numbers.items c.loop-used.invariant rises c.loop-used-test.false
+    c.loop-used.auto.used-index-end) in
+    IfOk-weaker c.new.result (λ (p : Pruning). p ≡ left) (IsPruned section c.args.uses.items) (λ (p : Pruning) (same : p ≡ left). subst (λ (q : Pruning). IsPruned section c.args.uses.items q) (sym same) is) c.new.ensures

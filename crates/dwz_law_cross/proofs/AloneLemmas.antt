@@ -31,7 +31,7 @@ use Rattle.dwz_law_cross.proofs.PairLemmas.{meets_in, named_at}
 use Rattle.dwz_law_cross.proofs.RenumberLemmas.{units_then}
 use Rattle.dwz_law_cross.proofs.StayLemmas.{units_mapped}
 
-no_more : {X : Type 0} (xs : List X) → xs ++ [] ≡ xs
+pub no_more : {X : Type 0} (xs : List X) → xs ++ [] ≡ xs
 no_more [] = refl
 no_more {X} (x ∷ xs) = ap (λ (ys : List X). x ∷ ys) (no_more xs)
 

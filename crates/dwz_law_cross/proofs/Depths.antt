@@ -18,7 +18,7 @@ use Rattle.dwz_def_tops.proofs.Tops.{unit_of}
 use Rattle.dwz_def_images.specs.IsPlan.{Has, IsPart, OfSpace, OfTop, row}
 use Rattle.dwz_def_images.specs.Moves.{Move, image_in, plan}
 use Rattle.dwz_def_images.specs.Homes.{Rule}
-use Rattle.dwz_def_images.specs.Plan.{PartialUnit, import_of, imports, kept_row, partials}
+use Rattle.dwz_def_images.specs.Plan.{PartialUnit, import_of, imports, kept_row, part_row, partials}
 use Rattle.dwz_def_images.proofs.KeptLemmas.{are_imports}
 use Rattle.dwz_def_images.proofs.PartRows.{part_is}
 use Rattle.dwz_def_images.proofs.PlanLemmas.{are_parts}
@@ -92,6 +92,10 @@ module _ (file unit : ℕ) (tongue : Option ℤ) where
   top_deep spaces n (ATop u next) End h t is = absurd h
   top_deep spaces n (ASpace d inner next) End h t is = absurd h
 
+none_deep : (n : ℕ) → depth {K = EntryName} End ≤ n
+unfolding depth
+none_deep n = omega arith
+
 -- ---- units after
 
 module _ (units : List (FileUnit EntryName)) (m : Move) (most : ℕ) (low : (i : ℕ) (u : FileUnit EntryName) → Nth 0 units i u → suc (depth u.unit.below) ≤ most) (some : 2 ≤ most) where
@@ -141,28 +145,28 @@ module _ (units : List (FileUnit EntryName)) (m : Move) (most : ℕ) (low : (i :
   pub kept_deep : (i : ℕ) (u : FileUnit EntryName) → Nth 0 units i u → suc (depth (kept_unit m units i u).below) ≤ most
   kept_deep i u nth = below_deep i u nth u.unit.kind refl (changes m units u.file)
 
-none_deep : (n : ℕ) → depth {K = EntryName} End ≤ n
-unfolding depth
-none_deep n = omega arith
+  -- a partial unit that holds some of the tops
+  pub held_deep : (n : ℕ) (part : PartialUnit) → Kinded (m.rows n) → m.rows n ≡ part_row n part → ((t : Top) → In t part.tops → In t (tops_of units)) → suc (depth (partial_unit m n).below) ≤ most
+  held_deep n part kinds rows there =
+      let all = tree_deep g (m.rows n) End (most - 1) kinds
+      (λ names t h.
+      let in_part = ((part_is n part).tops_are names t).0 (subst (Has names (OfTop t)) rows h) in
+      let deep = own_deep t (there t in_part.0) in
+      let same = ap length in_part.1 in
+      omega (arith, deep, same))
+      (λ names d h.
+      let o = (part_is n part).spaces_are names d (subst (Has names (OfSpace d)) rows h) in
+      let deep = own_deep o.top (there o.top o.there) in
+      let same = ap length o.names_are ∙ length-append names (o.name.text ∷ o.others) in
+      omega (arith, deep, same)) (none_deep (most - 1)) in
+      omega (arith, all, some)
 
 -- a partial unit of a plan
 pub part_deep : (units : List (FileUnit EntryName)) (rule : Rule) (files : List ℕ) (most : ℕ) → ((i : ℕ) (u : FileUnit EntryName) → Nth 0 units i u → suc (depth u.unit.below) ≤ most) → 2 ≤ most
     → IsHeld units (plan rule units files) → (n : ℕ) (part : PartialUnit) → Nth 0 (plan rule units files).parts n part → suc (depth (partial_unit (plan rule units files) n).below) ≤ most
 part_deep units rule files most low some held n part nth =
-    let m = plan rule units files in
-    let all = tree_deep (image_in m) (m.rows n) End (most - 1) (held.kinds n part nth)
-    (λ names t h.
-    let in_part = ((part_is n part).tops_are names t).0 (subst (Has names (OfTop t)) (row_found rule units files n part nth) h) in
-    let deep = own_deep units m most low some t (held.tops n part nth names t h) in
-    let same = ap length in_part.1 in
-    omega (arith, deep, same))
-    (λ names d h.
-    let o = (part_is n part).spaces_are names d (subst (Has names (OfSpace d)) (row_found rule units files n part nth) h) in
     let p = each_in (IsPart rule units) part (partials rule units files) (are_parts rule units files) (nth_in 0 (partials rule units files) n part nth) in
-    let deep = own_deep units m most low some o.top ((p.tops o.top).0 o.there).there in
-    let same = ap length o.names_are ∙ length-append names (o.name.text ∷ o.others) in
-    omega (arith, deep, same)) (none_deep (most - 1)) in
-    omega (arith, all, some)
+    held_deep units (plan rule units files) most low some n part (held.kinds n part nth) (row_found rule units files n part nth) (λ t in_tops. ((p.tops t).0 in_tops).there)
 
 -- ---- units before
 

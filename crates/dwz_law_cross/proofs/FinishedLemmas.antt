@@ -67,14 +67,14 @@ raws_partial {P} around (u ∷ raw) (v ∷ units) means partial = (by u.kind mea
 
 -- ---- limits
 
-stores : {common : Option (Common Place)} {number : ℕ} {bytes : List ℕ} {raw : List RawUnit} {units : List (DwUnit Place)} → SaysUnits common number bytes raw units → StoresUnits bytes raw
+pub stores : {common : Option (Common Place)} {number : ℕ} {bytes : List ℕ} {raw : List RawUnit} {units : List (DwUnit Place)} → SaysUnits common number bytes raw units → StoresUnits bytes raw
 stores says = record { mode = says.mode; whole = says.whole; partial = says.partial; forms = says.forms; spelled = says.spelled }
 
-record TwoRooms (l : Limits) (a b : List ℕ) (x y : List RawUnit) : Type 0 where
-  first : HasRoom l a x
-  second : HasRoom (limits_after l a x) b y
+pub record TwoRooms (l : Limits) (a b : List ℕ) (x y : List RawUnit) : Type 0 where
+  pub first : HasRoom l a x
+  pub second : HasRoom (limits_after l a x) b y
 
-two_rooms : (a b : List ℕ) (x y : List RawUnit) → AreWithinLimits (a ∷ b ∷ []) → StoresUnits a x → StoresUnits b y → machine_of b ≡ machine_of a → TwoRooms no_files_before a b x y
+pub two_rooms : (a b : List ℕ) (x y : List RawUnit) → AreWithinLimits (a ∷ b ∷ []) → StoresUnits a x → StoresUnits b y → machine_of b ≡ machine_of a → TwoRooms no_files_before a b x y
 two_rooms a b x y within p q same =
     let each = within.each in
     let bytes = within.bytes in
@@ -84,11 +84,11 @@ two_rooms a b x y within p q same =
       second = record { size = record { file = each.1.0; files = omega (arith, bytes) }; machine = same; entries = omega (arith, entries) };
     }
 
-record ThreeRooms (a b c : List ℕ) (x y z : List RawUnit) : Type 0 where
-  first : HasRoom no_files_before a x
-  more : TwoRooms (limits_after no_files_before a x) b c y z
+pub record ThreeRooms (a b c : List ℕ) (x y z : List RawUnit) : Type 0 where
+  pub first : HasRoom no_files_before a x
+  pub more : TwoRooms (limits_after no_files_before a x) b c y z
 
-three_rooms : (a b c : List ℕ) (x y z : List RawUnit) → AreWithinLimits (a ∷ b ∷ c ∷ []) → StoresUnits a x → StoresUnits b y → StoresUnits c z → machine_of b ≡ machine_of a
+pub three_rooms : (a b c : List ℕ) (x y z : List RawUnit) → AreWithinLimits (a ∷ b ∷ c ∷ []) → StoresUnits a x → StoresUnits b y → StoresUnits c z → machine_of b ≡ machine_of a
     → machine_of c ≡ machine_of b
     → ThreeRooms a b c x y z
 three_rooms a b c x y z within p q s same also =

@@ -10,18 +10,18 @@ use Rattle.dwz_def_reading.specs.Entries.{RawAttr}
 use Rattle.dwz_def_reading.specs.Meanings.{IfSo, IsLocList, MeaningContext, MeansAs, offset_of}
 use Rattle.dwz_def_reading.specs.Modes.{binding_forms}
 use Rattle.dwz_def_reading.proofs.CaseFacts.{or_left}
-use Rattle.dwz_def_tops.specs.Alike.{IsAlike, TopScope, holds_place, leaves}
+use Rattle.dwz_def_tops.specs.Alike.{IsAlike, Movable, TopScope, holds_place, leaves}
 use Rattle.dwz_def_tops.specs.Spaces.{text_of_plain}
 use Rattle.dwz_def_tops.specs.Spots.{EntryName, FileUnit, SpaceName, Top, tops_of}
 use Rattle.dwz_def_tops.proofs.Targets.{free_attr}
-use Rattle.dwz_def_images.specs.Homes.{IsChoice, Rule, is_home, moves}
+use Rattle.dwz_def_images.specs.Homes.{IsChoice, Rule, is_home}
 use Rattle.dwz_def_images.specs.IsPlan.{Has, OfSpace, OfTop}
 use Rattle.dwz_def_images.specs.Moves.{Move, plan}
-use Rattle.dwz_def_images.specs.Plan.{PartialUnit}
+use Rattle.dwz_def_images.specs.Plan.{PartialUnit, part_row}
 use Rattle.dwz_def_images.proofs.PartRows.{part_is as part_row_is}
 use Rattle.dwz_def_images.proofs.StandLemmas.{fair}
 use Rattle.dwz_def_images.proofs.UserLemmas.{moves_self}
-use Rattle.dwz_def_images.specs.Held.{IsHeld}
+use Rattle.dwz_def_images.specs.Held.{IsHeld, Kinded}
 use Rattle.dwz_def_images.specs.Units.{partial_unit}
 use Rattle.dwz_def_images.proofs.HeldLemmas.{row_found}
 use Rattle.dwz_def_images.proofs.NodeLemmas.{EntryOfTop}
@@ -79,39 +79,39 @@ module _ (from : From) (origin : Bases) (s : SpaceName) where
 
 -- ---- partial units
 
-module _ (scope : TopScope) (units : List (FileUnit EntryName)) (rule : Rule) (is : IsAlike scope units rule.alike) (choice : IsChoice units rule) where
-  top_free : (t : Top) → In t (tops_of units) → moves rule units t.number ≡ true → (d : Node EntryName) → EntryOfTop d t → (a : Attr EntryName) → In a d.attrs → IsUnbound a
-  top_free t there e d x a a_in =
-      let movable = (is.decides t.number t.number (moves_self units rule (fair scope units rule is choice) t.number e)).first in
-      or_left (has a.form binding_forms) (holds_place a.value || list_any (leaves (tops_of units) t.unit) a.value.refs) (free_attr units t there movable d x a a_in)
+-- a partial unit that holds movable tops
+module _ (units : List (FileUnit EntryName)) (m : Move) (n : ℕ) (part : PartialUnit) (kinds : Kinded (m.rows n)) (rows : m.rows n ≡ part_row n part)
+    (movable : (t : Top) → In t part.tops → In t (tops_of units) × Movable units t.number)
+    (read : (t : Top) → In t part.tops → (from : From) × ((i : ℕ) (u : FileUnit EntryName) → Nth 0 units i u → u.file ≡ t.file → CarriedUnit from (bases_in u.unit) u.unit)) where
+  tops_free : (names : List (List ℕ)) (t : Top) → Has names (OfTop t) (m.rows n) → (d : Node EntryName) → EntryOfTop d t → (a : Attr EntryName) → In a d.attrs → IsUnbound a
+  tops_free names t h d x a a_in =
+      let is = movable t (((part_row_is n part).tops_are names t).0 (subst (Has names (OfTop t)) rows h)).0 in
+      or_left (has a.form binding_forms) (holds_place a.value || list_any (leaves (tops_of units) t.unit) a.value.refs) (free_attr units t is.0 is.1 d x a a_in)
 
-  module _ (files : List ℕ) (held : IsHeld units (plan rule units files))
-      (read : (t : Top) → In t (tops_of units) → (from : From) × ((i : ℕ) (u : FileUnit EntryName) → Nth 0 units i u → u.file ≡ t.file → CarriedUnit from (bases_in u.unit) u.unit))
-      (n : ℕ) (part : PartialUnit) (nth : Nth 0 (plan rule units files).parts n part) where
-    abbrev m : Move
-    m = plan rule units files
+  spaces_free : (names : List (List ℕ)) (d : Node EntryName) → Has names (OfSpace d) (m.rows n) → (a : Attr EntryName) → In a d.attrs → IsUnbound a
+  spaces_free names d h a a_in =
+      let o = (part_row_is n part).spaces_are names d (subst (Has names (OfSpace d)) rows h) in
+      let r = read o.top o.there in
+      let carried = top_names r.0 units o.top (movable o.top o.there).0 r.1 o.name o.from in
+      elim (subst (λ (w : Node EntryName). In a w.attrs) o.is a_in) [
+        | inl e ↦ subst (λ (w : Attr EntryName). IsUnbound w) e (name_free r.0 (bases_at units o.top.unit) o.name carried (has o.name.form binding_forms) refl)
+        | inr x ↦ absurd x
+      ]
 
-    in_part : (names : List (List ℕ)) (t : Top) → Has names (OfTop t) (m.rows n) → In t part.tops
-    in_part names t h = (((part_row_is n part).tops_are names t).0 (subst (Has names (OfTop t)) (row_found rule units files n part nth) h)).0
+  -- none of the attributes below its root binds
+  pub held_free : EachAttr IsUnbound (partial_unit m n).below
+  held_free = new_attrs IsUnbound m n kinds (λ names t h d x a a_in. tops_free names t h d x a a_in) (λ names d h a a_in. spaces_free names d h a a_in)
 
-    tops_free : (names : List (List ℕ)) (t : Top) → Has names (OfTop t) (m.rows n) → (d : Node EntryName) → EntryOfTop d t → (a : Attr EntryName) → In a d.attrs → IsUnbound a
-    tops_free names t h d x a a_in =
-        let p = part_is scope units rule is choice files n part nth in
-        let b = (p.tops t).0 (in_part names t h) in
-        top_free t b.there (ap is_home b.home ∙ p.moves) d x a a_in
+-- such are the partial units of a plan
+module _ (scope : TopScope) (units : List (FileUnit EntryName)) (rule : Rule) (is : IsAlike scope units rule.alike) (choice : IsChoice units rule) (files : List ℕ)
+    (held : IsHeld units (plan rule units files))
+    (read : (t : Top) → In t (tops_of units) → (from : From) × ((i : ℕ) (u : FileUnit EntryName) → Nth 0 units i u → u.file ≡ t.file → CarriedUnit from (bases_in u.unit) u.unit)) where
+  top_there : (n : ℕ) (part : PartialUnit) → Nth 0 (plan rule units files).parts n part → (t : Top) → In t part.tops → In t (tops_of units) × Movable units t.number
+  top_there n part nth t in_tops =
+      let p = part_is scope units rule is choice files n part nth in
+      let b = (p.tops t).0 in_tops in
+      (b.there, (is.decides t.number t.number (moves_self units rule (fair scope units rule is choice) t.number (ap is_home b.home ∙ p.moves))).first)
 
-    spaces_free : (names : List (List ℕ)) (d : Node EntryName) → Has names (OfSpace d) (m.rows n) → (a : Attr EntryName) → In a d.attrs → IsUnbound a
-    spaces_free names d h a a_in =
-        let o = (part_row_is n part).spaces_are names d (subst (Has names (OfSpace d)) (row_found rule units files n part nth) h) in
-        let p = part_is scope units rule is choice files n part nth in
-        let there = ((p.tops o.top).0 o.there).there in
-        let r = read o.top there in
-        let carried = top_names r.0 units o.top there r.1 o.name o.from in
-        elim (subst (λ (w : Node EntryName). In a w.attrs) o.is a_in) [
-          | inl e ↦ subst (λ (w : Attr EntryName). IsUnbound w) e (name_free r.0 (bases_at units o.top.unit) o.name carried (has o.name.form binding_forms) refl)
-          | inr x ↦ absurd x
-        ]
-
-    -- none of the attributes below its root binds
-    pub part_free : EachAttr IsUnbound (partial_unit m n).below
-    part_free = new_attrs IsUnbound m n (held.kinds n part nth) (λ names t h d x a a_in. tops_free names t h d x a a_in) (λ names d h a a_in. spaces_free names d h a a_in)
+  pub part_free : (n : ℕ) (part : PartialUnit) → Nth 0 (plan rule units files).parts n part → EachAttr IsUnbound (partial_unit (plan rule units files) n).below
+  part_free n part nth =
+      held_free units (plan rule units files) n part (held.kinds n part nth) (row_found rule units files n part nth) (top_there n part nth) (λ t in_tops. read t (top_there n part nth t in_tops).0)

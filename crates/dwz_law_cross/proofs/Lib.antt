@@ -16,6 +16,7 @@ pub mod StoredForms
 pub mod FreeForms
 pub mod WrittenForms
 pub mod WrittenRaw
+pub mod FileStand
 pub mod AllStand
 pub mod OwnRefs
 pub mod OwnFiles

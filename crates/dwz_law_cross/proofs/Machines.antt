@@ -30,7 +30,7 @@ use Rattle.dwz_def_output.proofs.MadeLemmas.{same_file}
 -- ---- files that read
 
 -- each is for the machine of those before it
-all_machine : (m : ℕ) (l : Limits) → l.machine ≡ Some m → (contents : List (List ℕ)) (docs : List (Doc ℕ)) → ReadAll l contents docs → (s n k : ℕ) (doc : Doc ℕ) → Nth s docs n doc → n ≡ s + k
+pub all_machine : (m : ℕ) (l : Limits) → l.machine ≡ Some m → (contents : List (List ℕ)) (docs : List (Doc ℕ)) → ReadAll l contents docs → (s n k : ℕ) (doc : Doc ℕ) → Nth s docs n doc → n ≡ s + k
     → machine_of (get_or contents k []) ≡ m
 all_machine m l is [] [] read s n k doc nth at = absurd nth
 all_machine m l is [] (d ∷ docs) read s n k doc nth at = absurd read

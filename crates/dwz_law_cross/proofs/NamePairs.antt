@@ -44,21 +44,9 @@ none_whole m h s (p ∷ parts) = by (same_home p.home h) (none_whole m h (suc s)
   by true e = e
   by false e = e
 
-module _ (scope : TopScope) (docs : List (Doc ℕ)) (rule : Rule) (placed : Each (λ doc. ArePlaced doc.units) docs) (is : IsAlike scope (units_of docs) rule.alike)
-    (choice : IsChoice (units_of docs) rule) (file : ℕ) (outs : List (DwUnit EntryName))
-    (after : AreAfterOf (IsOfFile (units_of docs) file) (plan_of rule docs) (units_of docs) outs) where
-  abbrev units : List (FileUnit EntryName)
-  units = units_of docs
+-- ---- of any move whose partial units serve their users
 
-  abbrev m : Move
-  m = plan_of rule docs
-
-  old : AreOld units
-  old = files_old docs placed
-
-  held : Serves units m
-  held = held_serves units m old (plan_held scope units rule (file_numbers 0 docs) is choice old (files_are docs))
-
+module _ (units : List (FileUnit EntryName)) (m : Move) (old : AreOld units) (held : Serves units m) (file : ℕ) (outs : List (DwUnit EntryName)) (after : AreAfterOf (IsOfFile units file) m units outs) where
   -- a unit of the file
   abbrev Mine : ℕ → Type 0
   Mine = IsOfFile units file
@@ -72,7 +60,7 @@ module _ (scope : TopScope) (docs : List (Doc ℕ)) (rule : Rule) (placed : Each
     pub of_file : unit.file ≡ file
     pub unit_is : unit.unit ≡ u
 
-  unit_in : (s : ℕ) (some : List (FileUnit EntryName)) (u : DwUnit EntryName) → In u (units_of_file file some) → UnitIn s some u
+  pub unit_in : (s : ℕ) (some : List (FileUnit EntryName)) (u : DwUnit EntryName) → In u (units_of_file file some) → UnitIn s some u
   unfolding units_of_file
   unit_in s [] u h = absurd h
   unit_in s (x ∷ some) u h = by (x.file == file) refl h (unit_in (suc s) some u) where
@@ -85,15 +73,15 @@ module _ (scope : TopScope) (docs : List (Doc ℕ)) (rule : Rule) (placed : Each
     by true e (inr r) more = later (more r)
     by false e r more = later (more r)
 
-  pub name_entries : EntriesSame (image_in m) (units_of_file file units) outs
-  name_entries = λ e h.
+  pub entries_by_name : EntriesSame (image_in m) (units_of_file file units) outs
+  entries_by_name = λ e h.
       let o = inner_from (units_of_file file units) e h in
       let n = unit_in 0 units o.unit o.there in
       unit_seen units m old held outs Mine after n.number n.unit n.nth (n.unit, n.nth, n.of_file) e n.unit.unit.kind refl
       (subst (λ (w : DwUnit EntryName). In e (seen_inside w.kind w.below)) (sym n.unit_is) o.is)
 
-  pub name_types : TypesSame (image_in m) (units_of_file file units) outs
-  name_types = λ u signature main there kind.
+  pub types_by_name : TypesSame (image_in m) (units_of_file file units) outs
+  types_by_name = λ u signature main there kind.
       let n = unit_in 0 units u there in
       subst (λ (w : DwUnit EntryName). In (seen_map (image_in m) (see w.root w.below)) (seen_roots outs)) n.unit_is
       (type_root units m old held outs Mine after n.number n.unit n.nth (n.unit, n.nth, n.of_file) signature main (ap (λ (w : DwUnit EntryName). w.kind) n.unit_is ∙ kind))
@@ -125,10 +113,30 @@ module _ (scope : TopScope) (docs : List (Doc ℕ)) (rule : Rule) (placed : Each
         (kept_same units m old held outs Mine after s u nth (u, nth, eqb-true u.file file e), more)
     by false e more = more
 
-  pub name_units : EachTwo Same (units_of_file file units) (whole_units (out_units m units file))
+  pub units_by_name : EachTwo Same (units_of_file file units) (whole_units (out_units m units file))
   unfolding out_units
-  name_units =
+  units_by_name =
       let parts = partial_units m (Local file) 0 m.parts in
       let kept = kept_units m units file 0 units in
       let e = whole_append parts kept ∙ ap (λ (w : List (DwUnit EntryName)). w ++ whole_units kept) (none_whole m (Local file) 0 m.parts) in
       subst (EachTwo Same (units_of_file file units)) (sym e) (two_from 0 units (λ i u nth. nth))
+
+-- ---- of a plan
+
+module _ (scope : TopScope) (docs : List (Doc ℕ)) (rule : Rule) (placed : Each (λ doc. ArePlaced doc.units) docs) (is : IsAlike scope (units_of docs) rule.alike)
+    (choice : IsChoice (units_of docs) rule) (file : ℕ) (outs : List (DwUnit EntryName))
+    (after : AreAfterOf (IsOfFile (units_of docs) file) (plan_of rule docs) (units_of docs) outs) where
+  old : AreOld (units_of docs)
+  old = files_old docs placed
+
+  held : Serves (units_of docs) (plan_of rule docs)
+  held = held_serves (units_of docs) (plan_of rule docs) old (plan_held scope (units_of docs) rule (file_numbers 0 docs) is choice old (files_are docs))
+
+  pub name_entries : EntriesSame (image_in (plan_of rule docs)) (units_of_file file (units_of docs)) outs
+  name_entries = entries_by_name (units_of docs) (plan_of rule docs) old held file outs after
+
+  pub name_types : TypesSame (image_in (plan_of rule docs)) (units_of_file file (units_of docs)) outs
+  name_types = types_by_name (units_of docs) (plan_of rule docs) old held file outs after
+
+  pub name_units : EachTwo (UnitSame (image_in (plan_of rule docs)) outs) (units_of_file file (units_of docs)) (whole_units (out_units (plan_of rule docs) (units_of docs) file))
+  name_units = units_by_name (units_of docs) (plan_of rule docs) old held file outs after

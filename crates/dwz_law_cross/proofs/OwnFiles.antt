@@ -3,11 +3,11 @@ use Rattle.std.proofs.Common.{refl, ◌≡◌, ℕ, ◌&&◌, ◌==◌, Bool, tr
 use Rattle.std.specs.List.{list_any}
 use Rattle.std.proofs.lemmas.Bool.{and_parts}
 use Rattle.dwz_def_reading.specs.Lists.{Each, In, Nth}
-use Rattle.dwz_def_reading.proofs.ListFacts.{in_cases, in_left, in_right}
+use Rattle.dwz_def_reading.proofs.ListFacts.{in_cases, in_left, in_map, in_right}
 use Rattle.dwz_def_reading.proofs.Members.{any_false, any_from, any_true, in_nth, nth_in, nth_one}
 use Rattle.dwz_def_reading.specs.Documents.{Doc, DwUnit}
 use Rattle.dwz_def_tops.specs.Alike.{IsAlike, TopScope}
-use Rattle.dwz_def_tops.specs.Seen.{Closed}
+use Rattle.dwz_def_tops.specs.Seen.{Closed, Seen, seen_map}
 use Rattle.dwz_def_tops.specs.Spots.{EntryName, FileUnit, PartialOf, Top, Within, file_numbers, name_list, tops_of, units_of}
 use Rattle.dwz_def_images.specs.Homes.{Common, Home, IsChoice, Local, Rule, file_of, is_home, moves, same_home}
 use Rattle.dwz_def_images.specs.IsPlan.{Has, OfTop}
@@ -19,14 +19,19 @@ use Rattle.dwz_def_images.proofs.UserLemmas.{move_stand, stay_fixed}
 use Rattle.dwz_def_images.proofs.PlanLemmas.{home_own}
 use Rattle.dwz_def_images.specs.After.{AreAfterOf, AreOld, ArePlaced, IsOfFile}
 use Rattle.dwz_def_images.specs.Held.{IsHeld}
-use Rattle.dwz_def_images.specs.Units.{changes, common_units, kept_unit, kept_units, out_units, partial_unit, partial_units}
+use Rattle.dwz_def_images.specs.Units.{changes, common_units, kept_unit, kept_units, out_units, partial_unit, partial_units, units_of_file}
 use Rattle.dwz_def_images.proofs.FileLemmas.{replaced}
 use Rattle.dwz_def_images.proofs.FileOuts.{file_outs}
 use Rattle.dwz_def_images.proofs.HeldLemmas.{row_found}
+use Rattle.dwz_def_images.proofs.OldRows.{raw_top}
+use Rattle.dwz_def_images.proofs.TreeLemmas.{seen_top_map, tree_seen}
+use Rattle.dwz_def_tops.proofs.SeenLemmas.{entry_seen}
+use Rattle.dwz_def_tops.proofs.Tops.{unit_of}
+use Rattle.dwz_def_reading.specs.Trees.{End}
 use Rattle.dwz_def_readback.specs.Files.{imports_common}
-use Rattle.dwz_def_readback.proofs.HomeLemmas.{part_is, parts_from}
+use Rattle.dwz_def_readback.proofs.HomeLemmas.{part_is, parts_from, top_file}
 use Rattle.dwz_def_readback.proofs.WithinLemmas.{closed_at, kept_to}
-use Rattle.dwz_law_cross.proofs.OwnRefs.{refs_there}
+use Rattle.dwz_law_cross.proofs.OwnRefs.{HoldsOwn, StandsAt, refs_there}
 
 -- none of its units is a user of what is in the common file
 pub no_user : (m : Move) (units : List (FileUnit EntryName)) (file : ℕ) → imports_common m units file ≡ false → (n : ℕ) (part : PartialUnit) → Nth 0 m.parts n part → part.home ≡ Common
@@ -38,13 +43,9 @@ no_user m units file imports n part nth home i user of_file =
     let one : list_any (λ j. file_of units j == file) part.users ≡ true = any_true (λ j. file_of units j == file) i part.users user (eq-eqb (file_of units i) file of_file) in
     absurd (let z : true ≡ false = sym (ap (λ (b : Bool). b && list_any (λ j. file_of units j == file) part.users) at ∙ ap (λ (b : Bool). true && b) one) ∙ none in cc)
 
-module _ (units : List (FileUnit EntryName)) (rule : Rule) (files : List ℕ) (file : ℕ) (imports : imports_common (plan rule units files) units file ≡ false) where
-  abbrev m : Move
-  m = plan rule units files
-
-  all : AreAfterOf (IsOfFile units file) m units (out_units m units file ++ common_units m)
-  all = file_outs units rule files file
-
+-- a file that imports nothing, by whatever move; all that stands after in its place stands there or in the common file
+module _ (units : List (FileUnit EntryName)) (m : Move) (file : ℕ) (imports : imports_common m units file ≡ false)
+    (all : AreAfterOf (IsOfFile units file) m units (out_units m units file ++ common_units m)) where
   not_shared : (n : ℕ) (part : PartialUnit) → Nth 0 m.parts n part → (i : ℕ) → In i part.users → IsOfFile units file i → In (partial_unit m n) (common_units m) → ⊥
   unfolding common_units
   not_shared n part nth i user mine there =
@@ -59,8 +60,8 @@ module _ (units : List (FileUnit EntryName)) (rule : Rule) (files : List ℕ) (f
   kept_in i u nth e = in_right (kept_unit m units i u) (partial_units m (Local file) 0 m.parts) (kept_units m units file 0 units) (kept_to m units file 0 units i u nth e)
 
   -- so these are all that stand in its place
-  pub own_after : AreAfterOf (IsOfFile units file) m units (out_units m units file)
-  own_after = record {
+  pub all_own : AreAfterOf (IsOfFile units file) m units (out_units m units file)
+  all_own = record {
     new = λ n part nth i user mine. elim (in_cases (partial_unit m n) (out_units m units file) (common_units m) (all.new n part nth i user mine)) [
       | inl a ↦ a
       | inr b ↦ absurd (not_shared n part nth i user mine b)
@@ -69,15 +70,56 @@ module _ (units : List (FileUnit EntryName)) (rule : Rule) (files : List ℕ) (f
     from = λ v there. all.from v (in_left v (out_units m units file) (common_units m) there);
   }
 
+  -- and their references name entries of them, where all that is gone of the file stands there
+  pub all_closed : AreOld units → Closed (units_of_file file units)
+      → ((t : Top) → In t (tops_of units) → t.file ≡ file → m.gone t.number ≡ true → (d : Seen EntryName) → In d (raw_top t) → StandsAt m (out_units m units file) d.at)
+      → ((n : ℕ) (part : PartialUnit) → Nth 0 m.parts n part → part.home ≡ Local file → HoldsOwn units m file n) → Closed (out_units m units file)
+  all_closed old closed gone own e a k there attr ref = refs_there units m old file (out_units m units file) kept_in all_own.new gone own closed e a k there attr ref
+
+-- ---- of a plan
+
+pub own_after : (units : List (FileUnit EntryName)) (rule : Rule) (files : List ℕ) (file : ℕ) → imports_common (plan rule units files) units file ≡ false
+    → AreAfterOf (IsOfFile units file) (plan rule units files) units (out_units (plan rule units files) units file)
+own_after units rule files file imports = all_own units (plan rule units files) file imports (file_outs units rule files file)
+
+module _ (scope : TopScope) (units : List (FileUnit EntryName)) (rule : Rule) (is : IsAlike scope units rule.alike) (choice : IsChoice units rule) (files : List ℕ)
+    (held : IsHeld units (plan rule units files)) (file : ℕ) where
+  abbrev m : Move
+  m = plan rule units files
+
+  gone_there : (outs : List (DwUnit EntryName)) → AreAfterOf (IsOfFile units file) m units outs → (t : Top) → In t (tops_of units) → t.file ≡ file → m.gone t.number ≡ true → (d : Seen EntryName)
+      → In d (raw_top t)
+      → StandsAt m outs d.at
+  gone_there outs after t there of_file mv d is =
+      let f : EntryName → EntryName = image_in m in
+      let o = held.held t there mv in
+      let u = unit_of units t there in
+      let new = after.new o.number o.part o.nth t.unit o.user (u.unit, u.nth, sym u.file_is ∙ of_file) in
+      let mapped = subst (λ (w : List (Seen EntryName)). In (seen_map f d) w) (sym (seen_top_map f t)) (in_map (seen_map f) d (raw_top t) is) in
+      let e = tree_seen f (m.rows o.number) End (name_list t) o.top o.has (seen_map f d) (subst (λ (w : List (Seen EntryName)). In (seen_map f d) w) o.same mapped) in
+      (seen_map f d, entry_seen outs (partial_unit m o.number) (seen_map f d) new e, refl)
+
+  holds_own : (n : ℕ) (part : PartialUnit) → Nth 0 m.parts n part → part.home ≡ Local file → HoldsOwn units m file n
+  holds_own n part nth home = record {
+    kinds = held.kinds n part nth;
+    tops = λ names t has.
+        (let in_part = ((part_row_is n part).tops_are names t).0 (subst (Has names (OfTop t)) (row_found rule units files n part nth) has) in
+        (held.tops n part nth names t has, top_file scope units rule is choice files file n part nth home t in_part.0));
+    plain = held.plain n part nth;
+    root = held.roots n;
+  }
+
 -- and their references name entries of them
 pub own_closed : (scope : TopScope) (docs : List (Doc ℕ)) (rule : Rule) → Each (λ doc. ArePlaced doc.units) docs → IsAlike scope (units_of docs) rule.alike → IsChoice (units_of docs) rule
     → (file : ℕ) → imports_common (plan rule (units_of docs) (file_numbers 0 docs)) (units_of docs) file ≡ false
     → Closed (out_units (plan rule (units_of docs) (file_numbers 0 docs)) (units_of docs) file)
 own_closed scope docs rule placed is choice file imports =
+    let units = units_of docs in
+    let files = file_numbers 0 docs in
+    let m = plan rule units files in
     let whole = replaced scope docs rule placed is choice in
-    let m = plan rule (units_of docs) (file_numbers 0 docs) in
-    λ e a k there attr ref. refs_there scope (units_of docs) rule is choice (file_numbers 0 docs) whole.old whole.held file (out_units m (units_of docs) file)
-    (own_after (units_of docs) rule (file_numbers 0 docs) file imports) (closed_at file 0 0 0 docs placed) e a k there attr ref
+    all_closed units m file imports (file_outs units rule files file) whole.old (closed_at file 0 0 0 docs placed)
+    (gone_there scope units rule is choice files whole.held file (out_units m units file) (own_after units rule files file imports)) (holds_own scope units rule is choice files whole.held file)
 
 -- ---- a file of which nothing moves imports nothing
 

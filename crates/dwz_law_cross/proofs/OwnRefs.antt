@@ -10,29 +10,26 @@ use Rattle.dwz_def_tops.proofs.Members.{each_in, in_filter, in_filter_from, in_m
 use Rattle.dwz_def_tops.proofs.SeenLemmas.{entry_seen, names_map, root_from, root_seen, seen_entries, seen_from, seen_in}
 use Rattle.dwz_def_tops.proofs.ShownLemmas.{attr_from}
 use Rattle.dwz_def_tops.specs.Spaces.{IsUnder}
-use Rattle.dwz_def_tops.specs.Alike.{IsAlike, TopScope}
-use Rattle.dwz_def_tops.specs.Spots.{FileUnit, PartialRoot, EntryName, Top, name_list, rows_of_root, row_tops, tops_of}
-use Rattle.dwz_def_tops.proofs.RowLemmas.{unit_row}
+use Rattle.dwz_def_tops.specs.Spots.{FileUnit, PartialRoot, EntryName, Top, rows_of_root, row_tops, tops_of}
+use Rattle.dwz_def_tops.proofs.RowLemmas.{row_unit, unit_row}
 use Rattle.dwz_def_tops.proofs.Tops.{row_top, unit_of}
-use Rattle.dwz_def_images.specs.Homes.{IsChoice, Local, Rule}
+use Rattle.dwz_def_images.specs.Homes.{Local}
 use Rattle.dwz_def_images.specs.IsPlan.{Has, OfSpace, OfTop}
-use Rattle.dwz_def_images.specs.Moves.{Move, image_in, plan, seen_top}
+use Rattle.dwz_def_images.specs.Moves.{Move, image_in, seen_top}
 use Rattle.dwz_def_images.specs.Plan.{PartialUnit, import_of, imports, kept_row}
 use Rattle.dwz_def_images.proofs.KeptLemmas.{are_imports}
 use Rattle.dwz_def_images.proofs.RowParts.{kept_is}
-use Rattle.dwz_def_images.proofs.PartRows.{part_is}
-use Rattle.dwz_def_images.specs.After.{AreOld, AreAfterOf, IsOfFile}
+use Rattle.dwz_def_images.specs.After.{AreOld, IsOfFile}
 use Rattle.dwz_def_tops.specs.UnitNames.{IsNamedBelow}
-use Rattle.dwz_def_images.specs.Held.{IsHeld, NameNone}
+use Rattle.dwz_def_images.specs.Held.{Kinded, NameNone}
 use Rattle.dwz_def_images.specs.Units.{changes, kept_unit, kept_units, out_units, partial_unit, partial_units, tree, units_of_file}
 use Rattle.dwz_def_images.proofs.ClosedLemmas.{none_seen, row_seen}
 use Rattle.dwz_def_images.proofs.EntryLemmas.{kept_compile, kept_still, kept_type}
-use Rattle.dwz_def_images.proofs.HeldLemmas.{row_found}
 use Rattle.dwz_def_images.proofs.KindLemmas.{kept_kinded}
 use Rattle.dwz_def_images.proofs.OldRows.{InTop, IsSpaceSeen, Origin, item_under, raw_seen, raw_top, row_kinded, seen_origin, tops_among}
-use Rattle.dwz_def_images.proofs.TreeLemmas.{Behind, OfASpace, OfATop, TreeOrigin, seen_top_map, tree_origin, tree_seen}
+use Rattle.dwz_def_images.proofs.TreeLemmas.{Behind, OfASpace, OfATop, TreeOrigin, seen_top_map, tree_origin}
 use Rattle.std.specs.List.{filter}
-use Rattle.dwz_def_readback.proofs.HomeLemmas.{kept_from, parts_from, top_file}
+use Rattle.dwz_def_readback.proofs.HomeLemmas.{kept_from, parts_from}
 use Rattle.dwz_def_readback.proofs.KeptLemmas.{mapped_kept, space_kept, top_kept}
 use Rattle.dwz_def_readback.proofs.WithinLemmas.{none_mapped}
 
@@ -44,16 +41,26 @@ under_seen names e (Entry d g k) (inl x) = (see d g, inl refl, ap (λ (w : Node 
 under_seen names e (Entry d g k) (inr (inl i)) = let o = under_seen i.1 e g i.4 in (o.0, inr (in_left o.0 (seen g) (seen k) o.1), o.2)
 under_seen names e (Entry d g k) (inr (inr r)) = let o = under_seen names e k r in (o.0, inr (in_right o.0 (seen g) (seen k) o.1), o.2)
 
-module _ (scope : TopScope) (units : List (FileUnit EntryName)) (rule : Rule) (is : IsAlike scope units rule.alike) (choice : IsChoice units rule) (files : List ℕ) (old : AreOld units)
-    (held : IsHeld units (plan rule units files)) (file : ℕ) (outs : List (DwUnit EntryName)) (after : AreAfterOf (IsOfFile units file) (plan rule units files) units outs) where
-  abbrev m : Move
-  m = plan rule units files
+-- what a partial unit of the file holds: tops of the file, and spaces that name nothing; nor does its root
+pub record HoldsOwn (units : List (FileUnit EntryName)) (m : Move) (file n : ℕ) : Type 0 where
+  pub kinds : Kinded (m.rows n)
+  pub tops : (names : List (List ℕ)) (t : Top) → Has names (OfTop t) (m.rows n) → In t (tops_of units) × (t.file ≡ file)
+  pub plain : (names : List (List ℕ)) (e : Node EntryName) → Has names (OfSpace e) (m.rows n) → NameNone (map named_value e.attrs)
+  pub root : NameNone (map named_value (m.roots n))
 
+-- an entry of these units stands at the image of that place
+abbrev pub StandsAt : Move → List (DwUnit EntryName) → EntryName → Type 0
+StandsAt m outs at = (d : Seen EntryName) × In d (all_seen outs) × (d.at ≡ image_in m at)
+
+-- a move of units, and what stands after in place of a file: its units that are kept, the partial units that these use, and what is gone
+-- of its tops
+module _ (units : List (FileUnit EntryName)) (m : Move) (old : AreOld units) (file : ℕ) (outs : List (DwUnit EntryName))
+    (kept_in : (i : ℕ) (u : FileUnit EntryName) → Nth 0 units i u → u.file ≡ file → In (kept_unit m units i u) outs)
+    (new_in : (n : ℕ) (part : PartialUnit) → Nth 0 m.parts n part → (i : ℕ) → In i part.users → IsOfFile units file i → In (partial_unit m n) outs)
+    (gone_there : (t : Top) → In t (tops_of units) → t.file ≡ file → m.gone t.number ≡ true → (d : Seen EntryName) → In d (raw_top t) → StandsAt m outs d.at)
+    (own : (n : ℕ) (part : PartialUnit) → Nth 0 m.parts n part → part.home ≡ Local file → HoldsOwn units m file n) where
   abbrev f : EntryName → EntryName
   f = image_in m
-
-  kept_in : (i : ℕ) (u : FileUnit EntryName) → Nth 0 units i u → u.file ≡ file → In (kept_unit m units i u) outs
-  kept_in i u nth e = after.kept i u nth (u, nth, e)
 
   -- ---- the images of what stood in the file
 
@@ -61,22 +68,17 @@ module _ (scope : TopScope) (units : List (FileUnit EntryName)) (rule : Rule) (i
   Stands q = (d : Seen EntryName) × In d (all_seen outs) × (d.at ≡ q)
 
   module _ (i : ℕ) (u : FileUnit EntryName) (nth : Nth 0 units i u) (of_file : u.file ≡ file) where
-    own_unit : IsOfFile units file i
-    own_unit = (u, nth, of_file)
-
-    moved_seen : (t : Top) → In t (tops_of units) → t.unit ≡ i → m.gone t.number ≡ true → (e : Seen EntryName) → In e (seen_top f t) → In e (seen_below outs)
-    moved_seen t there own mv e h =
-        let o = held.held t there mv in
-        let new = after.new o.number o.part o.nth t.unit o.user (subst (IsOfFile units file) (sym own) own_unit) in
-        seen_in outs (partial_unit m o.number) e new (tree_seen f (m.rows o.number) End (name_list t) o.top o.has e (subst (λ (w : List (Seen EntryName)). In e w) o.same h))
-
     top_there : u.unit.kind ≡ Compile → (t : Top) → In t (row_tops (rows_of_root units i)) → (b : Bool) → m.gone t.number ≡ b → changes m units u.file ≡ true → (e : Seen EntryName) → In e (raw_top t)
-        → In (seen_map f e) (seen_below outs)
+        → Stands (f e.at)
     top_there kind t in_row true mv change e h =
-        let own = row_top units i t in_row in
-        moved_seen t own.0 own.1 mv (seen_map f e) (subst (λ (w : List (Seen EntryName)). In (seen_map f e) w) (sym (seen_top_map f t)) (in_map (seen_map f) e (raw_top t) h))
-    top_there kind t in_row false mv change e h =
-        seen_in outs (kept_unit m units i u) (seen_map f e) (kept_in i u nth of_file) (top_kept units m old i u nth kind t in_row mv change e h)
+        let there = row_top units i t in_row in
+        let file_is = (row_unit u.file i (language u.unit) [] (unit_row units i u nth kind).first (rows_of_root units i) u.unit.below (unit_row units i u nth kind).is t in_row).0 in
+        gone_there t there.0 (file_is ∙ of_file) mv e h
+    top_there kind t in_row false mv change e h = (
+      seen_map f e,
+      in_right (seen_map f e) (seen_roots outs) (seen_below outs) (seen_in outs (kept_unit m units i u) (seen_map f e) (kept_in i u nth of_file) (top_kept units m old i u nth kind t in_row mv change e h)),
+      refl,
+    )
 
     mapped_there : (d : Seen EntryName) → In d (seen u.unit.below) → (kept_unit m units i u).below ≡ entries_map f u.unit.below → Stands (f d.at)
     mapped_there d h below = (seen_map f d, entry_seen outs (kept_unit m units i u) (seen_map f d) (kept_in i u nth of_file) (mapped_kept units m old i u nth d h below), refl)
@@ -89,7 +91,7 @@ module _ (scope : TopScope) (units : List (FileUnit EntryName)) (rule : Rule) (i
         go (seen_origin u.file i (language u.unit) [] (unit_row units i u nth kind).first (rows_of_root units i) u.unit.below (unit_row units i u nth kind).is d h)
       where
         go : Origin u.file i (language u.unit) (rows_of_root units i) u.unit.below d → Stands (f d.at)
-        go (InTop t there x) = (seen_map f d, in_right (seen_map f d) (seen_roots outs) (seen_below outs) (top_there kind t there (m.gone t.number) refl c d x), refl)
+        go (InTop t there x) = top_there kind t there (m.gone t.number) refl c d x
         go (IsSpaceSeen names c' has at) =
             let o = space_kept units m old i u nth kind names c' has c in
             (o.0, entry_seen outs (kept_unit m units i u) o.0 (kept_in i u nth of_file) o.1, o.2 ∙ ap f (sym at))
@@ -127,12 +129,13 @@ module _ (scope : TopScope) (units : List (FileUnit EntryName)) (rule : Rule) (i
       OfOld o.source (record { number = t.unit; unit = u.unit; nth = u.nth; of_file = sym u.file_is ∙ of_file; is_in = inr below }) (sym (ap (λ (w : Seen EntryName). w.attrs) o.is))
 
   new_origin : (n : ℕ) (part : PartialUnit) → Nth 0 m.parts n part → part.home ≡ Local file → (e : Seen EntryName) → In e (seen (tree f (m.rows n) End)) → Comes e
-  new_origin n part nth at e h = go (tree_origin f (m.rows n) End (held.kinds n part nth) e h) where
+  new_origin n part nth at e h = go (tree_origin f (m.rows n) End holds.kinds e h) where
+    holds : HoldsOwn units m file n
+    holds = own n part nth at
+
     go : TreeOrigin f (m.rows n) End e → Comes e
-    go (OfATop names t has x) =
-        (let in_part = ((part_is n part).tops_are names t).0 (subst (Has names (OfTop t)) (row_found rule units files n part nth) has) in
-        top_origin t (held.tops n part nth names t has) (top_file scope units rule is choice files file n part nth at t in_part.0) e x)
-    go (OfASpace names d has attrs) = OfNone (subst NameNone (sym attrs) (none_mapped f d.attrs (held.plain n part nth names d has)))
+    go (OfATop names t has x) = (let o = holds.tops names t has in top_origin t o.0 o.1 e x)
+    go (OfASpace names d has attrs) = OfNone (subst NameNone (sym attrs) (none_mapped f d.attrs (holds.plain names d has)))
     go (Behind x) = absurd (none_seen e x)
 
   module _ (i : ℕ) (u : FileUnit EntryName) (nth : Nth 0 units i u) (of_file : u.file ≡ file) where
@@ -145,7 +148,7 @@ module _ (scope : TopScope) (units : List (FileUnit EntryName)) (rule : Rule) (i
         let o = row_seen (map (import_of i) a.parts_imported) e (subst (λ (w : Entries EntryName). In e (seen w)) a.entries_are h) in
         let n = in_map_from (import_of i) o.0 a.parts_imported o.1 in
         let p = (a.are n.source).0 n.there in
-        OfImport n.source (after.new n.source p.0 p.1 i p.2 (u, nth, of_file)) i (o.2 ∙ ap (λ (w : Node EntryName). map named_value w.attrs) (sym n.is))
+        OfImport n.source (new_in n.source p.0 p.1 i p.2 (u, nth, of_file)) i (o.2 ∙ ap (λ (w : Node EntryName). map named_value w.attrs) (sym n.is))
 
     mapped_origin : (e : Seen EntryName) → In e (seen (entries_map f u.unit.below)) → Comes e
     mapped_origin e h =
@@ -192,7 +195,7 @@ module _ (scope : TopScope) (units : List (FileUnit EntryName)) (rule : Rule) (i
   root_origin v there e same = elim (in_cases v (partial_units m (Local file) 0 m.parts) (kept_units m units file 0 units) there) [
     | inl a ↦
         let o = parts_from m (Local file) 0 m.parts v a in
-        OfNone (subst NameNone (ap (λ (w : DwUnit EntryName). map named_value w.root.attrs) o.is ∙ ap (λ (w : Seen EntryName). w.attrs) same) (held.roots o.number))
+        OfNone (subst NameNone (ap (λ (w : DwUnit EntryName). map named_value w.root.attrs) o.is ∙ ap (λ (w : Seen EntryName). w.attrs) same) (own o.number o.part o.nth o.home_is).root)
     | inr b ↦
         let o = kept_from m units file 0 units v b in
         let u = o.unit.unit in
@@ -214,7 +217,7 @@ module _ (scope : TopScope) (units : List (FileUnit EntryName)) (rule : Rule) (i
   import_ref i n a q (inl x) there = elim (subst (λ (w : Named EntryName). In q w.value.refs) (sym x) there) [ inl e ↦ e | inr r ↦ absurd r ]
   import_ref i n a q (inr r) there = absurd r
 
-  -- after, each names an entry of it, or of the common file
+  -- after, each names an entry of what stands in its place
   refs_stand : ClosedBefore → (e : Seen EntryName) (a : Named EntryName) (q : EntryName) → In e (all_seen (out_units m units file)) → In a e.attrs → In q a.value.refs
       → (d : Seen EntryName) × In d (all_seen outs) × (d.at ≡ q)
   refs_stand closed e a q there attr ref = go (origin e there) where

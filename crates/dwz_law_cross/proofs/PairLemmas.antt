@@ -63,7 +63,7 @@ doc_named file first unit n (d ∷ docs) doc (inr r) =
 
 -- ---- units in lists
 
-one_unit : {Q : Type 0} (units : List (DwUnit Q)) → NoneTwice (units_keys units) → (a b : DwUnit Q) → In a units → In b units → a.root.at ≡ b.root.at → a ≡ b
+pub one_unit : {Q : Type 0} (units : List (DwUnit Q)) → NoneTwice (units_keys units) → (a b : DwUnit Q) → In a units → In b units → a.root.at ≡ b.root.at → a ≡ b
 unfolding units_keys unit_keys
 one_unit [] h a b i j e = absurd i
 one_unit (u ∷ units) h a b (inl x) (inl y) e = sym x ∙ y
@@ -74,7 +74,7 @@ one_unit {Q} (u ∷ units) h a b (inl x) (inr y) e =
 one_unit {Q} (u ∷ units) h a b (inr x) (inl y) e =
     absurd (none_both (unit_keys u) (units_keys units) h u.root.at (inr (inl refl)) (subst (λ (w : Q). In w (units_keys units)) (e ∙ sym (ap (λ (w : DwUnit Q). w.root.at) y)) (root_key units a x)))
 
-whole_shown : {P Q : Type 0} (g : P → Q) (us : List (DwUnit P)) (vs : List (DwUnit Q)) → UnitsShown g us vs → UnitsShown g (whole_units us) (whole_units vs)
+pub whole_shown : {P Q : Type 0} (g : P → Q) (us : List (DwUnit P)) (vs : List (DwUnit Q)) → UnitsShown g us vs → UnitsShown g (whole_units us) (whole_units vs)
 unfolding whole_units
 whole_shown g [] [] h = tt
 whole_shown g [] (v ∷ vs) h = absurd h
@@ -87,7 +87,7 @@ whole_shown {P} {Q} g (u ∷ us) (v ∷ vs) h =
     by (OfType s t) more = (h.0, more)
     by Partial more = more
 
-whole_in : {P : Type 0} (units : List (DwUnit P)) (u : DwUnit P) → In u (whole_units units) → In u units
+pub whole_in : {P : Type 0} (units : List (DwUnit P)) (u : DwUnit P) → In u (whole_units units) → In u units
 unfolding whole_units
 whole_in [] u h = h
 whole_in {P} (x ∷ units) u h = by x.kind h (whole_in units u) where

@@ -37,7 +37,7 @@ use Rattle.dwz_law_cross.proofs.ReadLemmas.{none_there}
 
 -- ---- the section
 
-sup_long : (s : Sup) → length s.sum ≡ 32 → length (sup_bytes s) ≡ length s.name + 37
+pub sup_long : (s : Sup) → length s.sum ≡ 32 → length (sup_bytes s) ≡ length s.name + 37
 unfolding sup_bytes
 sup_long s is =
     let small : uleb (length s.sum) ≡ length s.sum ∷ [] = uleb_small (length s.sum) (omega (arith, is)) in
@@ -60,7 +60,7 @@ is_there bytes some = by (section_range (sections_in bytes) 9) some where
   by None few = absurd (omega (arith, few))
   by (Some range) few = refl
 
-sum_good : (is_kind : List ℕ → Sup → Bool) (sum section : List ℕ) (s : Sup) → s.sum ≡ sum → is_kind section s ≡ true → read_sup section ≡ Some s
+pub sum_good : (is_kind : List ℕ → Sup → Bool) (sum section : List ℕ) (s : Sup) → s.sum ≡ sum → is_kind section s ≡ true → read_sup section ≡ Some s
     → sum_fault is_kind sum section (read_sup section) ≡ None
 sum_good is_kind sum section s same is read =
     let eq : bytes_eq s.sum sum ≡ true = subst (λ (w : List ℕ). bytes_eq s.sum w ≡ true) same (same_text s.sum) in
@@ -69,17 +69,17 @@ sum_good is_kind sum section s same is read =
 of_common : (section : List ℕ) (s : Sup) → s.supplementary ≡ true → s.name ≡ [] → length s.sum ≡ 32 → length section ≡ length s.name + 37 → is_of_common section s ≡ true
 of_common section s kind none sum long = rw (kind, eq-eqb (length s.name) 0 (ap length none), eq-eqb (length s.sum) 32 sum, eq-eqb (length section) (length s.name + 37) long) refl
 
-of_file : (section : List ℕ) (s : Sup) → s.supplementary ≡ false → length s.sum ≡ 32 → length section ≡ length s.name + 37 → is_of_file section s ≡ true
+pub of_file : (section : List ℕ) (s : Sup) → s.supplementary ≡ false → length s.sum ≡ 32 → length section ≡ length s.name + 37 → is_of_file section s ≡ true
 of_file section s kind sum long = rw (kind, eq-eqb (length s.sum) 32 sum, eq-eqb (length section) (length s.name + 37) long) refl
 
-if_there : (common : List ℕ) (bytes : List ℕ) → sum_fault is_of_file (sum_of common) (debug_sup bytes) (read_sup (debug_sup bytes)) ≡ None → file_sup_fault (Some common) bytes ≡ None
+pub if_there : (common : List ℕ) (bytes : List ℕ) → sum_fault is_of_file (sum_of common) (debug_sup bytes) (read_sup (debug_sup bytes)) ≡ None → file_sup_fault (Some common) bytes ≡ None
 unfolding file_sup_fault
 if_there common bytes good = by (has_sup bytes) where
   by : (b : Bool) → cond b (sum_fault is_of_file (sum_of common) (debug_sup bytes) (read_sup (debug_sup bytes))) None ≡ None
   by true = good
   by false = refl
 
-if_not : (common : List ℕ) (bytes : List ℕ) → has_sup bytes ≡ false → file_sup_fault (Some common) bytes ≡ None
+pub if_not : (common : List ℕ) (bytes : List ℕ) → has_sup bytes ≡ false → file_sup_fault (Some common) bytes ≡ None
 unfolding file_sup_fault
 if_not common bytes e = rw e refl
 

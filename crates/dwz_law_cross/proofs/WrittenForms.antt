@@ -149,73 +149,75 @@ module _ (units : List (FileUnit EntryName)) (rule : Rule) (files : List ℕ)
     unfolding fit_units
     shared_stand = map_each (fit_unit shared_forms) (UnitStandsSo IsFormOfCommon) (common_units m) unit_shared
 
-  -- ---- a file
+-- ---- a file
 
-  module _ (sup : Bool) (old : AreOld units) (low : (i : ℕ) (u : FileUnit EntryName) → Nth 0 units i u → suc (depth (kept_unit m units i u).below) ≤ 256) (file : ℕ) (f : Forms EntryName)
-      (same : IsSame f.same)
-      (from : From) (carried : Each (λ u. CarriedUnit from (f.origin u.at) u) (out_units m units file)) (none : sup ≡ false → f.shared ≡ [])
-      (refs : sup ≡ false → (e : Seen EntryName) (a : Named EntryName) (k : EntryName) → In e (all_seen (out_units m units file)) → In a e.attrs → In k a.value.refs
-      → In k (units_keys (out_units m units file))) where
-    abbrev own_forms : KeyedForms EntryName
-    own_forms = with_keys f (units_keys (out_units m units file))
+module _ (units : List (FileUnit EntryName)) (m : Move) (file : ℕ)
+    (deep : (n : ℕ) (part : PartialUnit) → Nth 0 m.parts n part → part.home ≡ Local file → suc (depth (partial_unit m n).below) ≤ 256)
+    (free : (n : ℕ) (part : PartialUnit) → Nth 0 m.parts n part → part.home ≡ Local file → EachAttr IsUnbound (partial_unit m n).below) (sup : Bool) (old : AreOld units)
+    (low : (i : ℕ) (u : FileUnit EntryName) → Nth 0 units i u → suc (depth (kept_unit m units i u).below) ≤ 256) (f : Forms EntryName) (same : IsSame f.same) (from : From)
+    (carried : Each (λ u. CarriedUnit from (f.origin u.at) u) (out_units m units file)) (none : sup ≡ false → f.shared ≡ [])
+    (refs : sup ≡ false → (e : Seen EntryName) (a : Named EntryName) (k : EntryName) → In e (all_seen (out_units m units file)) → In a e.attrs → In k a.value.refs
+    → In k (units_keys (out_units m units file))) where
+  abbrev own_forms : KeyedForms EntryName
+  own_forms = with_keys f (units_keys (out_units m units file))
 
-    abbrev Known : EntryName → Type 0
-    Known k = sup ≡ false → In k (units_keys (out_units m units file))
+  abbrev Known : EntryName → Type 0
+  Known k = sup ≡ false → In k (units_keys (out_units m units file))
 
-    abbrev IsKept : Attr EntryName → Type 0
-    IsKept a = IsBuilt a.form × Refer Known a
+  abbrev IsKept : Attr EntryName → Type 0
+  IsKept a = IsBuilt a.form × Refer Known a
 
-    abbrev IsMoved : Attr EntryName → Type 0
-    IsMoved a = IsUnbound a × IsKept a
+  abbrev IsMoved : Attr EntryName → Type 0
+  IsMoved a = IsUnbound a × IsKept a
 
-    alone_form : (u : DwUnit EntryName) (a : Attr EntryName) → IsKept a → sup ≡ false → ((fit_attr (unit_forms own_forms u) a).form ≢ 0x1c) × ((fit_attr (unit_forms own_forms u) a).form ≢ 0x1d)
-    alone_form u a is e = own_fit (unit_forms own_forms u) same (none e) a is.0 (λ k i. is.1 k i e)
+  alone_form : (u : DwUnit EntryName) (a : Attr EntryName) → IsKept a → sup ≡ false → ((fit_attr (unit_forms own_forms u) a).form ≢ 0x1c) × ((fit_attr (unit_forms own_forms u) a).form ≢ 0x1d)
+  alone_form u a is e = own_fit (unit_forms own_forms u) same (none e) a is.0 (λ k i. is.1 k i e)
 
-    roots : (u : DwUnit EntryName) → In u (out_units m units file) → Each IsKept u.root.attrs
-    roots u there =
-        let c = each_in (λ w. CarriedUnit from (f.origin w.at) w) u (out_units m units file) carried there in
-        let built = each_more (CarriedAttr from (f.origin u.at)) (λ a. IsBuilt a.form) u.root.attrs (built_of from (f.origin u.at)) c.root.attrs in
-        join_attrs (λ a. IsBuilt a.form) (Refer Known) IsKept (λ a p q. (p, q)) u.root.attrs built
-        (root_refers (out_units m units file) Known (λ d a k d_in a_in k_in e. refs e d a k d_in a_in k_in) u there)
+  roots : (u : DwUnit EntryName) → In u (out_units m units file) → Each IsKept u.root.attrs
+  roots u there =
+      let c = each_in (λ w. CarriedUnit from (f.origin w.at) w) u (out_units m units file) carried there in
+      let built = each_more (CarriedAttr from (f.origin u.at)) (λ a. IsBuilt a.form) u.root.attrs (built_of from (f.origin u.at)) c.root.attrs in
+      join_attrs (λ a. IsBuilt a.form) (Refer Known) IsKept (λ a p q. (p, q)) u.root.attrs built
+      (root_refers (out_units m units file) Known (λ d a k d_in a_in k_in e. refs e d a k d_in a_in k_in) u there)
 
-    belows : (u : DwUnit EntryName) → In u (out_units m units file) → EachAttr IsKept u.below
-    belows u there =
-        let c = each_in (λ w. CarriedUnit from (f.origin w.at) w) u (out_units m units file) carried there in
-        let built = entries_more (CarriedAttr from (f.origin u.at)) (λ a. IsBuilt a.form) (built_of from (f.origin u.at)) u.below (carried_attrs from (f.origin u.at) u.below c.below) in
-        join_entries (λ a. IsBuilt a.form) (Refer Known) IsKept (λ a p q. (p, q)) u.below built
-        (below_refers (out_units m units file) Known (λ d a k d_in a_in k_in e. refs e d a k d_in a_in k_in) u there)
+  belows : (u : DwUnit EntryName) → In u (out_units m units file) → EachAttr IsKept u.below
+  belows u there =
+      let c = each_in (λ w. CarriedUnit from (f.origin w.at) w) u (out_units m units file) carried there in
+      let built = entries_more (CarriedAttr from (f.origin u.at)) (λ a. IsBuilt a.form) (built_of from (f.origin u.at)) u.below (carried_attrs from (f.origin u.at) u.below c.below) in
+      join_entries (λ a. IsBuilt a.form) (Refer Known) IsKept (λ a p q. (p, q)) u.below built
+      (below_refers (out_units m units file) Known (λ d a k d_in a_in k_in e. refs e d a k d_in a_in k_in) u there)
 
-    part_stands : (n : ℕ) (part : PartialUnit) → Nth 0 m.parts n part → Each IsKept (partial_unit m n).root.attrs → EachAttr IsKept (partial_unit m n).below
-        → UnitStandsSo (IsFormOfBack sup) (fit_unit own_forms (partial_unit m n))
-    part_stands n part nth root below =
-        let v = partial_unit m n in
-        let all = join_entries IsUnbound IsKept IsMoved (λ a p q. (p, q)) v.below (free n part nth) below in
-        fit_stands (IsFormOfBack sup) IsKept IsMoved own_forms v (λ a is. record { alone = alone_form v a is; free = λ t r. absurd (let z : true ≡ false = r in cc) })
-        (λ a is. record { alone = alone_form v a is.1; free = λ t r. unbound_fit (unit_forms own_forms v) a is.0 }) root all (deep n part nth)
+  part_stands : (n : ℕ) (part : PartialUnit) → Nth 0 m.parts n part → part.home ≡ Local file → Each IsKept (partial_unit m n).root.attrs → EachAttr IsKept (partial_unit m n).below
+      → UnitStandsSo (IsFormOfBack sup) (fit_unit own_forms (partial_unit m n))
+  part_stands n part nth home root below =
+      let v = partial_unit m n in
+      let all = join_entries IsUnbound IsKept IsMoved (λ a p q. (p, q)) v.below (free n part nth home) below in
+      fit_stands (IsFormOfBack sup) IsKept IsMoved own_forms v (λ a is. record { alone = alone_form v a is; free = λ t r. absurd (let z : true ≡ false = r in cc) })
+      (λ a is. record { alone = alone_form v a is.1; free = λ t r. unbound_fit (unit_forms own_forms v) a is.0 }) root all (deep n part nth home)
 
-    kept_stands : (i : ℕ) (u : FileUnit EntryName) → Nth 0 units i u → Each IsKept (kept_unit m units i u).root.attrs → EachAttr IsKept (kept_unit m units i u).below
-        → UnitStandsSo (IsFormOfBack sup) (fit_unit own_forms (kept_unit m units i u))
-    kept_stands i u nth root below =
-        let v = kept_unit m units i u in
-        let whole = tag_whole (image_in m) u.unit.kind i u units (old.units_named i u nth).below in
-        fit_stands (IsFormOfBack sup) IsKept IsKept own_forms v (λ a is. record { alone = alone_form v a is; free = λ t r. absurd (whole t) })
-        (λ a is. record { alone = alone_form v a is; free = λ t r. absurd (whole t) }) root below (low i u nth)
+  kept_stands : (i : ℕ) (u : FileUnit EntryName) → Nth 0 units i u → Each IsKept (kept_unit m units i u).root.attrs → EachAttr IsKept (kept_unit m units i u).below
+      → UnitStandsSo (IsFormOfBack sup) (fit_unit own_forms (kept_unit m units i u))
+  kept_stands i u nth root below =
+      let v = kept_unit m units i u in
+      let whole = tag_whole (image_in m) u.unit.kind i u units (old.units_named i u nth).below in
+      fit_stands (IsFormOfBack sup) IsKept IsKept own_forms v (λ a is. record { alone = alone_form v a is; free = λ t r. absurd (whole t) })
+      (λ a is. record { alone = alone_form v a is; free = λ t r. absurd (whole t) }) root below (low i u nth)
 
-    unit_stands : (u : DwUnit EntryName) → In u (out_units m units file) → UnitStandsSo (IsFormOfBack sup) (fit_unit own_forms u)
-    unfolding out_units
-    unit_stands u there = elim (in_cases u (partial_units m (Local file) 0 m.parts) (kept_units m units file 0 units) there) [
-      | inl a ↦
-          let o = parts_from m (Local file) 0 m.parts u a in
-          subst (λ (w : DwUnit EntryName). UnitStandsSo (IsFormOfBack sup) (fit_unit own_forms w)) o.is
-          (part_stands o.number o.part o.nth (subst (λ (w : DwUnit EntryName). Each IsKept w.root.attrs) (sym o.is) (roots u there))
-          (subst (λ (w : DwUnit EntryName). EachAttr IsKept w.below) (sym o.is) (belows u there)))
-      | inr b ↦
-          let o = kept_from m units file 0 units u b in
-          subst (λ (w : DwUnit EntryName). UnitStandsSo (IsFormOfBack sup) (fit_unit own_forms w)) o.is
-          (kept_stands o.number o.unit o.nth (subst (λ (w : DwUnit EntryName). Each IsKept w.root.attrs) (sym o.is) (roots u there))
-          (subst (λ (w : DwUnit EntryName). EachAttr IsKept w.below) (sym o.is) (belows u there)))
-    ]
+  unit_stands : (u : DwUnit EntryName) → In u (out_units m units file) → UnitStandsSo (IsFormOfBack sup) (fit_unit own_forms u)
+  unfolding out_units
+  unit_stands u there = elim (in_cases u (partial_units m (Local file) 0 m.parts) (kept_units m units file 0 units) there) [
+    | inl a ↦
+        let o = parts_from m (Local file) 0 m.parts u a in
+        subst (λ (w : DwUnit EntryName). UnitStandsSo (IsFormOfBack sup) (fit_unit own_forms w)) o.is
+        (part_stands o.number o.part o.nth o.home_is (subst (λ (w : DwUnit EntryName). Each IsKept w.root.attrs) (sym o.is) (roots u there))
+        (subst (λ (w : DwUnit EntryName). EachAttr IsKept w.below) (sym o.is) (belows u there)))
+    | inr b ↦
+        let o = kept_from m units file 0 units u b in
+        subst (λ (w : DwUnit EntryName). UnitStandsSo (IsFormOfBack sup) (fit_unit own_forms w)) o.is
+        (kept_stands o.number o.unit o.nth (subst (λ (w : DwUnit EntryName). Each IsKept w.root.attrs) (sym o.is) (roots u there))
+        (subst (λ (w : DwUnit EntryName). EachAttr IsKept w.below) (sym o.is) (belows u there)))
+  ]
 
-    pub own_stand : Each (UnitStandsSo (IsFormOfBack sup)) (fit_units f (out_units m units file))
-    unfolding fit_units
-    own_stand = map_each (fit_unit own_forms) (UnitStandsSo (IsFormOfBack sup)) (out_units m units file) unit_stands
+  pub own_stand : Each (UnitStandsSo (IsFormOfBack sup)) (fit_units f (out_units m units file))
+  unfolding fit_units
+  own_stand = map_each (fit_unit own_forms) (UnitStandsSo (IsFormOfBack sup)) (out_units m units file) unit_stands

@@ -30,11 +30,12 @@ use Rattle.dwz_def_encoding.proofs.Rising.{entries_are_keys, place_within}
 use Rattle.dwz_def_encoding.proofs.SameLemmas.{spots_same}
 use Rattle.dwz_def_encoding.proofs.UnitsSpelled.{units_len}
 use Rattle.dwz_def_encoding.proofs.WriteLaws.{fits, is_roomy, spelled}
-use Rattle.dwz_def_readback.specs.Back.{CanWrite, SaysUnits}
-use Rattle.dwz_def_readback.specs.Files.{HasCommon, HasSections, OffsetsIf, Run, common_fitted, common_forms, common_out, common_sections, file_forms, file_out, files_out, fitted, fitted_by}
-use Rattle.dwz_def_readback.specs.Files.{fitted_if, formed, formed_by, paths, places, sections_of, shared, shared_if, sources, strs_if, tells, tells_common, texts, uses, uses_by}
-use Rattle.dwz_def_readback.specs.Files.{imports_common}
-use Rattle.dwz_def_readback.proofs.NameLemmas.{common_names, common_there, file_once, file_there, fitted_entries, fitted_fixed, fitted_names, not_common, run_once}
+use Rattle.dwz_def_readback.specs.Back.{CanWrite, CanWriteBy, SaysUnits}
+use Rattle.dwz_def_readback.specs.Files.{CommonFile, HasCommon, HasSectionsBy, Made, OffsetsIfBy, Run, common_fitted, common_fitted_by, common_forms, common_out, common_sections}
+use Rattle.dwz_def_readback.specs.Files.{file_forms_by, file_out, files_out, fitted, fitted_by, fitted_if_by, formed_by, paths, places, places_by, sections_by, shared_by, sources, strs_if_by}
+use Rattle.dwz_def_readback.specs.Files.{tells_by, tells_common, texts, uses_by}
+use Rattle.dwz_def_readback.proofs.NameLemmas.{common_names, common_there, file_once, file_there, fitted_entries_by, fitted_fixed, fitted_names_by, not_common, run_once}
+use Rattle.dwz_def_readback.proofs.OverSays.{FilesStand}
 use Rattle.dwz_def_readback.proofs.PathLemmas.{paths_carried}
 use Rattle.dwz_law_cross.proofs.OneRaw.{IsOfAll, one_raw, with_room}
 
@@ -118,17 +119,32 @@ module _ (r : Run) (can : CanWrite r) where
       (record { sound = good.0; stands = common_stands; room = common_room; fits = small; common_fits = λ k is. absurd is })
       good.1 common number out raw said says has.info has.abbrevs
 
-  -- ---- a file
+  pub common_low : FitsSections (common_sections r) → (k : EntryName) → In k (all_entry_keys (common_fitted r)) → n.place k < 2 ^ 32
+  common_low small k is = few_places (common_fitted r) common_stands small k (entries_are_keys (common_fitted r) k is)
 
-  formed_good : (file : ℕ) → In file r.files → changes r.move r.units file ≡ true → length (texts_bytes (shared r file)) < 2 ^ 32
-      → Each SoundUnit (formed r file) × UnitsSay (tells r file) (formed r file)
+  -- each file stands where its names are counted
+  pub made_stand : FilesStand Made r
+  made_stand = record {
+    stands = file_stands;
+    once = λ file there. file_once (files_out r) (run_once r can.apart) (file_out r file) (file_there r file there);
+    apart = λ file there. not_common r can.apart file there;
+  }
+
+-- ---- a file, whose common file is made or stands
+
+module _ (cf : CommonFile) (r : Run) (can : CanWriteBy cf r) (fs : FilesStand cf r) where
+  abbrev places_are : Numbering EntryName
+  places_are = places_by cf r
+
+  formed_good : (file : ℕ) → In file r.files → changes r.move r.units file ≡ true → length (texts_bytes (shared_by cf r file)) < 2 ^ 32
+      → Each SoundUnit (formed_by cf r file) × UnitsSay (tells_by cf r file) (formed_by cf r file)
   unfolding formed_by
   formed_good file there changed few =
-      let names = fitted_names r file in
+      let names = fitted_names_by cf r file in
       let c = can.file file there changed in
-      units_good (file_forms r file) spots_same (OfFile (sources r file)) (tells r file) (out_units r.move r.units file) (fitted_entries r file)
-      (subst NoneTwice names (file_once (files_out r) (run_once r can.apart) (file_out r file) (file_there r file there))) c.carried c.closed
-      (λ k common own. not_common r can.apart file there k (entries_are_keys (common_fitted r) k common) (subst (In k) (sym names) own)) (
+      units_good (file_forms_by cf r file) spots_same (OfFile (sources r file)) (tells_by cf r file) (out_units r.move r.units file) (fitted_entries_by cf r file)
+      (subst NoneTwice names (fs.once file there)) c.carried c.closed
+      (λ k common own. fs.apart file there k (entries_are_keys (common_fitted_by cf r) k common) (subst (In k) (sym names) own)) (
         can.few file there,
         λ s a is. record {
           strs = ap (λ (x : Sources). x.strs) (sym is);
@@ -140,39 +156,32 @@ module _ (r : Run) (can : CanWrite r) where
         record { strs = refl; few = few },
       ) c.over.bases c.over.operands
 
-  file_good : (file : ℕ) → In file r.files → changes r.move r.units file ≡ true → length (texts_bytes (shared r file)) < 2 ^ 32 → (offsets : List ℕ) → OffsetsIf (r.input.prunes file) r file offsets
-      → Each SoundUnit (fitted r file) × UnitsSay (with_texts (tells r file) (strs_if (r.input.prunes file) r file) offsets) (fitted r file)
+  file_good : (file : ℕ) → In file r.files → changes r.move r.units file ≡ true → length (texts_bytes (shared_by cf r file)) < 2 ^ 32 → (offsets : List ℕ)
+      → OffsetsIfBy (r.input.prunes file) cf r file offsets
+      → Each SoundUnit (fitted_by cf r file) × UnitsSay (with_texts (tells_by cf r file) (strs_if_by (r.input.prunes file) cf r file) offsets) (fitted_by cf r file)
   unfolding fitted_by uses_by
   file_good file there changed few offsets new = by (r.input.prunes file) refl new where
-    good : Each SoundUnit (formed r file) × UnitsSay (tells r file) (formed r file)
+    good : Each SoundUnit (formed_by cf r file) × UnitsSay (tells_by cf r file) (formed_by cf r file)
     good = formed_good file there changed few
 
-    by : (b : Bool) → r.input.prunes file ≡ b → OffsetsIf b r file offsets
-        → Each SoundUnit (fitted_if b r file) × UnitsSay (with_texts (tells r file) (strs_if b r file) offsets) (fitted_if b r file)
-    by true e new = units_pruned (tells r file) (formed r file) offsets (can.few file there) new (can.stay file there changed e) good.0 good.1
-    by false e new = (good.0, subst (λ (w : List ℕ). UnitsSay (with_texts (tells r file) (sources r file).strs w) (formed r file)) (sym new) good.1)
+    by : (b : Bool) → r.input.prunes file ≡ b → OffsetsIfBy b cf r file offsets
+        → Each SoundUnit (fitted_if_by b cf r file) × UnitsSay (with_texts (tells_by cf r file) (strs_if_by b cf r file) offsets) (fitted_if_by b cf r file)
+    by true e new = units_pruned (tells_by cf r file) (formed_by cf r file) offsets (can.few file there) new (can.stay file there changed e) good.0 good.1
+    by false e new = (good.0, subst (λ (w : List ℕ). UnitsSay (with_texts (tells_by cf r file) (sources r file).strs w) (formed_by cf r file)) (sym new) good.1)
 
-  file_room : (file : ℕ) → In file r.files → changes r.move r.units file ≡ true → Each (UnitHasRoom n) (fitted r file)
+  file_room : (file : ℕ) → In file r.files → changes r.move r.units file ≡ true → Each (UnitHasRoom places_are) (fitted_by cf r file)
   unfolding fitted_by formed_by
   file_room file there changed = by (r.input.prunes file) where
-    by : (b : Bool) → Each (UnitHasRoom n) (fitted_if b r file)
-    by true = renumbered_room (new_number (sources r file).strs (uses r file)) n (formed r file) (can.file file there changed).over.room
+    by : (b : Bool) → Each (UnitHasRoom places_are) (fitted_if_by b cf r file)
+    by true = renumbered_room (new_number (sources r file).strs (uses_by cf r file)) places_are (formed_by cf r file) (can.file file there changed).over.room
     by false = (can.file file there changed).over.room
 
   -- its texts are few, and places of the common file are small
-  pub file_raw : length (texts_bytes (texts r)) < 2 ^ 32 → ((k : EntryName) → In k (all_entry_keys (common_fitted r)) → n.place k < 2 ^ 32) → (out : List ℕ) (file : ℕ) → In file r.files
-      → changes r.move r.units file ≡ true → HasSections r file out → FitsSections (sections_of r file)
+  pub file_raw : (file : ℕ) → In file r.files → changes r.move r.units file ≡ true → length (texts_bytes (shared_by cf r file)) < 2 ^ 32
+      → ((k : EntryName) → In k (all_entry_keys (common_fitted_by cf r)) → places_are.place k < 2 ^ 32) → (out : List ℕ) → HasSectionsBy cf r file out → FitsSections (sections_by cf r file)
       → (common : Option (Common Place)) (number : ℕ) (raw : List RawUnit) (said : List (DwUnit Place))
-      → SaysUnits common number out raw said → raw ≡ raw_units n (tables_of [] (fitted r file)) (fitted r file)
-  unfolding texts_bytes
-  file_raw few low out file there changed has small common number raw said says =
-      let good = file_good file there changed (by (imports_common r.move r.units file)) (sources_of out).offsets has.offsets in
-      stored_so n (with_texts (tells r file) (strs_if (r.input.prunes file) r file) (sources_of out).offsets) (fitted r file) refl
-      (record { sound = good.0; stands = file_stands file there; room = file_room file there changed; fits = small; common_fits = low }) good.1 common number out raw said says has.info has.abbrevs
-    where
-      by : (b : Bool) → length (texts_bytes (shared_if b (texts r))) < 2 ^ 32
-      by true = few
-      by false = omega arith
-
-  pub common_low : FitsSections (common_sections r) → (k : EntryName) → In k (all_entry_keys (common_fitted r)) → n.place k < 2 ^ 32
-  common_low small k is = few_places (common_fitted r) common_stands small k (entries_are_keys (common_fitted r) k is)
+      → SaysUnits common number out raw said → raw ≡ raw_units places_are (tables_of [] (fitted_by cf r file)) (fitted_by cf r file)
+  file_raw file there changed few low out has small common number raw said says =
+      let good = file_good file there changed few (sources_of out).offsets has.offsets in
+      stored_so places_are (with_texts (tells_by cf r file) (strs_if_by (r.input.prunes file) cf r file) (sources_of out).offsets) (fitted_by cf r file) refl
+      (record { sound = good.0; stands = fs.stands file there; room = file_room file there changed; fits = small; common_fits = low }) good.1 common number out raw said says has.info has.abbrevs

@@ -18,10 +18,10 @@ use Rattle.dwz_run_course.specs.Outcome.{writes}
 use Rattle.dwz_words.specs.declared.options.Options.{Options}
 pub use Rattle.dwz_law_cross.proofs.FinishedLemmas.{names_sup}
 
-same_of : (said : FinishedDocs) → SaidSame said → IsSameOf said Yes
+pub same_of : (said : FinishedDocs) → SaidSame said → IsSameOf said Yes
 same_of said s = subst (λ (d : FinishedDocs). IsSameOf d Yes) (sym s.are) s.same
 
-alone_of : (said : FinishedDocs) → SaidSameAlone said → IsSameOf said Yes
+pub alone_of : (said : FinishedDocs) → SaidSameAlone said → IsSameOf said Yes
 alone_of said s = subst (λ (d : FinishedDocs). IsSameOf d Yes) (sym s.are) s.same
 
 module _ (o : Options) (contents : List (List ℕ)) (docs : List (Doc ℕ)) (prunes : List Bool) (bytes : Each AreBytes contents) (written : IsWritten o contents docs prunes)

@@ -44,7 +44,7 @@ module _ (o : Options) (fit : FitTogether o) (common : List ℕ) (batches : o.ba
   -- ---- words
 
   -- the name by which files refer to the common file has no zero byte
-  named_batch : NoZero (sup_name (batching o))
+  pub named_batch : NoZero (sup_name (batching o))
   named_batch =
       let rest = (and_parts (list_all is_file_name o.files) _ fit.file_names).1 in
       let name = (and_parts (option_map_or is_file_name o.common true) _ rest).1 in
@@ -69,10 +69,13 @@ module _ (o : Options) (fit : FitTogether o) (common : List ℕ) (batches : o.ba
 module _ {words : List (List ℕ)} {store : Store} (a : AsksToBatch words store) where
   -- ---- what is written of one
 
+  pub file_is_bytes : AreOfBytes a.contents → (file : FileGot) → In file (files_of a) → AreBytes file.content
+  file_is_bytes bytes file is = file_bytes a.contents (each_bytes a.contents bytes) a.options.files 1 file is
+
   pub back_alone : AreOfBytes a.contents → (file : FileGot) → In file (files_of a) → (out : Output) → ComesAlone a file (writes out) → IsBackAlone a file
   unfolding numbers_from
   back_alone bytes file is out comes =
-      let content : AreBytes file.content = file_bytes a.contents (each_bytes a.contents bytes) a.options.files 1 file is in
+      let content : AreBytes file.content = file_is_bytes bytes file is in
       let x = comes.0 in
       let all : Each AreBytes x.contents = subst (Each AreBytes) (sym comes.1.1) (content, tt) in
       record {

@@ -1,12 +1,11 @@
 -- A second call says that files before a first one and after it mean the same.
-use Rattle.std.proofs.Common.{◌≡◌, ◌⊎◌, ◌||◌, ◌&&◌, ◌==◌, ℕ, zero, suc, ◌+◌, Bool, true, false, List, [], ◌∷◌, Option, Some, None, get_or, refl, sym, ap, subst, ◌∙◌, arith, inl, inr}
+use Rattle.std.proofs.Common.{◌≡◌, ◌⊎◌, ◌||◌, ◌&&◌, ◌==◌, ℕ, Bool, true, false, List, [], ◌∷◌, Option, Some, None, get_or, sym, ap, subst, ◌∙◌, arith}
 use Rattle.std.specs.Prelude.{if◌then◌else◌}
 use Rattle.std.specs.List.{list_any}
 use Rattle.std.proofs.lemmas.Bool.{and_parts}
 use Rattle.dwz_model.specs.Lists.{Each, Nth}
-use Rattle.dwz_model.proofs.Members.{any_from, any_true, nth_from}
+use Rattle.dwz_model.proofs.Members.{any_from, any_true}
 use Rattle.dwz_def_reading.specs.Documents.{Doc}
-use Rattle.dwz_def_reading.specs.Files.{Limits, ReadAll, limits_after}
 use Rattle.dwz_def_reading.specs.Finished.{has_sup}
 use Rattle.dwz_def_reading.specs.Values.{AreBytes}
 use Rattle.dwz_def_images.specs.Homes.{Common, file_of, same_home}
@@ -34,15 +33,14 @@ use Rattle.dwz_run_course.specs.Gets.{AreOfBytes, gets, longest_behind}
 use Rattle.dwz_run_course.specs.Outcome.{writes}
 use Rattle.dwz_words.specs.declared.options.Options.{Options}
 use Rattle.dwz_words.specs.Asked.{names_got}
-use Rattle.dwz_words.proofs.Fits.{no_batch_with_check, no_reuse_with_check, with_check}
-use Rattle.dwz_run.specs.Laws.{AsksForFiles, AsksToCompare, HoldAfter, NoneFailed, RunEnds, to_compare}
+use Rattle.dwz_run.specs.Laws.{AsksForFiles, AsksToCompare, HoldAfter, NoneFailed, RunEnds}
 use Rattle.dwz_run.specs.SecondCall.{AgainLaw, ComparesAgain, GotBeside}
 use Rattle.dwz_run.proofs.AllDone.{with_puts}
-use Rattle.dwz_run.proofs.Answered.{asked_for}
 use Rattle.dwz_run.proofs.CommonName.{named_well}
 use Rattle.dwz_run.proofs.HeldAfter.{hold_after}
 use Rattle.dwz_run.proofs.OfBytes.{each_bytes}
 use Rattle.dwz_run.proofs.Outputs.{got_of, got_plain}
+use Rattle.dwz_run.proofs.SecondSame.{doc_of, says_same}
 
 -- a file that imports from the common file has one
 imports_has : (r : Run) (file : ℕ) → imports_common r.move r.units file ≡ true → has_common r ≡ true
@@ -50,17 +48,6 @@ unfolding imports_common has_common
 imports_has r file e =
     let o = any_from (λ (p : PartialUnit). same_home p.home Common && list_any (λ i. file_of r.units i == file) p.users) r.move.parts e in
     any_true is_common o.one r.move.parts o.there (and_parts (same_home o.one.home Common) (list_any (λ i. file_of r.units i == file) o.one.users) o.passes).0
-
--- each content is read as a document, and has its number
-doc_of : (l : Limits) (contents : List (List ℕ)) (docs : List (Doc ℕ)) → ReadAll l contents docs → (s n k : ℕ) (bytes : List ℕ) → Nth s contents n bytes → n ≡ s + k
-    → (doc : Doc ℕ) × Nth s docs n doc × (get_or contents k [] ≡ bytes)
-doc_of l [] docs read s n k bytes nth at = absurd nth
-doc_of l (c ∷ contents) [] read s n k bytes nth at = absurd read
-doc_of l (c ∷ contents) (d ∷ docs) read s n zero bytes (inl x) at = (d, inl (x.0, refl), x.1)
-doc_of l (c ∷ contents) (d ∷ docs) read s n (suc k) bytes (inl x) at = absurd (omega (arith, x.0, at))
-doc_of l (c ∷ contents) (d ∷ docs) read s n zero bytes (inr r) at = absurd (let up = nth_from (suc s) contents n bytes r in omega (arith, up, at))
-doc_of l (c ∷ contents) (d ∷ docs) read s n (suc k) bytes (inr r) at =
-    let o = doc_of (limits_after l c read.0) contents docs read.2 (suc s) n k bytes r (omega (arith, at)) in (o.0, inr o.1, o.2)
 
 module _ (words : List (List ℕ)) (old new : FilesSeen) (shown shown_new : ConsoleSeen) (ended : RunEnds words old new shown shown_new Done) (store now : Store) (told : old.held ≡ Some store)
     (kept : new.held ≡ Some now) (a : AsksForFiles words store) where
@@ -162,17 +149,9 @@ module _ (words : List (List ℕ)) (old new : FilesSeen) (shown shown_new : Cons
         subst (λ (cs : List (List ℕ)). Compares c.options cs (writes (answer_on Yes))) (sym f.1)
         (same_said o c.options a.contents docs prunes bytes written (named_well o a.lawful.fit) file doc.0 doc.1 f.0 (subst AreWithinLimits f.1 within))
 
-    comes : Yields c.options c.contents (writes (answer_on Yes))
-    comes =
-        subst (λ (w : Option (List ℕ)). YieldsBy w c.options c.contents (writes (answer_on Yes))) (sym (no_batch_with_check c.options c.lawful.fit c.compares))
-        (subst (λ (w : Option (List ℕ)). ComesBy w c.options c.contents (writes (answer_on Yes))) (sym (no_reuse_with_check c.options c.lawful.fit c.compares))
-        (subst (λ (b : Bool). OutBy b c.options.check c.options.expand c.options c.contents (writes (answer_on Yes))) (sym (with_check c.options c.lawful.fit c.compares).2)
-        (subst (λ (b : Bool). OutBy false b c.options.expand c.options c.contents (writes (answer_on Yes))) (sym c.compares) said)))
-
     pub ends_again : (before behind : FilesSeen) (printed printed_new : ConsoleSeen) (status : Status) → Complete demo_files Yields again before behind printed printed_new status
         → NoneFailed before behind printed printed_new → before.held ≡ Some held → (status ≡ Done) ⊎ (status ≡ NoMemory)
-    ends_again before behind printed printed_new status complete none there =
-        complete (answer_on Yes) (asked_for again before held there (to_compare c) (writes (answer_on Yes)) comes) none.reads none.writes none.texts
+    ends_again = says_same again held c said
 
 pub compares_again : AgainLaw
 compares_again words old new shown shown_new ended store now told kept a again before after printed printed_new status complete none held there c x within =

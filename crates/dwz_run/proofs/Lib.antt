@@ -18,9 +18,13 @@ pub mod SameWorkers
 pub mod Causes
 pub mod Answered
 pub mod BatchAnswered
+pub mod GotAmong
 pub mod ReusedAlone
 pub mod Demonstrated
+pub mod SecondSame
 pub mod ComparedAgain
+pub mod SecondReused
+pub mod SecondAlone
 pub mod FilesReused
 mod JobsDone
 mod ByNumber

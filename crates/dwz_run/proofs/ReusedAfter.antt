@@ -41,7 +41,7 @@ module _ (o : Options) (fit : FitTogether o) (common : List ℕ) (reuses : o.reu
   -- ---- words
 
   -- the name by which files refer to the common file has no zero byte
-  named_over : NoZero (name_over o)
+  pub named_over : NoZero (name_over o)
   named_over =
       let rest = (and_parts (list_all is_file_name o.files) _ fit.file_names).1 in
       let name = (and_parts (option_map_or is_file_name o.common true) _ rest).1 in
@@ -61,7 +61,7 @@ module _ (o : Options) (fit : FitTogether o) (common : List ℕ) (reuses : o.reu
 
   module _ (contents : List (List ℕ)) (x : OverFiles) (has : HasContents (common_got contents) (files_got o contents) x)
       (can : CanBeWrittenOver (name_over o) x) where
-    are_bytes : AreOfBytes contents → Each AreBytes x.contents
+    pub are_bytes : AreOfBytes contents → Each AreBytes x.contents
     are_bytes bytes = subst (Each AreBytes) (sym has.1) (each_at contents (each_bytes contents bytes) o.files 0)
 
     pub back_over : AreOfBytes contents → ReadBackOver x (file_over (name_over o) x)

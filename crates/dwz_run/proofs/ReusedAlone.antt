@@ -1,9 +1,5 @@
 -- A call with `--reuse` that names one FILE of many asks for what comes of that FILE among them.
-use Rattle.std.proofs.Common.{◌≡◌, ◌↔◌, ℕ, suc, ◌+◌, ◌^◌, ◌≤◌, Bool, true, false, List, [], ◌∷◌, ◌++◌, length, map, get_or, Option, Some, None, unwrap_or, refl, sym, ap, subst, ◌∙◌, inl, inr, arith}
-use Rattle.std.specs.Prelude.{nat_lt}
-use Rattle.std.specs.List.{sum_by}
-use Rattle.std.proofs.lemmas.Bool.{ltb-true, or_cases}
-use Rattle.std.proofs.lemmas.List.Sums.{sum_by-cons}
+use Rattle.std.proofs.Common.{◌≡◌, ◌↔◌, ℕ, suc, ◌+◌, ◌^◌, ◌≤◌, false, List, [], ◌∷◌, ◌++◌, length, map, get_or, Option, Some, None, unwrap_or, refl, sym, ap, subst, ◌∙◌, inl, inr}
 use Rattle.dwz_def_reading.specs.Files.{longest_files}
 use Rattle.dwz_def_reading.specs.Lists.{In}
 use Rattle.dwz_def_images.specs.Homes.{numbers_from}
@@ -15,7 +11,7 @@ use Rattle.dwz_words.specs.declared.options.Options.{Options}
 use Rattle.dwz_words.proofs.Fits.{no_batch_with_reuse}
 use Rattle.dwz_run_course.specs.declared.output.Output.{Output}
 use Rattle.dwz_run_course.specs.declared.output.Said.TheVariants.{Slimmed}
-use Rattle.dwz_run_course.specs.Gets.{gets, gets_by, is_longer_than}
+use Rattle.dwz_run_course.specs.Gets.{gets, is_longer_than}
 use Rattle.dwz_run_course.specs.Outcome.{Outcome, refuses, writes}
 use Rattle.dwz_def_output.specs.FilesAfter.{bytes_after_by}
 use Rattle.dwz_def_over.specs.Over.{OverFiles, run_over, stands}
@@ -23,63 +19,14 @@ use Rattle.dwz_def_over.specs.Written.{CanBeWrittenOver, OverFault}
 use Rattle.dwz_def_run.specs.Out.{file_puts_by, files_puts_by, length_if_new, puts_by, summary_lines_by, sup_name}
 use Rattle.dwz_def_run.specs.Comes.{ComesBy, reusing}
 use Rattle.dwz_def_run.specs.Reuses.{ReusesOf, common_got, files_got, output_over}
-use Rattle.dwz_def_run.proofs.ReusesGotten.{short}
-use Rattle.dwz_def_run.specs.Batches.{FileGot, IsCommonRead, bytes_together, got_from, options_alone}
+use Rattle.dwz_def_run.specs.Batches.{FileGot, IsCommonRead, bytes_together, options_alone}
 use Rattle.dwz_def_run.specs.Yields.{Yields, YieldsBy, batching}
 use Rattle.dwz_run.specs.Batched.{AsksToBatch, ComesAlone, files_of}
 use Rattle.dwz_run.specs.BatchLaws.{NamesAlone, ReuseAloneLaw}
 use Rattle.dwz_run.specs.Reusing.{AsksToReuse}
-use Rattle.dwz_run.proofs.BatchedAfter.{got_batch}
+use Rattle.dwz_run.proofs.GotAmong.{common_fits, file_got, got_all}
 use Rattle.dwz_run.proofs.FirstGot.{first_got, next}
 use Rattle.dwz_run.proofs.ReusedAfter.{got_over}
-
--- ---- what is got of many files that aren't too long together
-
-abbrev sizes : List FileGot → ℕ
-sizes files = sum_by (λ file. length file.content) files
-
-shifted : (c : List ℕ) (rest names : List (List ℕ)) (n : ℕ) → got_from (suc n) names (c ∷ rest) ≡ got_from n names rest
-unfolding got_from
-shifted c rest [] n = refl
-shifted c rest (x ∷ names) n = ap (λ (w : List FileGot). record { name = x; content = get_or rest n [] } ∷ w) (shifted c rest names (suc n))
-
--- none of them ends the gets
-not_longer : (longest before : ℕ) (content : List ℕ) → length content ≤ longest → before + length content ≤ 2 ^ 29 → is_longer_than longest before content ≡ false
-not_longer longest before content own few = by (is_longer_than longest before content) refl where
-  by : (b : Bool) → is_longer_than longest before content ≡ b → b ≡ false
-  by false e = refl
-  by true e = absurd (elim (or_cases (nat_lt longest (length content)) (nat_lt (2 ^ 29) (before + length content)) e) [
-    | inl a ↦ (let long = ltb-true longest (length content) a in omega (arith, long, own))
-    | inr b ↦ (let long = ltb-true (2 ^ 29) (before + length content) b in omega (arith, long, few))
-  ])
-
-module _ (store : Store) where
-  -- each was got
-  abbrev AllGot : (names : List (List ℕ)) (before : ℕ) (contents : List (List ℕ)) → Type 0
-  AllGot names before contents = before + sizes (got_from 0 names contents) ≤ 2 ^ 29 → (file : FileGot) → In file (got_from 0 names contents)
-      → got store file.name ≡ Some file.content
-
-  all_got : (names : List (List ℕ)) (before : ℕ) (contents : List (List ℕ)) → gets_by (2 ^ 29) (2 ^ 29) store before names ≡ Some contents
-      → AllGot names before contents
-  unfolding got_from
-  all_got [] before contents is = λ few file there. absurd there
-  all_got (x ∷ names) before contents is =
-      let n = next store (2 ^ 29) (2 ^ 29) before x names contents is in
-      subst (AllGot (x ∷ names) before) (sym n.contents_are)
-      (by n.first n.rest n.got_is (λ fits. all_got names (before + length n.first) n.rest (n.later fits))) where
-        by : (first : List ℕ) (rest : List (List ℕ)) → got store x ≡ Some first
-            → (is_longer_than (2 ^ 29) before first ≡ false → AllGot names (before + length first) rest) → AllGot (x ∷ names) before (first ∷ rest)
-        by first rest got_is later few file there =
-            let one : FileGot = record { name = x; content = first } in
-            let sum = sum_by-cons (λ (f : FileGot). length f.content) one (got_from 1 names (first ∷ rest)) in
-            let tail = shifted first rest names 0 in
-            let same : sizes (got_from 1 names (first ∷ rest)) ≡ sizes (got_from 0 names rest) = ap sizes tail in
-            let fits : is_longer_than (2 ^ 29) before first ≡ false =
-            not_longer (2 ^ 29) before first (omega (arith, few, sum)) (omega (arith, few, sum)) in
-            elim there [
-              | inl is ↦ subst (λ (f : FileGot). got store f.name ≡ Some f.content) is got_is
-              | inr more ↦ later fits (omega (arith, few, sum, same)) file (subst (In file) tail more)
-            ]
 
 -- ---- the same of options that differ in other things
 
@@ -117,7 +64,7 @@ module _ (o p : Options) (out : o.out ≡ p.out) (named : sup_name o ≡ sup_nam
   same_reused common contents (refuses q) (inl first) = inl first
   same_reused common contents (refuses q) (inr is) = inr (is.0, is.1, is.2, subst (λ (n : List ℕ). OverFault n is.0 q) named is.3)
 
--- ---- one FILE of many
+-- ---- one FILE of many, alone
 
 module _ {words : List (List ℕ)} {store : Store} (a : AsksToBatch words store) (reads : IsCommonRead (batching a.options) (common_got a.contents))
     (few : bytes_together (common_got a.contents) (files_of a) ≤ longest_files) (file : FileGot) (there : In file (files_of a))
@@ -125,30 +72,6 @@ module _ {words : List (List ℕ)} {store : Store} (a : AsksToBatch words store)
   abbrev one : List ℕ
   one = common_got a.contents
 
-  common_fits : is_longer_than (2 ^ 28) 0 one ≡ false
-  unfolding longest_files
-  common_fits =
-      let size = reads.2.size in
-      let files = size.files in
-      not_longer (2 ^ 28) 0 one (short size.file) (omega (arith, files))
-
-  got_all : gets_by (2 ^ 28) (2 ^ 29) store 0 (a.common ∷ a.options.files) ≡ Some a.contents
-  got_all = subst (λ (names : List (List ℕ)). gets_by (2 ^ 28) (2 ^ 29) store 0 names ≡ Some a.contents) (got_batch a.options a.lawful.fit a.common a.batches) a.got
-
-  -- among many it was got
-  file_got : got store file.name ≡ Some file.content
-  unfolding longest_files
-  file_got =
-      let n = next store (2 ^ 28) (2 ^ 29) 0 a.common a.options.files a.contents got_all in
-      let first : n.first ≡ one = sym (ap (λ (cs : List (List ℕ)). get_or cs 0 []) n.contents_are) in
-      let fits : is_longer_than (2 ^ 28) 0 n.first ≡ false = ap (is_longer_than (2 ^ 28) 0) first ∙ common_fits in
-      let same : files_of a ≡ got_from 0 a.options.files n.rest =
-      ap (λ (cs : List (List ℕ)). got_from 1 a.options.files cs) n.contents_are ∙ shifted n.first n.rest a.options.files 0 in
-      let sum : sizes (files_of a) ≡ sizes (got_from 0 a.options.files n.rest) = ap sizes same in
-      let long : length n.first ≡ length one = ap length first in
-      all_got store a.options.files (0 + length n.first) n.rest (n.later fits) (omega (arith, few, sum, long)) file (subst (In file) same there)
-
-  -- and so it was alone
   same_got : (name c d : List ℕ) → got store name ≡ Some c → got store name ≡ Some d → c ≡ d
   same_got name c d e f = let z : Some c ≡ Some d = sym e ∙ f in cc
 
@@ -159,7 +82,7 @@ module _ {words : List (List ℕ)} {store : Store} (a : AsksToBatch words store)
 
   common_same : common_got b.contents ≡ one
   common_same =
-      let mine = first_got store (2 ^ 28) (2 ^ 29) 0 a.common a.options.files a.contents got_all in
+      let mine = first_got store (2 ^ 28) (2 ^ 29) 0 a.common a.options.files a.contents (got_all a reads few file there) in
       let its = first_got store (2 ^ 28) (2 ^ 28) 0 b.common (file.name ∷ []) b.contents got_alone in
       same_got a.common (common_got b.contents) one (subst (λ (w : List ℕ). got store w ≡ Some (common_got b.contents)) is.same_common its) mine
 
@@ -167,9 +90,9 @@ module _ {words : List (List ℕ)} {store : Store} (a : AsksToBatch words store)
   content_same =
       let n = next store (2 ^ 28) (2 ^ 28) 0 b.common (file.name ∷ []) b.contents got_alone in
       let first : n.first ≡ one = sym (ap (λ (cs : List (List ℕ)). get_or cs 0 []) n.contents_are) ∙ common_same in
-      let fits : is_longer_than (2 ^ 28) 0 n.first ≡ false = ap (is_longer_than (2 ^ 28) 0) first ∙ common_fits in
+      let fits : is_longer_than (2 ^ 28) 0 n.first ≡ false = ap (is_longer_than (2 ^ 28) 0) first ∙ common_fits a reads few file there in
       let its = first_got store (2 ^ 28) (2 ^ 28) (0 + length n.first) file.name [] n.rest (n.later fits) in
-      ap (λ (cs : List (List ℕ)). get_or cs 1 []) n.contents_are ∙ same_got file.name (get_or n.rest 0 []) file.content its file_got
+      ap (λ (cs : List (List ℕ)). get_or cs 1 []) n.contents_are ∙ same_got file.name (get_or n.rest 0 []) file.content its (file_got a reads few file there)
 
   -- ---- what comes of it
 

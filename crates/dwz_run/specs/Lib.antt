@@ -6,4 +6,5 @@ pub mod Laws
 pub mod DemoLaws
 pub mod BatchLaws
 pub mod SecondCall
+pub mod SecondOver
 pub mod Batching

@@ -8,6 +8,7 @@ ghost use Rattle.dwz_run.specs.DemoLaws.{DemoLaw};
 ghost use Rattle.dwz_run.specs.Laws.{AnswerLaw, ApartLaw, CompareLaw, CompleteLaw, DoneLaw, NothingLaw, PrefixesLaw, RefusedLaw, RefusesLaw, SilentLaw};
 ghost use Rattle.dwz_run.specs.Laws.{StoppedLaw, UsageLaw, WorkersLaw};
 ghost use Rattle.dwz_run.specs.SecondCall.{AgainLaw};
+ghost use Rattle.dwz_run.specs.SecondOver.{AgainAloneLaw, AgainOverLaw};
 
 /// Where a run answers Done, its words are lawful and name FILEs, which were held and read as documents; what is put of these is put, in
 /// order, and nothing else; each FILE then holds what is made of it, and the common file, if there is one, is there; and what is written
@@ -58,9 +59,12 @@ pub fn answer_laws()
 
 /// Where a run that slims FILEs answers Done, a second one with `--check` says of each of these, as it was read and as it is held then,
 /// that the two mean the same (DWARF 5, 3.2.5 and 7.3.6): with `--sup` and the common file where one of the two has `.debug_sup`, and else
-/// without. So it is where no get and no writing of the text failed, and what is got is within the limits; memory may always run out.
+/// without. So it is after `--reuse`, with the common file of that, and after `--batch`, also where it answers Partly, of each FILE that isn't
+/// refused. All this where no get and no writing of the text failed, and what is got is within the limits; memory may always run out.
 pub fn second_call_laws()
-    ensures { AgainLaw }
+    ensures again { AgainLaw }
+    ensures over { AgainOverLaw }
+    ensures alone { AgainAloneLaw }
 {}
 
 /// Where a run answers WriteFault, the first puts are done, and the next one failed, whose name is told. Each FILE is as it was, or as it

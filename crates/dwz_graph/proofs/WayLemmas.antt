@@ -60,6 +60,21 @@ way_ends names at x (PartialRoot n) h le = refl
 way_ends names at x (InChain n j d) h le = refl
 way_ends names at x (Import n j) h le = refl
 
+-- a top, or a root, leads to itself
+pub way_stays : (names : List EntryName) (at : ℕ) (x : Step) (s : EntryName) → Shows names at x s → path_in s ≡ [] → x.up ≡ at
+way_stays names at x (Within top []) h e = h.1
+way_stays names at x (Within top (k ∷ path)) h e = absurd cc
+way_stays names at x (UnitOf n) h e = h.1
+way_stays names at x (RootOf n) h e = h.1
+way_stays names at x (SpaceAt n []) h e = h.1
+way_stays names at x (SpaceAt n (k ∷ path)) h e = absurd cc
+way_stays names at x (InType n []) h e = h.1
+way_stays names at x (InType n (k ∷ path)) h e = absurd cc
+way_stays names at x (PartialOf n) h e = h.1
+way_stays names at x (PartialRoot n) h e = h.1
+way_stays names at x (InChain n j d) h e = h.1
+way_stays names at x (Import n j) h e = h.1
+
 -- one step up
 pub record Up (names : List EntryName) (x : Step) (s : EntryName) : Type 0 where
   pub above_it : EntryName

@@ -1,6 +1,6 @@
 //! What is kept of the entries of a file.
 
-ghost use Rattle.std.specs.Prelude.{◌≡◌, ℕ, ◌<◌, ◌^◌, ◌++◌, List, Some, Ok, length, slice_get, IfOk, OnOk};
+ghost use Rattle.std.specs.Prelude.{◌≡◌, ℕ, ◌<◌, ◌^◌, ◌++◌, ◌↔◌, List, [], Some, Ok, length, slice_get, IfOk, IsTrue, OnOk};
 ghost use Rattle.dwz_def_reading.specs.Units.{entries_in};
 ghost use Rattle.dwz_def_reading.specs.Documents.{DwUnit};
 ghost use Rattle.dwz_def_reading.specs.Meanings.{Around};
@@ -116,6 +116,17 @@ impl Index {
         } else {
             Some(step.top - 1)
         }
+    }
+
+    /// Whether an entry has no child indexes up to its top, or to the root of its unit: it is a top or a root.
+    #[inline(always)]
+    pub fn is_outermost(&self, entry: u32) -> bool
+        requires { entry < length self.now.steps }
+        ensures { (names : List EntryName) (s : EntryName) → IsIndex names self.now → slice_get names entry ≡ Some s
+            → IsTrue result ↔ (path_in s ≡ []) }
+    {
+        let step = self.steps[entry as usize];
+        step.up >= entry
     }
 
     /// Appends the child indexes from an entry up to its top, or to the root of its unit: first its own among its siblings. A top

@@ -1,20 +1,22 @@
 -- The files of a graph, from what was read of each.
-use Rattle.std.proofs.Common.{◌≡◌, ℕ, ◌^◌, ◌<◌, ◌≤◌, List, [], length, Some, None, Ok, refl, sym, ap, subst, ◌∙◌, arith}
+use Rattle.std.proofs.Common.{◌≡◌, ℕ, ◌^◌, ◌<◌, ◌≤◌, List, [], length, Some, None, Result, Ok, Err, refl, sym, ap, subst, ◌∙◌, arith}
+use Rattle.dwz_model.specs.declared.fault.Fault.{Fault}
+use Rattle.dwz_model.specs.declared.fault.GraphErr.{GraphErr}
 use Rattle.dwz_def_reading.specs.Documents.{Doc}
 use Rattle.dwz_def_reading.specs.Files.{Limits, file_meaning_by, files_meaning, limits_after, longest_file, no_files_before}
-use Rattle.dwz_def_reading.specs.Finished.{common_read, rule_of_back}
+use Rattle.dwz_def_reading.specs.Finished.{beside_meaning, common_read, rule_of_back}
 use Rattle.dwz_def_reading.specs.Meanings.{Sources, all_places}
 use Rattle.dwz_def_reading.specs.Units.{RawUnit}
 use Rattle.dwz_def_reading.proofs.FileLemmas.{file_agrees_by}
 use Rattle.dwz_graph.specs.declared.file.File.{File}
 use Rattle.dwz_graph.specs.declared.rule.Beside.{Beside}
 use Rattle.dwz_graph.specs.ByRule.{IsReadBy, back_rule, common_rule, numbered_rule}
-use Rattle.dwz_graph.specs.Files.{AreBack, AreKept, AreReadFrom, docs_of}
+use Rattle.dwz_graph.specs.Files.{AreBack, AreBehind, AreKept, AreReadFrom, FilesFail, Leaves, docs_of}
 use Rattle.dwz_graph.specs.Index.{Index}
 use Rattle.dwz_graph.specs.Indexed.{AreIndexes, first_starts}
 use Rattle.dwz_unit.specs.declared.mode.FileKind.TheVariants.{Common}
 use Rattle.dwz_unit.specs.Rows.{Source, units_of}
-use Rattle.dwz_graph.proofs.BesideLemmas.{beside_is}
+use Rattle.dwz_graph.proofs.BesideLemmas.{beside_files_fail, beside_is, common_says}
 use Rattle.dwz_graph.proofs.EnoughRoom.{none_leave_more, read_before}
 use Rattle.dwz_graph.proofs.IndexRoom.{entries_within}
 use Rattle.dwz_graph_resolve.proofs.PlaceLemmas.{places_are, places_many}
@@ -73,3 +75,25 @@ common_known n bytes f c s r =
 pub short_bytes : (l : Limits) (bytes : List ℕ) (raw : List RawUnit) (doc : Doc ℕ) → file_meaning_by common_rule l bytes ≡ Ok (raw, doc) → length bytes < 2 ^ 32
 unfolding longest_file
 short_bytes l bytes raw doc e = (let r = ((file_agrees_by common_rule l bytes).ok (raw, doc)).0 e in let size = r.size.file in omega (arith, size))
+
+abbrev units_or_none : Result (List RawUnit × Doc ℕ) Fault → List RawUnit
+units_or_none (Ok x) = x.0
+units_or_none (Err f) = []
+
+-- what a common file leaves is what it leaves by its units
+pub leaves_by : (l : Limits) (bytes : List ℕ) (raw : List RawUnit) (doc : Doc ℕ) → Leaves bytes l → file_meaning_by common_rule no_files_before bytes ≡ Ok (raw, doc) → l ≡ limits_after no_files_before bytes raw
+leaves_by l bytes raw doc h e = h.left ∙ ap (λ (w : Result (List RawUnit × Doc ℕ) Fault). limits_after no_files_before bytes (units_or_none w)) (sym h.means ∙ e)
+
+-- files behind it that are refused
+pub behind_fails : (e : GraphErr) (files : List (List ℕ)) (bytes : List ℕ) (l : Limits) → Leaves bytes l → FilesFail e (files_meaning l 0 files) → FilesFail e (beside_meaning bytes files)
+behind_fails e files bytes l h is =
+    beside_files_fail e files bytes h.units _ (common_says files bytes h.units h.doc h.means) (subst (λ (k : Limits). FilesFail e (files_meaning k 0 files)) h.left is)
+
+-- and files behind it that were read
+pub behind_kept : (files : List (List ℕ)) (bytes : List ℕ) (l : Limits) (items : List File) → Leaves bytes l → AreReadFrom l files items → AreBehind bytes files items
+behind_kept files bytes l items h are = record {
+  units = h.units;
+  doc = h.doc;
+  means = h.means;
+  are = subst (λ (k : Limits). AreReadFrom k files items) h.left are;
+}

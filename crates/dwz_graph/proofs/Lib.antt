@@ -10,7 +10,7 @@ mod EnoughRoom
 mod RuleLemmas
 mod AloneLemmas
 mod KeptLemmas
-mod BesideLemmas
+pub mod BesideLemmas
 pub mod FileLemmas
 pub mod GraphLemmas
 mod RoomLemmas

@@ -11,7 +11,7 @@ use Rattle.dwz_def_reading.specs.Faults.{Fails}
 use Rattle.dwz_def_reading.specs.Files.{Limits, around_of, debug_aranges, debug_info, file_meaning, files_meaning, limits_after}
 use Rattle.dwz_def_reading.specs.Files.{file_meaning_by, no_files_before, sources_of}
 use Rattle.dwz_def_reading.specs.Finished.{BesideDocs, FinishedDocs, beside_meaning, common_read, finished_meaning, rule_of_back}
-use Rattle.dwz_def_reading.specs.Finished.{rule_of_common}
+use Rattle.dwz_def_reading.specs.Finished.{rule_of_common, sum_of}
 use Rattle.dwz_def_reading.specs.Rules.{ReadingRule}
 use Rattle.dwz_def_reading.specs.Units.{RawUnit, entries_in}
 use Rattle.dwz_def_reading.specs.NamedLists.{lists_of_units}
@@ -19,7 +19,7 @@ use Rattle.dwz_def_reading.specs.Shared.{AreRows}
 use Rattle.dwz_graph_resolve.specs.ListRows.{AreOfFile, operand_view}
 use Rattle.dwz_graph.specs.declared.file.File.{File}
 use Rattle.dwz_graph.specs.declared.file.Budget.{Budget}
-use Rattle.dwz_graph.specs.ByRule.{AreReadAs, AreReadBy, IsReadBy, numbered_rule}
+use Rattle.dwz_graph.specs.ByRule.{AreReadAs, AreReadBy, IsReadBy, common_rule, numbered_rule}
 use Rattle.dwz_graph_resolve.specs.Given.{AreGiven}
 use Rattle.dwz_graph.specs.Index.{Index}
 use Rattle.dwz_graph.specs.Indexed.{AreIndexes}
@@ -159,9 +159,44 @@ AreBack (Some bytes) contents files =
     × AreReadFromBy (numbered_rule (rule_of_back (Some (common_read contents bytes units)) 0)) (Back true) (limits_after no_files_before bytes units)
     contents files
 
+-- a common file that was read, by its number and its bytes
+pub record CommonRead : Type 0 where
+  pub number : ℕ
+  pub bytes : List ℕ
+
+-- it is kept so, with its checksum
+pub record IsCommonKept (c : CommonRead) (f : File) (checksum : List ℕ) : Type 0 where
+  pub read : HasCommon c.number (Some c.bytes) (Some f)
+  pub checksum_is : checksum ≡ sum_of c.bytes
+
+-- if there is one, it has that number
+abbrev pub IsNumbered : ℕ → Option CommonRead → Type 0
+IsNumbered number None = Unit {0}
+IsNumbered number (Some c) = c.number ≡ number
+
+-- it is that of files of which there are so many
+abbrev pub IsSharedBy : ℕ → Option (List ℕ) → Option CommonRead → Type 0
+IsSharedBy number None None = Unit {0}
+IsSharedBy number (Some bytes) (Some c) = (c.number ≡ number) × (c.bytes ≡ bytes)
+IsSharedBy number _ _ = ⊥
+
+-- a common file with these bytes leaves that to other files
+pub record Leaves (bytes : List ℕ) (l : Limits) : Type 0 where
+  pub units : List RawUnit
+  pub doc : Doc ℕ
+  pub means : file_meaning_by common_rule no_files_before bytes ≡ Ok (units, doc)
+  pub left : l ≡ limits_after no_files_before bytes units
+
+-- files that were read by themselves behind a common file
+pub record AreBehind (bytes : List ℕ) (contents : List (List ℕ)) (files : List File) : Type 0 where
+  pub units : List RawUnit
+  pub doc : Doc ℕ
+  pub means : file_meaning_by common_rule no_files_before bytes ≡ Ok (units, doc)
+  pub are : AreReadFrom (limits_after no_files_before bytes units) contents files
+
 -- all files of a graph, and what the entries of those are that were given
-pub record AreFilesOf (r : FilesRead) (common : Option File) (given back : List File) (indexes : List Index) : Type 0 where
-  pub common_is : HasCommon (length r.given + length r.back) r.common common
+pub record AreFilesOf (r : FilesRead) (common : Option CommonRead) (given back : List File) (indexes : List Index) : Type 0 where
+  pub common_is : IsNumbered (length r.given + length r.back) common
   pub given_are : AreKept r.given given
   pub back_are : AreBack r.common r.back back
   pub indexes_are : AreIndexes (docs_of r.given) indexes

@@ -1,6 +1,7 @@
 pub mod Ahead
 pub mod ByRule
 pub mod Files
+pub mod Held
 pub mod Rows
 pub mod FlatTops
 pub mod Names

@@ -8,18 +8,16 @@ ghost use Rattle.dwz_def_reading.specs.Finished.{beside_meaning, finished_meanin
 ghost use Rattle.dwz_def_reading.specs.NamedLists.{lists_of_units};
 ghost use Rattle.dwz_def_reading.specs.Shared.{AreRows};
 ghost use Rattle.dwz_graph_resolve.specs.ListRows.{AreOfFile, operand_view};
-ghost use Rattle.dwz_def_reading.specs.Files.{Limits, around_of, files_meaning, limits_after, no_files_before};
-ghost use Rattle.dwz_graph.specs.ByRule.{IsReadBy, common_rule};
-ghost use Rattle.dwz_graph.specs.Files.{AreBack, AreKept, AreReadFrom, FilesAnswer, HasCommon, HasFile, HasRead, docs_of, said_beside, said_finished};
+ghost use Rattle.dwz_def_reading.specs.Files.{Limits, around_of, files_meaning, no_files_before};
+ghost use Rattle.dwz_graph.specs.Held.{held};
+ghost use Rattle.dwz_graph.specs.Files.{AreBack, AreBehind, AreKept, FilesAnswer, HasCommon, HasFile, HasRead, IsSharedBy, docs_of, said_beside, said_finished};
 ghost use Rattle.dwz_graph.specs.Indexed.{AreIndexes};
-ghost use Rattle.dwz_unit.specs.declared.mode.FileKind.TheVariants.{Common};
-ghost use Rattle.dwz_unit.specs.Rows.{units_of};
 
 use crate::Index;
-use crate::common_file::CommonFile;
+use crate::common_file::{CommonFile, HeldCommon};
 use crate::file::{File, all_left};
 use crate::index_files::indexes_of;
-use crate::readings::{behind, files_by, given_alone, given_files};
+use crate::readings::{files_by, given_alone, given_files};
 use crate::rule::Rule;
 use dwz_graph_resolve::ListOperand;
 use dwz_model::GraphErr;
@@ -31,7 +29,7 @@ use std::thread::Threads;
 /// see the contents of the files, by the rule by which they were read; what those say that were given is `docs_of`.
 #[derive(Drop)]
 pub struct Graph<'a> {
-    common: Option<CommonFile<'a>>,
+    common: Option<HeldCommon<'a>>,
     contents: &'a [Vec<u8>],
     files: Vec<File<'a>>,
     indexes: Vec<Index>,
@@ -43,13 +41,14 @@ impl<'a> Model for Graph<'a> {
     ghost use Rattle.std.specs.Prelude.{map};
     ghost use Rattle.std.specs.Option.{option_map};
     ghost use Rattle.dwz_graph.specs.Files.{AreFilesOf, FilesRead};
+    ghost use Rattle.dwz_graph.specs.Held.{held, held_bytes};
 
     ghost Value = { FilesRead };
 
-    ghost view = { λ g. record { common = option_map (λ c. c.bytes.now) g.common; given = map (λ v. v.items) g.contents.now; back = map (λ v. v.items) g.back_contents.now } };
+    ghost view = { λ g. record { common = option_map held_bytes g.common; given = map (λ v. v.items) g.contents.now; back = map (λ v. v.items) g.back_contents.now } };
 
-    ghost invariant = { λ g. AreFilesOf (record { common = option_map (λ c. c.bytes.now) g.common; given = map (λ v. v.items) g.contents.now; back = map (λ v. v.items) g.back_contents.now })
-        (option_map (λ c. c.file) g.common) g.files.items g.back.items g.indexes.items };
+    ghost invariant = { λ g. AreFilesOf (record { common = option_map held_bytes g.common; given = map (λ v. v.items) g.contents.now; back = map (λ v. v.items) g.back_contents.now })
+        (option_map held g.common) g.files.items g.back.items g.indexes.items };
 }
 
 // Files that may have been written, without a common file.
@@ -80,11 +79,11 @@ fn back_beside<'a>(
     ensures contents { IfOk result (λ graph. graph ≡ record { common = Some bytes.now; given = []; back = map (λ v. v.items) files.now }) }
 {
     let common = CommonFile::read(alloc, files.len() as u32, bytes)?;
-    let left = behind(&all_left(), bytes, &common.file);
+    let left = common.left();
     let rule = Rule::Back(Some(common.beside()));
     let back = files_by(alloc, files, &left, &rule)?;
     Ok(Graph {
-        common: Some(common),
+        common: Some(HeldCommon::Own(common)),
         contents: &files[..0],
         files: Vec::new(alloc),
         indexes: Vec::new(alloc),
@@ -118,14 +117,14 @@ fn given_graph<'a>(
 fn beside_graph<'a>(
     alloc: Global,
     files: &'a [Vec<u8>],
-    common: CommonFile<'a>,
+    common: HeldCommon<'a>,
     kept: Vec<File<'a>>,
 ) -> Result<Graph<'a>, GraphErr>
-    requires common { IsReadBy common_rule Common no_files_before (length files.now) common.bytes.now common.file }
-    requires kept { AreReadFrom (limits_after no_files_before common.bytes.now (units_of common.file.units)) (map (λ v. v.items) files.now) kept.items }
-    ensures answers { FilesAnswer said_beside result (beside_meaning common.entry.bytes.now (map (λ v. v.items) files.now)) }
+    requires number { (held common).number ≡ length files.now }
+    requires kept { AreBehind (held common).bytes (map (λ v. v.items) files.now) kept.items }
+    ensures answers { FilesAnswer said_beside result (beside_meaning (held common.entry).bytes (map (λ v. v.items) files.now)) }
     ensures contents { IfOk result (λ graph. graph
-        ≡ record { common = Some common.entry.bytes.now; given = map (λ v. v.items) files.now; back = [] }) }
+        ≡ record { common = Some (held common.entry).bytes; given = map (λ v. v.items) files.now; back = [] }) }
 {
     let indexes = indexes_of(alloc, &kept)?;
     Ok(Graph {
@@ -179,9 +178,9 @@ impl<'a> Graph<'a> {
         ensures contents { IfOk result (λ graph. graph ≡ record { common = Some common.now; given = map (λ v. v.items) files.now; back = [] }) }
     {
         let shared = CommonFile::read(alloc, files.len() as u32, common)?;
-        let left = behind(&all_left(), common, &shared.file);
+        let left = shared.left();
         let kept = given_alone(alloc, files, &left)?;
-        beside_graph(alloc, files, shared, kept)
+        beside_graph(alloc, files, HeldCommon::Own(shared), kept)
     }
 
     /// The same by so many workers, but for the common file, which one thread reads.
@@ -198,9 +197,30 @@ impl<'a> Graph<'a> {
         ensures contents { IfOk result (λ graph. graph ≡ record { common = Some common.now; given = map (λ v. v.items) files.now; back = [] }) }
     {
         let shared = CommonFile::read(alloc, files.len() as u32, common)?;
-        let left = behind(&all_left(), common, &shared.file);
+        let left = shared.left();
         let kept = given_files(rt, alloc, files, workers, &left)?;
-        beside_graph(alloc, files, shared, kept)
+        beside_graph(alloc, files, HeldCommon::Own(shared), kept)
+    }
+
+    /// The same beside a common file that was read before, with the number behind those of the files. It isn't read again, and serves as many
+    /// graphs as there are to be.
+    pub fn read_beside<R: Threads + Sync>(
+        rt: &R,
+        alloc: Global,
+        files: &'a [Vec<u8>],
+        common: &'a CommonFile<'a>,
+        workers: u32,
+    ) -> Result<Graph<'a>, GraphErr>
+        requires few { length files.now < 2 ^ 32 }
+        requires workers { (0 < workers) × (workers ≤ 64) }
+        requires number { common.now.number ≡ length files.now }
+        ensures answers { FilesAnswer said_beside result (beside_meaning common.now.bytes (map (λ v. v.items) files.now)) }
+        ensures contents { IfOk result (λ graph. graph
+            ≡ record { common = Some common.now.bytes; given = map (λ v. v.items) files.now; back = [] }) }
+    {
+        let left = common.left();
+        let kept = given_files(rt, alloc, files, workers, &left)?;
+        beside_graph(alloc, files, HeldCommon::Lent(common), kept)
     }
 
     /// Reads files that may have been written by this tool, and before them the finished common file beside which they are read, if it is
@@ -234,7 +254,17 @@ impl<'a> Graph<'a> {
     {
         match &self.common {
             None => None,
-            Some(common) => Some(&common.file),
+            Some(common) => Some(common.get().file()),
+        }
+    }
+
+    /// The finished common file itself, as it may serve other graphs.
+    pub fn common_file(&self) -> Option<&CommonFile<'a>>
+        ensures { IsSharedBy (length self.now.given + length self.now.back) self.now.common (option_map (λ c. c.now) result) }
+    {
+        match &self.common {
+            None => None,
+            Some(common) => Some(common.get()),
         }
     }
 

@@ -3,7 +3,7 @@
 //!
 //! `Graph::read` takes the contents of all files and answers them as `File`s (ELF headers, sections, units, and what values name), or
 //! exactly the first fault in the order of the whole table, for every number of workers. `Graph::read_sup` reads a finished common file before
-//! them, and `Graph::read_back` files that may have been written, beside one or without. What the values of a file name is read by
+//! them (`Graph::read_beside` takes one that was read: a `CommonFile`), and `Graph::read_back` files that may have been written, beside one or without. What the values of a file name is read by
 //! `dwz_graph_resolve`.
 //!
 //! `Graph::indexes` has an `Index` of each file that was given, with units, tops and spaces numbered over all of them: `top_of` and
@@ -35,6 +35,7 @@ mod spaces;
 mod sup;
 mod tops;
 
+pub use common_file::CommonFile;
 pub use dwz_graph_resolve::{
     Here, InputSections, ListOperand, TextSection, entry_of, first_attr, here_of, offset_of, slot,
     text_in,

@@ -1,11 +1,8 @@
-use Rattle.std.proofs.Common.{◌≡◌, ℕ, ◌+◌, List, [], length, map, refl, sym, subst, ◌∙◌, arith}
+use Rattle.std.proofs.Common.{◌≡◌, ℕ, List, [], length, map, refl, sym, subst, arith}
 use Rattle.std.proofs.lemmas.List.{length-map}
-use Rattle.dwz_def_reading.specs.Files.{limits_after, no_files_before}
 use Rattle.dwz_graph.specs.declared.file.File.{File}
-use Rattle.dwz_graph.specs.ByRule.{IsReadBy, common_rule}
-use Rattle.dwz_graph.specs.Files.{AreKept, AreReadFrom}
-use Rattle.dwz_unit.specs.declared.mode.FileKind.TheVariants.{Common}
-use Rattle.dwz_unit.specs.Rows.{units_of}
+use Rattle.dwz_graph.specs.Files.{AreBehind, AreKept, CommonRead}
+use Rattle.dwz_graph.specs.Held.{held}
 use Rattle.dwz_graph.proofs.BesideLemmas.{beside_says, common_says}
 use Rattle.dwz_graph.proofs.ContentLemmas.{content}
 use Rattle.dwz_graph.proofs.GraphLemmas.{given_read}
@@ -15,37 +12,30 @@ use Rattle.dwz_graph.proofs.graph.beside_graph.Goals as goal
 pub invariant_of-result : goal.invariant_of-result
 invariant_of-result c =
     let files : List (List ℕ) = map content c.args.files.now in
-    let n = length c.args.files.now in
-    let bytes : List ℕ = c.args.common.bytes.now in
-    let f = c.args.common.file in
-    let raw = units_of f.units in
-    let r : IsReadBy common_rule Common no_files_before n bytes f = c.requires.common in
+    let shared : CommonRead = held c.args.common in
+    let bytes : List ℕ = shared.bytes in
     let items = c.args.kept.items in
-    let many : n ≡ length files + 0 = omega (arith, length-map c.args.files.now content) in
-    let kept : AreReadFrom (limits_after no_files_before bytes raw) files items = c.requires.kept in
+    let behind : AreBehind bytes files items = c.requires.kept in
+    let number : shared.number ≡ length c.args.files.now = c.requires.number in
     record {
-      common_is = subst (λ (k : ℕ). IsReadBy common_rule Common no_files_before k bytes f) many r;
-      given_are = kept_behind bytes raw files items kept;
-      back_are = none_beside bytes raw r.doc [] c.new.result.items r.means refl c.new.ensures.items;
-      indexes_are = c.in_ok-indexes.ensures files (subst (λ (fs : List File). AreKept files fs) (sym c.deref.ensures.value) (kept_behind bytes raw files items kept));
+      common_is = omega (arith, number, length-map c.args.files.now content);
+      given_are = kept_behind bytes behind.units files items behind.are;
+      back_are = none_beside bytes behind.units behind.doc [] c.new.result.items behind.means refl c.new.ensures.items;
+      indexes_are = c.in_ok-indexes.ensures files (subst (λ (fs : List File). AreKept files fs) (sym c.deref.ensures.value) (kept_behind bytes behind.units files items behind.are));
     }
 
 pub indexes_of-requires : goal.indexes_of-requires
 indexes_of-requires c =
     let files : List (List ℕ) = map content c.args.files.now in
-    let bytes : List ℕ = c.args.common.bytes.now in
-    let raw = units_of c.args.common.file.units in
-    (files, subst (λ (fs : List File). AreKept files fs) (sym c.deref.ensures.value) (kept_behind bytes raw files c.args.kept.items c.requires.kept))
+    let bytes : List ℕ = (held c.args.common).bytes in
+    let behind : AreBehind bytes files c.args.kept.items = c.requires.kept in
+    (files, subst (λ (fs : List File). AreKept files fs) (sym c.deref.ensures.value) (kept_behind bytes behind.units files c.args.kept.items behind.are))
 
 pub returns-clause-answers : goal.returns-clause-answers
 returns-clause-answers c =
     let files : List (List ℕ) = map content c.args.files.now in
-    let n = length c.args.files.now in
-    let bytes : List ℕ = c.args.common.bytes.now in
-    let f = c.args.common.file in
-    let raw = units_of f.units in
-    let r : IsReadBy common_rule Common no_files_before n bytes f = c.requires.common in
+    let bytes : List ℕ = (held c.args.common).bytes in
     let items = c.args.kept.items in
-    let kept : AreReadFrom (limits_after no_files_before bytes raw) files items = c.requires.kept in
-    let docs = given_read (limits_after no_files_before bytes raw) files items kept.end kept.are in
-    beside_says files bytes raw _ docs.0 (common_says files bytes raw r.doc r.means) docs.1
+    let behind : AreBehind bytes files items = c.requires.kept in
+    let docs = given_read _ files items behind.are.end behind.are.are in
+    beside_says files bytes behind.units _ docs.0 (common_says files bytes behind.units behind.doc behind.means) docs.1

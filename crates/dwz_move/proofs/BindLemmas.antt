@@ -251,3 +251,30 @@ module _ (tops : List Top) (unit : ℕ) (name : ℕ → EntryName) (s : MeaningC
 
   pub value_counts : count_of (class_of a.pair.form) ≡ length (value_refs v)
   value_counts = by_class (class_of a.pair.form) refl (is_entry (class_of a.pair.form)) (is_expression (class_of a.pair.form)) refl refl
+
+-- ---- what a value says where its form doesn't bind and it is no expression: what it names may leave
+
+module _ (tops : List Top) (unit : ℕ) (name : ℕ → EntryName) (s : MeaningContext ℕ) (a : RawAttr) (v : Value ℕ) (is : meaning s a ≡ Ok v) (free : has a.pair.form binding_forms ≡ false)
+    (none : is_expression (class_of a.pair.form) ≡ false) where
+  pub record NamesAlone : Type 0 where
+    pub counts : count_of (class_of a.pair.form) ≡ length (value_refs v)
+    pub binds : attr_binds tops unit (attr_map name (attr_with a v)) ≡ list_any (leaves tops unit) (map name (value_refs v))
+
+  names_by : (b : Bool) → is_entry (class_of a.pair.form) ≡ b → NamesAlone
+  names_by true p =
+      let o = (value_says s a v free is).0 p in
+      record {
+        counts = ap (λ (x : Bool). let n : ℕ = if x then 1 else 0 in n) p ∙ sym (ap (λ (w : Value ℕ). length (value_refs w)) o.1);
+        binds = sym (binds_entry tops unit name a v o.0 free o.1) ∙ sym (or_false (leaves tops unit (name o.0)))
+            ∙ sym (ap (λ (w : Value ℕ). list_any (leaves tops unit) (map name (value_refs w))) o.1);
+      }
+  names_by false p =
+      let o = (value_says s a v free is).1 p none in
+      let refs : value_refs v ≡ [] = ap (λ (ps : List ℕ). refs_beside v.plain ps) o.1 ∙ none_beside v.plain in
+      record {
+        counts = ap (λ (x : Bool). let n : ℕ = if x then 1 else 0 in n) p ∙ sym (no_refs v o.1);
+        binds = sym (binds_plain tops unit name a v free o.0 o.1) ∙ sym (ap (λ (ps : List ℕ). list_any (leaves tops unit) (map name ps)) refs);
+      }
+
+  pub names_alone : NamesAlone
+  names_alone = names_by (is_entry (class_of a.pair.form)) refl

@@ -42,7 +42,7 @@ into_rest name (t ∷ into) (suc n) (x ∷ xs) ys h =
 
 -- ---- values
 
-abbrev binds_in : List Top → ℕ → (ℕ → EntryName) → List (Attr ℕ) → Bool
+abbrev pub binds_in : List Top → ℕ → (ℕ → EntryName) → List (Attr ℕ) → Bool
 binds_in tops unit name attrs = list_any (attr_binds tops unit) (map (attr_map name) attrs)
 
 -- These values mean attributes; whether one of these binds is what is asked; and the tops of what they name stand from `next` on.

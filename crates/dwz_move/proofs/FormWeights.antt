@@ -1,9 +1,7 @@
 -- Values that weigh the same whatever is stored.
-use Rattle.std.proofs.Common.{◌≡◌, ◌≢◌, ℕ, ℤ, ◌+◌, Bool, true, false, List, [], ◌∷◌, length, map, drop, get_or, slice_get, Option, Some, None, Ok, refl, sym, ap, subst, ◌∙◌, arith, if◌then◌else◌, ◌==◌, ◌||◌, not}
+use Rattle.std.proofs.Common.{◌≡◌, ◌≢◌, ℕ, ℤ, ◌+◌, Bool, true, false, List, [], ◌∷◌, length, map, drop, Option, Some, None, Ok, refl, sym, ap, subst, ◌∙◌, arith, if◌then◌else◌, ◌==◌, ◌||◌, not}
 use Rattle.std.specs.Prelude.{codes, nat_lt}
 use Rattle.std.proofs.lemmas.Bool.{eqb-false, eqb-true}
-use Rattle.std.proofs.lemmas.Option.{get_or_from_slice_get, slice_get-map}
-use Rattle.std.specs.Option.{option_map}
 use Rattle.dwz_codes.specs.declared.shape.Shape.{Shape}
 use Rattle.dwz_codes.specs.declared.shape.Shape.TheVariants.{Nothing, Fixed1, Fixed2, Fixed3, Fixed4, Fixed8, Address}
 use Rattle.dwz_def_tops.specs.Spots.{EntryName}
@@ -26,10 +24,7 @@ use Rattle.dwz_def_plan.specs.Gain.{attrs_weight, value_weight}
 use Rattle.dwz_graph.specs.Named.{value_refs}
 use Rattle.dwz_graph.specs.Rows.{AreAttrsMeant, IsEntryMeant}
 use Rattle.dwz_graph.proofs.StepLemmas.{entry as node, no_value, sibling, value}
-use Rattle.dwz_model.specs.declared.place.Pair.{Pair}
-use Rattle.dwz_unit.specs.Declarations.{AreOf, Declarations}
 use Rattle.dwz_unit.specs.Known.{pairs_of}
-use Rattle.dwz_unit.proofs.DeclarationLemmas.{pairs_by_number}
 use Rattle.dwz_unit.specs.Rows.{EntryRow}
 use Rattle.dwz_move.specs.Weights.{capped, form_weight, node_weight, number_size, pair_weight, pairs_weight, weigh_both}
 use Rattle.dwz_move.proofs.DeclaredWeights.{pairs_low}
@@ -176,13 +171,3 @@ entry_weighs raw s name numbers i row d own w weight m e alone made =
     (let values : capped (named_weight name d.attrs) ≡ w = attrs_weigh raw s name row.entry.attrs numbers d.attrs w e (node raw s i numbers row d m) in
     let both : capped (own + w) ≡ capped (own + named_weight name d.attrs) = grind arith in
     made ∙ both ∙ ap (λ (n : ℕ). capped (n + named_weight name d.attrs)) alone)
-
--- what is found of the declaration of the entry with a number is so of its values
-pub declared_weight : (rows : List EntryRow) (d : Declarations) → AreOf rows d → (declared : List (Option ℕ)) → declared ≡ map pairs_weight d.pairs → (i n : ℕ) (row : EntryRow)
-    → slice_get d.numbers i ≡ Some n → slice_get rows i ≡ Some row → (got : Option ℕ) → got ≡ get_or declared n got → got ≡ pairs_weight (pairs_of row.entry)
-declared_weight rows d are declared all i n row number found got is =
-    let there : slice_get declared n ≡ Some (pairs_weight (pairs_of row.entry)) =
-    ap (λ (w : List (Option ℕ)). slice_get w n) all
-    ∙ slice_get-map pairs_weight d.pairs n
-    ∙ ap (λ (o : Option (List Pair)). option_map pairs_weight o) (pairs_by_number rows d are i n row number found) in
-    is ∙ get_or_from_slice_get declared n (pairs_weight (pairs_of row.entry)) got there

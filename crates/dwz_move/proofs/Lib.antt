@@ -5,6 +5,7 @@ pub mod BindSteps
 pub mod TopSteps
 pub mod WeightLemmas
 pub mod WeightSteps
+pub mod DeclaredItems
 pub mod DeclaredWeights
 pub mod FormWeights
 pub mod TreeWeights
@@ -14,7 +15,7 @@ pub mod NameMarks
 pub mod MarkSteps
 pub mod RowMarks
 pub mod OtherValues
-pub mod FormSteps
+pub mod FormBinds
 pub mod FileSteps
 pub mod UnitSteps
 pub mod IntoLemmas

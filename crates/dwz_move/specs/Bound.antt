@@ -1,13 +1,16 @@
 -- Tops that references go into, and the tops of a unit.
-use Rattle.std.specs.Prelude.{◌≡◌, ℕ, ◌+◌, ◌++◌, drop, slice_index, List, [], ◌∷◌, Option, Some, None, ◌&&◌, nat_lt, not}
+use Rattle.std.specs.Prelude.{◌≡◌, ℕ, ◌+◌, ◌++◌, ◌==◌, Bool, drop, slice_index, List, [], ◌∷◌, Option, Some, None, ◌&&◌, nat_lt, not}
 use Rattle.std.specs.Prelude.{if◌then◌else◌}
-use Rattle.dwz_def_tops.specs.Alike.{is_number, unit_in}
+use Rattle.std.specs.List.{list_any}
+use Rattle.dwz_def_tops.specs.Alike.{binding_forms, is_number, unit_in}
 use Rattle.dwz_def_tops.specs.Spots.{EntryName, Top}
 use Rattle.dwz_graph.specs.Rows.{node_refs}
 use Rattle.dwz_groups.specs.declared.groups.Edge.{Edge}
 use Rattle.dwz_graph.specs.Names.{top_in}
 use Rattle.dwz_def_reading.specs.Documents.{Node}
 use Rattle.dwz_def_reading.specs.Classes.{Class}
+use Rattle.dwz_def_reading.specs.Rows.{has}
+use Rattle.dwz_model.specs.declared.place.Pair.{Pair}
 use Rattle.dwz_move.specs.Values.{is_entry}
 pub use Rattle.dwz_unit.specs.Named.{is_expression}
 use Rattle.dwz_move.specs.declared.bind.TopRange.{TopRange}
@@ -45,3 +48,12 @@ somes (t ∷ into) = some_of t ++ somes into
 -- a top refers into another
 abbrev pub target_of : ℕ → ℕ → Edge
 target_of top into = record { key = top; value = into }
+
+-- ---- of declarations (DWARF 5, 7.5.3)
+
+-- each value of that name and form binds; DW_AT_sibling (1) doesn't count
+abbrev pub pair_binds : Pair → Bool
+pair_binds pair = not (pair.name == 0x01) && has pair.form binding_forms
+
+abbrev pub pairs_bind : List Pair → Bool
+pairs_bind pairs = list_any pair_binds pairs

@@ -1,11 +1,12 @@
 //! What binds a top: what an entry of it holds that says where it stands, or leads out of its unit.
 
-ghost use Rattle.std.specs.Prelude.{◌≡◌, ℕ, ◌<◌, ◌≤◌, List, Option, Ok, Some, drop, false, is_some, true, IfOk};
+ghost use Rattle.std.specs.Prelude.{◌≡◌, ℕ, ◌<◌, ◌≤◌, List, Option, Ok, Some, drop, false, length, map, IfOk};
+ghost use Rattle.std.specs.List.{list_any};
 ghost use Rattle.dwz_def_tops.specs.Alike;
-ghost use Rattle.dwz_def_tops.specs.Alike.{any_attr, attr_binds, entry_binds};
+ghost use Rattle.dwz_def_tops.specs.Alike.{attr_binds, entry_binds};
 ghost use Rattle.dwz_def_tops.specs.Spots.{EntryName, Top};
 ghost use Rattle.dwz_def_reading.specs.Entries.{RawAttr};
-ghost use Rattle.dwz_def_reading.specs.Units.{RawUnit, entries_in};
+ghost use Rattle.dwz_def_reading.specs.Units.{entries_in};
 ghost use Rattle.dwz_graph.specs.Rows.{IsEntryMeant, node_refs};
 ghost use Rattle.dwz_def_reading.specs.Documents.{Node, Value, attr_map, node_map};
 ghost use Rattle.dwz_def_reading.specs.Classes;
@@ -16,10 +17,9 @@ ghost use Rattle.dwz_graph.specs.Resolved.{stored};
 ghost use Rattle.dwz_move.specs.Bound;
 ghost use Rattle.dwz_move.specs.Bound.{AreInto, HasTops};
 ghost use Rattle.dwz_graph.specs.Names.{top_in};
-ghost use Rattle.dwz_unit.specs.Known.{pairs_of};
-ghost use Rattle.dwz_unit.specs.Named.{named_count};
 ghost use Rattle.dwz_unit.specs.Rows.{EntryRow, units_of};
 
+use crate::binds::EntryBinds;
 use crate::values::read_expression;
 use dwz_codes::{DW_AT_SIBLING, DW_TAG_IMPORTED_UNIT, class_of};
 use dwz_expr::Operand;
@@ -88,22 +88,15 @@ fn value_binds(
     Ok(address || !operands.is_empty())
 }
 
-// Whether the values of an entry bind the top that it stands in, where none of them is an expression: names and forms tell, and the tops
-// that its references go into.
-fn forms_bind(own: &TopRange, into: &[Option<u32>], pairs: &[Pair]) -> bool
-    ensures { (raw : List RawUnit) (s : MeaningContext ℕ) (i : ℕ) (numbers : List ℕ) (row : EntryRow) (d : Node ℕ) (tops : List Top) (unit : ℕ)
-        (name : ℕ → EntryName) → HasTops tops unit own.now → IsEntryMeant raw s i numbers row d → AreInto name into.now (node_refs d)
-        → pairs.now ≡ pairs_of row.entry → is_some (named_count pairs.now) ≡ true → result ≡ any_attr (attr_binds tops unit) (node_map name d) }
+// Whether one of the first so many references leaves the unit of these tops. The tops that they go into are given.
+fn any_leaves(own: &TopRange, into: &[Option<u32>], count: usize) -> bool
+    ensures { (tops : List Top) (unit : ℕ) (name : ℕ → EntryName) (places : List ℕ) → HasTops tops unit own.now → AreInto name into.now places
+        → count ≡ length places → result ≡ list_any (Alike.leaves tops unit) (map name places) }
 {
-    let mut next = 0;
-    for pair in pairs {
-        if pair.name == DW_AT_SIBLING {
-            continue;
-        }
-        if form_binds(own, into, next, pair.form) {
+    for k in 0..count {
+        if leaves(own, at_or(into, k, None)) {
             return true;
         }
-        next += count_of(pair.form);
     }
     false
 }
@@ -112,12 +105,14 @@ fn forms_bind(own: &TopRange, into: &[Option<u32>], pairs: &[Pair]) -> bool
 /// into are given in order.
 pub(crate) fn entry_binds(
     units: &Units,
+    binds: &EntryBinds,
     own: &TopRange,
     into: &[Option<u32>],
     i: u32,
     operands: &mut Vec<Operand>,
 ) -> Result<bool, NoMemory>
-    requires { i < entries_in (units_of units.now) }
+    requires within { i < entries_in (units_of units.now) }
+    requires same { binds.now ≡ units.now }
     ensures { (s : MeaningContext ℕ) (numbers : List ℕ) (row : EntryRow) (d : Node ℕ) (tops : List Top) (unit : ℕ) (name : ℕ → EntryName)
         → HasTops tops unit own.now → IsEntryMeant (units_of units.now) s i numbers row d → AreInto name into.now (node_refs d)
         → IfOk result (λ b. b ≡ entry_binds tops unit (node_map name d)) }
@@ -125,10 +120,11 @@ pub(crate) fn entry_binds(
     if units.entry(i).tag == DW_TAG_IMPORTED_UNIT {
         return Ok(true);
     }
-    let Values { pairs, mut cursor } = units.values(i);
-    if units.named_count(i).is_some() {
-        return Ok(forms_bind(own, into, pairs));
+    // Where forms tell how many entries it names, it has no expression.
+    if let Some(count) = units.named_count(i) {
+        return Ok(binds.by_form(i) || any_leaves(own, into, count));
     }
+    let Values { pairs, mut cursor } = units.values(i);
     let mut next = 0;
     for pair in pairs {
         let raw = known_value(&mut cursor, pair);

@@ -1,10 +1,12 @@
-//! What entries weigh as far as their declarations tell.
+//! What declarations alone tell: what their entries weigh, and which bind.
 
 ghost use Rattle.std.specs.Prelude.{◌≡◌, IfOk, map};
+ghost use Rattle.dwz_move.specs.Bound;
 ghost use Rattle.dwz_move.specs.Weights;
 
 use crate::weight::{add_weights, set_weight};
 use dwz_codes::{Class, DW_AT_SIBLING, Shape, class_of, form_shape, names_file};
+use dwz_forms::is_binding;
 use dwz_model::{NoMemory, Pair};
 use dwz_unit::Declarations;
 use std::alloc::Global;
@@ -80,4 +82,33 @@ pub(crate) fn declared_weights(
         weights.push(pairs_weight(declarations.pairs(number)))?;
     }
     Ok(weights)
+}
+
+// Whether each value of that name and form binds the top that it stands in.
+#[inline(always)]
+fn pair_binds(pair: &Pair) -> bool
+    ensures { result ≡ Bound.pair_binds pair.now }
+{
+    pair.name != DW_AT_SIBLING && is_binding(pair.form)
+}
+
+// Whether one of these does.
+fn pairs_bind(pairs: &[Pair]) -> bool
+    ensures { result ≡ Bound.pairs_bind pairs.now }
+{
+    pairs.iter().any(|pair| pair_binds(pair))
+}
+
+/// The same of each of these declarations.
+pub(crate) fn declared_binds(
+    alloc: Global,
+    declarations: &Declarations,
+) -> Result<Vec<bool>, NoMemory>
+    ensures { IfOk result (λ v. v.items ≡ map Bound.pairs_bind declarations.now.pairs) }
+{
+    let mut binds = Vec::with_capacity(alloc, declarations.len())?;
+    for number in 0..declarations.len() {
+        binds.push(pairs_bind(declarations.pairs(number)))?;
+    }
+    Ok(binds)
 }

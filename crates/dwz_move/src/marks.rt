@@ -114,10 +114,6 @@ pub(crate) fn mark_entry(
         → OnOk result (MarksIf (λ n. any_attr (expression_pins n) (node_map name d) ≡ true) named.old.by_uleb.items
         named.new.by_uleb.items) }
 {
-    // Where forms tell how many entries it names, it has no expression.
-    if units.named_count(i).is_some() {
-        return Ok(());
-    }
     let Values { pairs, mut cursor } = units.values(i);
     let mut rest = into;
     for pair in up_to_expressions(pairs) {
@@ -187,6 +183,10 @@ pub(crate) fn mark_entries(
         named.new.by_uleb.items) }
 {
     for i in first..end {
+        // Where forms tell how many entries it names, it has no expression.
+        if units.named_count(i).is_some() {
+            continue;
+        }
         mark_entry(
             units,
             from_entry(into, starts, i as usize),

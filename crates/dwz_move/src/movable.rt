@@ -29,7 +29,7 @@ fn sources_of(alloc: Global, targets: &Groups) -> Result<Vec<Edge>, NoMemory>
     requires { length targets.now < 2 ^ 32 }
     ensures { IfOk result (λ pairs. pairs.items ≡ sources_from 0 targets.now) }
 {
-    let mut pairs = Vec::new(alloc);
+    let mut pairs = Vec::with_capacity(alloc, targets.items().len())?;
     for top in 0..targets.len() {
         add_sources(&mut pairs, top as u32, targets.get(top))?;
     }
@@ -40,7 +40,7 @@ fn sources_of(alloc: Global, targets: &Groups) -> Result<Vec<Edge>, NoMemory>
 fn negate(alloc: Global, marks: &[bool]) -> Result<Flags, NoMemory>
     ensures { IfOk result (λ flags. flags ≡ map not marks.now) }
 {
-    let mut flags = Vec::new(alloc);
+    let mut flags = Vec::with_capacity(alloc, marks.len())?;
     for mark in marks {
         flags.push(!*mark)?;
     }

@@ -1,47 +1,21 @@
-//! What is asked of tops and units: whether its entries bind a top, and which tops the operands of a unit name.
+//! Which tops the operands of a unit name.
 
-ghost use Rattle.std.specs.Prelude.{◌≡◌, ℕ, ◌<◌, ◌≤◌, List, Option, Ok, Some, true, length, slice_get, IfOk, OnOk};
-ghost use Rattle.dwz_def_tops.specs.Alike;
-ghost use Rattle.dwz_def_tops.specs.Alike.{any_attr, any_in};
-ghost use Rattle.dwz_def_tops.specs.Spots.{EntryName, Top};
-ghost use Rattle.dwz_def_reading.specs.Units.{RawUnit, entries_in};
+ghost use Rattle.std.specs.Prelude.{◌≡◌, ℕ, ◌<◌, List, Ok, Some, true, length, slice_get, OnOk};
+ghost use Rattle.dwz_def_tops.specs.Alike.{any_attr};
+ghost use Rattle.dwz_def_tops.specs.Spots.{EntryName};
+ghost use Rattle.dwz_def_reading.specs.Units.{RawUnit};
 ghost use Rattle.dwz_def_reading.specs.Documents.{DwUnit, unit_map};
 ghost use Rattle.dwz_def_reading.specs.Meanings.{Around};
 ghost use Rattle.dwz_def_reading.specs.Meant.{unit_meaning};
-ghost use Rattle.dwz_move.specs.Bound.{HasTops};
 ghost use Rattle.dwz_move.specs.Known.{KnowsRefs, in_unit};
-ghost use Rattle.dwz_graph.specs.Standing.{StandsAt};
 ghost use Rattle.dwz_move.specs.Marked.{MarksIf, expression_names, expression_pins};
 ghost use Rattle.dwz_unit.specs.Rows.{units_of};
 
-use crate::bind::TopRange;
 use crate::marks::{Named, mark_entries};
-use crate::tops::entries_bind;
 use dwz_expr::Operand;
 use dwz_graph::here_of;
 use dwz_model::NoMemory;
 use dwz_unit::Units;
-
-/// Whether the entries of a top bind it: those from one number to before another. For each reference of the file is given the top that it
-/// goes into, and for each entry where its references begin; and which tops are of the same unit.
-pub fn top_binds(
-    units: &Units,
-    own: &TopRange,
-    into: &[Option<u32>],
-    starts: &[u32],
-    first: u32,
-    end: u32,
-    operands: &mut Vec<Operand>,
-) -> Result<bool, NoMemory>
-    requires { end ≤ entries_in (units_of units.now) }
-    ensures { (around : Around ℕ) (refs : List ℕ) (name : ℕ
-        → EntryName) (said : List (DwUnit ℕ)) (file unit : ℕ) (tops : List Top) (t : Top)
-        → KnowsRefs around (units_of units.now) name refs starts.now into.now
-        → StandsAt around name (units_of units.now) said file unit t first end → HasTops tops t.unit own.now
-        → IfOk result (λ b. b ≡ any_in (Alike.entry_binds tops t.unit) t) }
-{
-    entries_bind(units, own, into, starts, first, end, operands)
-}
 
 /// Marks the tops that operands of expressions of the unit with a number name. For each reference of the file is given the top that it
 /// goes into, and for each entry where its references begin.

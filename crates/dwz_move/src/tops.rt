@@ -12,6 +12,7 @@ ghost use Rattle.dwz_move.specs.Bound.{EachInto, HasTops, some_of, somes, target
 ghost use Rattle.dwz_unit.specs.Rows.{EntryRow, units_of};
 
 use crate::bind::{TopRange, entry_binds};
+use crate::binds::EntryBinds;
 use dwz_expr::Operand;
 use dwz_groups::Edge;
 use dwz_model::NoMemory;
@@ -36,6 +37,7 @@ pub(crate) fn from_entry<'a>(into: &'a [Option<u32>], starts: &[u32], i: usize) 
 /// goes into, and for each entry where its references begin.
 pub(crate) fn entries_bind(
     units: &Units,
+    binds: &EntryBinds,
     own: &TopRange,
     into: &[Option<u32>],
     starts: &[u32],
@@ -43,7 +45,8 @@ pub(crate) fn entries_bind(
     end: u32,
     operands: &mut Vec<Operand>,
 ) -> Result<bool, NoMemory>
-    requires { end ≤ entries_in (units_of units.now) }
+    requires within { end ≤ entries_in (units_of units.now) }
+    requires same { binds.now ≡ units.now }
     ensures { (s : MeaningContext ℕ) (numbers : List ℕ) (rows after : List EntryRow) (ds : List (Node ℕ)) (tops : List Top) (unit : ℕ)
         (name : ℕ → EntryName) → HasTops tops unit own.now → AreRowsMeant (units_of units.now) s first end numbers rows after ds
         → EachInto name into.now starts.now first ds → IfOk result (λ b. b ≡ list_any (entry_binds tops unit) (map (node_map name) ds)) }
@@ -51,6 +54,7 @@ pub(crate) fn entries_bind(
     for i in first..end {
         if entry_binds(
             units,
+            binds,
             own,
             from_entry(into, starts, i as usize),
             i,

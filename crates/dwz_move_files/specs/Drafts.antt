@@ -52,9 +52,10 @@ abbrev pub AreInto : (contents : List (List ℕ)) (number : ℕ) (bytes : List �
 AreInto contents number bytes f x is into = into ≡ tops_of_refs (name_at x.starts is.kept.read.doc) (raw_units f.units)
     f.resolved.refs.items
 
--- that and what its entries weigh is known of a file
+-- that, what its entries weigh and which of them bind is known of a file
 pub record IsKnown (f : File) (x : Index) (known : KnownFile) : Type 0 where
   pub weights : known.weights ≡ f.units
+  pub binds : known.binds ≡ f.units
   pub into : (contents : List (List ℕ)) (number : ℕ) (bytes : List ℕ) (is : IsFileAmong contents number bytes f x)
       → AreInto contents number bytes f x is known.into.items
 

@@ -1,7 +1,7 @@
 //! What is gathered of tops, file by file.
 
 ghost use Rattle.std.specs.Prelude.{◌≡◌, ℕ, ◌+◌, ◌-◌, ◌<◌, ◌≤◌, ◌++◌, ◌^◌, false, true, List, Some, length, map, slice_get, slice_index};
-ghost use Rattle.std.specs.Prelude.{slice_index_or, slice_range, IfOk, OnOk};
+ghost use Rattle.std.specs.Prelude.{slice_index_or, slice_range, vec_capacity, IfOk, OnOk};
 ghost use Rattle.dwz_graph.specs.Across.{IsFileAmong, IsTopOf};
 ghost use Rattle.dwz_def_tops.specs.Alike.{binds_itself};
 ghost use Rattle.dwz_def_tops.specs.Spots.{Top, tops_of, units_of};
@@ -20,7 +20,7 @@ use dwz_expr::Operand;
 use dwz_graph::{File, Graph, Index, TopEntry};
 use dwz_groups::{Edge, TopRow};
 use dwz_model::{NoMemory, Place};
-use dwz_move::{EntryWeights, Named, TopRange, add_targets, top_binds, tops_of};
+use dwz_move::{EntryBinds, EntryWeights, Named, TopRange, add_targets, tops_of};
 use std::alloc::Global;
 
 /// The rows of tops, whether each binds itself, and the tops that the references of those that don't go into, each under its top.
@@ -40,6 +40,19 @@ pub(crate) fn nothing(alloc: Global) -> Draft
         binds: Vec::new(alloc),
         pairs: Vec::new(alloc),
     }
+}
+
+/// Nothing is gathered yet, and there is room for so many tops, and for a target of each.
+pub(crate) fn with_room(alloc: Global, tops: usize) -> Result<Draft, NoMemory>
+    ensures nothing { IfOk result (λ draft. (docs : List (Doc ℕ)) (first : ℕ) → IsDraft docs first 0 draft) }
+    ensures room { IfOk result (λ draft. (tops ≤ vec_capacity draft.rows) × (tops ≤ vec_capacity draft.binds)
+        × (tops ≤ vec_capacity draft.pairs)) }
+{
+    Ok(Draft {
+        rows: Vec::with_capacity(alloc, tops)?,
+        binds: Vec::with_capacity(alloc, tops)?,
+        pairs: Vec::with_capacity(alloc, tops)?,
+    })
 }
 
 // The flag of a top.
@@ -109,6 +122,7 @@ fn row_of(
 // Whether a top binds itself: by what its entries hold, or since an operand anywhere names one of them.
 fn binds(
     file: &File,
+    entry_binds: &EntryBinds,
     own: &TopRange,
     into: &[Option<u32>],
     n: u32,
@@ -117,7 +131,8 @@ fn binds(
     named: &Named,
     operands: &mut Vec<Operand>,
 ) -> Result<bool, NoMemory>
-    requires { end ≤ entries_in (raw_units file.now.units) }
+    requires binds { entry_binds.now ≡ file.now.units }
+    requires end { end ≤ entries_in (raw_units file.now.units) }
     ensures { (contents : List (List ℕ)) (number : ℕ) (bytes : List ℕ) (x : Index) (is : IsFileAmong contents number bytes file.now x)
         (k : ℕ) (t : Top) → IsTopOf contents number bytes file.now x is.kept.read.doc k top t → n ≡ t.number
         → ((r : RawEntry) → slice_get (shown_entries (raw_units file.now.units)) top.entry ≡ Some r → r.end ≡ end)
@@ -128,7 +143,7 @@ fn binds(
     if flag(named.by_any.as_slice(), n) {
         return Ok(true);
     }
-    top_binds(&file.units, own, into, starts, top.entry, end, operands)
+    entry_binds.top_binds(own, into, starts, top.entry, end, operands)
 }
 
 // Adds the tops that the references of a top go into, if it doesn't bind itself.
@@ -153,6 +168,7 @@ fn put_top(
     draft: &mut Draft,
     file: &File,
     weights: &EntryWeights,
+    entry_binds: &EntryBinds,
     number: u32,
     own: &TopRange,
     into: &[Option<u32>],
@@ -162,6 +178,7 @@ fn put_top(
     operands: &mut Vec<Operand>,
 ) -> Result<(), NoMemory>
     requires weights { weights.now ≡ file.now.units }
+    requires binds { entry_binds.now ≡ file.now.units }
     requires entry { top.entry < entries_in (raw_units file.now.units) }
     requires end { (r : RawEntry) → slice_get (shown_entries (raw_units file.now.units)) top.entry ≡ Some r
         → r.end ≤ entries_in (raw_units file.now.units) }
@@ -173,7 +190,7 @@ fn put_top(
         → OnOk result (IsDraft (docs_of contents) from (count + 1) draft.new) }
 {
     let end = file.units.entry(top.entry).end;
-    let bound = binds(file, own, into, n, top, end, named, operands)?;
+    let bound = binds(file, entry_binds, own, into, n, top, end, named, operands)?;
     draft
         .rows
         .push(row_of(file, weights, number, n, top, end, named))?;
@@ -187,11 +204,13 @@ fn put_top(
     )
 }
 
-/// What is found once of a file, before its tops are gathered: for each reference the top that it goes into, and what its entries weigh.
+/// What is found once of a file, before its tops are gathered: for each reference the top that it goes into, what its entries weigh, and
+/// which of them bind.
 #[derive(Drop)]
 pub(crate) struct KnownFile<'f, 'a> {
     into: Vec<Option<u32>>,
     weights: EntryWeights<'f, 'a>,
+    binds: EntryBinds<'f, 'a>,
 }
 
 /// Finds that.
@@ -205,7 +224,12 @@ pub(crate) fn known_of<'f, 'a>(
 {
     let into = tops_of(alloc, index, file.resolved.refs.as_slice())?;
     let weights = EntryWeights::new(alloc, &file.units)?;
-    Ok(KnownFile { into, weights })
+    let binds = EntryBinds::new(alloc, &file.units)?;
+    Ok(KnownFile {
+        into,
+        weights,
+        binds,
+    })
 }
 
 /// Adds the tops of a file from the one at a place among them to before another.
@@ -239,6 +263,7 @@ pub(crate) fn put_tops(
             draft,
             file,
             &known.weights,
+            &known.binds,
             number,
             &own,
             known.into.as_slice(),
@@ -282,7 +307,7 @@ pub(crate) fn gather(alloc: Global, graph: &Graph, named: &Named) -> Result<Draf
     ensures few { IfOk result (λ draft. length (tops_of (units_of (docs_of graph.now.given))) < 2 ^ 32) }
 {
     let indexes = graph.indexes();
-    let mut draft = nothing(alloc);
+    let mut draft = with_room(alloc, named.by_any.len())?;
     let mut operands = Vec::new(alloc);
     for (number, file) in graph.files().iter().enumerate() {
         put_file(

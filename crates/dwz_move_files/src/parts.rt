@@ -9,7 +9,7 @@ ghost use Rattle.dwz_move_files.specs.Named.{AreNamed};
 ghost use Rattle.dwz_def_reading.specs.Documents.{Doc};
 ghost use Rattle.dwz_move_files.specs.Drafts.{AreParts, IsDraft, IsFileDraft};
 
-use crate::draft::{Draft, gather, nothing, put_file};
+use crate::draft::{Draft, gather, nothing, put_file, with_room};
 use crate::stretches::gather_stretches;
 use dwz_graph::Graph;
 use dwz_model::NoMemory;
@@ -27,13 +27,14 @@ fn part_at(alloc: Global, graph: &Graph, named: &Named, k: usize) -> Result<Draf
 {
     let files = graph.files();
     let indexes = graph.indexes();
-    let mut draft = nothing(alloc);
+    let index = &indexes[k];
+    let mut draft = with_room(alloc, index.tops().len())?;
     let mut operands = Vec::new(alloc);
     put_file(
         alloc,
         &mut draft,
         &files[k],
-        &indexes[k],
+        index,
         k as u32,
         named,
         &mut operands,

@@ -12,7 +12,7 @@ ghost use Rattle.dwz_def_reading.specs.Documents.{Doc};
 ghost use Rattle.dwz_move_files.specs.Drafts.{AreParts, IsDraft};
 ghost use Rattle.dwz_move_files.specs.Stretches.{AreKnown, AreStretches, IsStretchDraft, IsWork};
 
-use crate::draft::{Draft, KnownFile, gather, known_of, nothing, put_tops};
+use crate::draft::{Draft, KnownFile, gather, known_of, put_tops, with_room};
 use crate::parts::{empty_slots, join_parts};
 use dwz_graph::{File, Graph, Index};
 use dwz_model::NoMemory;
@@ -111,7 +111,7 @@ fn stretch_part(alloc: Global, work: &Work, k: usize) -> Result<Draft, NoMemory>
 {
     let stretch = work.stretches[k];
     let file = stretch.file as usize;
-    let mut draft = nothing(alloc);
+    let mut draft = with_room(alloc, stretch.end.saturating_sub(stretch.start))?;
     let mut operands = Vec::new(alloc);
     put_tops(
         &mut draft,

@@ -1,5 +1,5 @@
-use Rattle.std.proofs.Common.{◌≡◌, ℕ, ◌+◌, List, Option, true, false, arith, get_or, refl, subst, sym, ap, ◌∙◌, Ok}
-use Rattle.std.specs.Prelude.{IsOk, is_some}
+use Rattle.std.proofs.Common.{◌≡◌, ℕ, ◌+◌, ◌<◌, Some, true, false, arith, get_or, slice_get, refl, subst, sym, ap, ◌∙◌, Ok}
+use Rattle.std.specs.Prelude.{IsOk}
 use Rattle.dwz_def_tops.specs.Alike.{any_attr, attr_binds}
 use Rattle.dwz_def_reading.specs.Entries.{RawAttr}
 use Rattle.dwz_forms.specs.RawValues.{raw_view}
@@ -7,28 +7,41 @@ use Rattle.dwz_def_reading.specs.Documents.{attr_map, node_map}
 use Rattle.dwz_def_reading.specs.Meant.{attr_with, meaning}
 use Rattle.dwz_unit.proofs.RowsFound.{row_there}
 use Rattle.dwz_graph.proofs.ValueSteps.{next_read, no_pair}
-use Rattle.dwz_def_reading.proofs.AttrPairs.{read_pairs}
-use Rattle.dwz_model.specs.declared.place.Pair.{Pair}
+use Rattle.dwz_def_reading.specs.Units.{entries_in}
+use Rattle.dwz_graph.specs.Rows.{node_refs}
+use Rattle.dwz_graph.proofs.StepLemmas.{entry}
 use Rattle.dwz_unit.specs.Known.{pairs_of}
-use Rattle.dwz_unit.specs.Named.{named_count}
-use Rattle.dwz_unit.specs.Rows.{units_of}
+use Rattle.dwz_unit.specs.Rows.{Source, rows_of, units_of}
 use Rattle.dwz_unit.proofs.ReadsLemmas.{reads_count, reads_next}
 use Rattle.dwz_move.proofs.BindLemmas.{value_counts}
 use Rattle.dwz_move.proofs.BindSteps.{bind_all, bind_here, bind_more, bind_next, bind_none, bind_sibling, by_attrs, by_tag}
+use Rattle.dwz_move.proofs.FormBinds.{all_named, form_binds_all}
+use Rattle.dwz_move.proofs.OtherValues.{forms_tell, others_by_forms}
 use Rattle.dwz_move.proofs.bind.entry_binds.Goals as goal
 
 pub returns-then-entry-eq-DW_TAG_IMPORTED_UNIT : goal.returns-then-entry-eq-DW_TAG_IMPORTED_UNIT
 returns-then-entry-eq-DW_TAG_IMPORTED_UNIT c = λ s numbers row d tops unit name has m into. by_tag s tops unit name (units_of c.args.units.now) c.args.i numbers row d m c.entry.result c.entry.ensures.entry
     c.if-entry-eq-DW_TAG_IMPORTED_UNIT.true
 
-pub returns-then-is_some : goal.returns-then-is_some
-returns-then-is_some c = λ s numbers row d tops unit name has m into. (
-    let pairs = c.values-cursor.result.pairs.now in
-    let r = c.values-cursor.ensures.read row m.found in
-    let are = read_pairs row.entry.at pairs c.values-cursor.result.cursor r.behind row.entry.attrs r.read in
-    let told : is_some (named_count (pairs_of row.entry)) ≡ true = ap (λ (o : Option ℕ). is_some o) (sym (c.named_count.ensures row m.found)) ∙ sym c.is_some.ensures ∙ c.if-is_some.true in
-    by_attrs s tops unit name (units_of c.args.units.now) c.args.i numbers row d m c.entry.result c.entry.ensures.entry c.forms_bind.result c.if-entry-eq-DW_TAG_IMPORTED_UNIT.false
-    (c.forms_bind.ensures (units_of c.args.units.now) s c.args.i numbers row d tops unit name has m into are (ap (λ (w : List Pair). is_some (named_count w)) are ∙ told)))
+pub by_form-requires : goal.by_form-requires
+by_form-requires c = subst (λ (x : Source). c.args.i < entries_in (units_of x)) (sym c.requires.same) c.requires.within
+
+pub returns-then-by_form : goal.returns-then-by_form
+returns-then-by_form c = λ s numbers row d tops unit name has m into. (
+    let raw = units_of c.args.units.now in
+    let found = subst (λ (x : Source). slice_get (rows_of (units_of x)) c.args.i ≡ Some row) (sym c.requires.same) m.found in
+    by_attrs s tops unit name raw c.args.i numbers row d m c.entry.result c.entry.ensures.entry c.by_form.result c.if-entry-eq-DW_TAG_IMPORTED_UNIT.false
+    (c.if-by_form.true ∙ form_binds_all raw s tops unit name row.entry.attrs numbers d.attrs (entry raw s c.args.i numbers row d m) (sym (c.by_form.ensures row found) ∙ c.if-by_form.true)))
+
+pub returns-else-by_form : goal.returns-else-by_form
+returns-else-by_form c = λ s numbers row d tops unit name has m into. (
+    let raw = units_of c.args.units.now in
+    let found = subst (λ (x : Source). slice_get (rows_of (units_of x)) c.args.i ≡ Some row) (sym c.requires.same) m.found in
+    let told = forms_tell (pairs_of row.entry) c.in-Some.count (sym (c.named_count.ensures row m.found) ∙ c.in-Some.is) in
+    let all = all_named raw s tops unit name row.entry.attrs numbers d.attrs (entry raw s c.args.i numbers row d m) (others_by_forms row.entry.attrs told.0)
+    (sym (c.by_form.ensures row found) ∙ c.if-by_form.false) in
+    by_attrs s tops unit name raw c.args.i numbers row d m c.entry.result c.entry.ensures.entry c.any_leaves.result c.if-entry-eq-DW_TAG_IMPORTED_UNIT.false
+    (c.any_leaves.ensures tops unit name (node_refs d) has into (sym told.1 ∙ all.counts) ∙ sym all.binds))
 
 pub loop-pair-init : goal.loop-pair-init
 loop-pair-init c = record {
@@ -40,7 +53,7 @@ loop-pair-init c = record {
 pub known_value-raw-requires : goal.known_value-raw-requires
 known_value-raw-requires c =
     let pairs = c.values-cursor.result.pairs.now in
-    let r = row_there (units_of c.args.units.now) c.args.i c.requires in
+    let r = row_there (units_of c.args.units.now) c.args.i c.requires.within in
     let x = reads_next r.0.entry.at pairs c.loop-pair.pair-index no_pair c.loop-pair.cursor r.0.entry.attrs c.loop-pair-test.true (c.loop-pair.invariant.reads r.0 r.1) in
     subst IsOk (sym x.value) refl
 
@@ -87,7 +100,7 @@ loop-pair-preserved c =
     let value = raw_view c.known_value-raw.result in
     let a : RawAttr = record { at = c.loop-pair.cursor.at; end = c.known_value-raw.new.cursor.at; pair = get_or pairs j no_pair; raw = value } in
     record {
-      few = (let few = c.loop-pair.invariant.few in let one = c.count_of-next.ensures.few in omega arith);
+      few = (let few = c.loop-pair.invariant.few in let one = c.count_of.ensures.few in omega arith);
       reads = λ row found. (next_read row.entry.at pairs j no_pair c.loop-pair.cursor c.known_value-raw.new.cursor value row.entry.attrs c.loop-pair-test.true (c.loop-pair.invariant.reads row found)
           c.known_value-raw.ensures.value).rest;
       left = λ s numbers row d tops unit name has m into. (
@@ -99,8 +112,8 @@ loop-pair-preserved c =
           let says : c.in_ok-value_binds.field-0 ≡ attr_binds tops unit (attr_map name (attr_with a n.v)) = c.in_ok-value_binds.ensures s a.at n.v tops unit name has
           (subst (λ (e : ℕ). meaning s (record { at = c.loop-pair.cursor.at; end = e; pair = get_or pairs j no_pair; raw = value }) ≡ Ok n.v) (sym c.at-end.ensures) n.means) n.first in
           let free : false ≡ attr_binds tops unit (attr_map name (attr_with a n.v)) = sym c.if-branch.false ∙ says in
-          bind_more raw s tops unit name c.args.into.now row.entry.attrs j c.loop-pair.next (c.loop-pair.next + c.count_of-next.result) a all n free
-          (ap (λ (k : ℕ). c.loop-pair.next + k) (c.count_of-next.ensures.count ∙ value_counts tops unit name s a n.v n.means free)));
+          bind_more raw s tops unit name c.args.into.now row.entry.attrs j c.loop-pair.next (c.loop-pair.next + c.count_of.result) a all n free
+          (ap (λ (k : ℕ). c.loop-pair.next + k) (c.count_of.ensures.count ∙ value_counts tops unit name s a n.v n.means free)));
     }
 
 pub returns : goal.returns

@@ -1,5 +1,4 @@
-use Rattle.std.proofs.Common.{◌≡◌, ℕ, ◌+◌, Bool, true, Option, List, ap, arith, drop, get_or, subst, sym, ◌∙◌, Ok}
-use Rattle.std.specs.Prelude.{is_some}
+use Rattle.std.proofs.Common.{◌≡◌, ℕ, ◌+◌, Bool, true, Option, List, arith, drop, get_or, subst, sym, ◌∙◌, Ok}
 use Rattle.dwz_def_tops.specs.Alike.{any_attr}
 use Rattle.dwz_def_reading.specs.Entries.{RawAttr}
 use Rattle.dwz_forms.specs.RawValues.{raw_view}
@@ -10,7 +9,7 @@ use Rattle.dwz_graph.proofs.ValueSteps.{no_pair}
 use Rattle.dwz_unit.specs.Rows.{units_of}
 use Rattle.dwz_move.specs.Marked.{MarksIf, expression_names, expression_pins}
 use Rattle.dwz_move.proofs.MarkSteps.{MarkLeft, mark_all, mark_more, mark_sibling}
-use Rattle.dwz_move.proofs.OtherValues.{mark_nothing, mark_others, names_expressions, next_in_front, pins_expressions, value_in_front}
+use Rattle.dwz_move.proofs.OtherValues.{mark_others, names_expressions, next_in_front, pins_expressions, value_in_front}
 use Rattle.dwz_move.proofs.marks.mark_entry.Goals as goal
 use Rattle.dwz_move.proofs.marks.mark_entry.Goals.{then-pair-ne-DW_AT_SIBLING+in_ok-rest, else-pair-ne-DW_AT_SIBLING}
 
@@ -100,13 +99,3 @@ returns-clause-uleb c = λ s numbers row d name m into. (
     let h = c.loop-pair.invariant.uleb s numbers row d name m into in
     mark_others row.entry.at front c.loop-pair.pair-index c.loop-pair.cursor row.entry.attrs (c.loop-pair.invariant.reads row m.found) expression_pins pins_expressions
     (units_of c.args.units.now) s name c.loop-pair.rest.now c.args.named.now.by_uleb.items c.loop-pair.named.by_uleb.items all (omega (arith, c.loop-pair-test.false)) h)
-
-pub returns-then-is_some-clause-any : goal.returns-then-is_some-clause-any
-returns-then-is_some-clause-any c = λ s numbers row d name m into.
-    mark_nothing expression_names names_expressions (units_of c.args.units.now) s name numbers c.args.i row d c.args.named.now.by_any.items
-    (ap (λ (o : Option ℕ). is_some o) (sym (c.named_count.ensures row m.found)) ∙ sym c.is_some.ensures ∙ c.if-is_some.true) m
-
-pub returns-then-is_some-clause-uleb : goal.returns-then-is_some-clause-uleb
-returns-then-is_some-clause-uleb c = λ s numbers row d name m into.
-    mark_nothing expression_pins pins_expressions (units_of c.args.units.now) s name numbers c.args.i row d c.args.named.now.by_uleb.items
-    (ap (λ (o : Option ℕ). is_some o) (sym (c.named_count.ensures row m.found)) ∙ sym c.is_some.ensures ∙ c.if-is_some.true) m

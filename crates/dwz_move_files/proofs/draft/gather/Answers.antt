@@ -7,7 +7,7 @@ use Rattle.dwz_move_files.proofs.OutlineFileSteps.{all_gathered, begin, few_step
 use Rattle.dwz_move_files.proofs.draft.gather.Goals as goal
 
 pub loop-number-init : goal.loop-number-init
-loop-number-init c = λ named. begin c.args.graph.now.given c.indexes-indexes.result.now _ (c.nothing-draft.ensures (docs_of c.args.graph.now.given) 0)
+loop-number-init c = λ named. begin c.args.graph.now.given c.indexes-indexes.result.now _ (c.in_ok-draft.ensures.nothing (docs_of c.args.graph.now.given) 0)
 
 pub bounds-indexes-number : goal.bounds-indexes-number
 bounds-indexes-number c = below c.args.graph.now.given c.files-file-items.result.now c.indexes-indexes.result.now c.loop-number.number c.files-file-items.ensures c.indexes-indexes.ensures c.loop-number-test.true

@@ -10,6 +10,7 @@ use Rattle.dwz_move_files.proofs.draft.known_of.Goals as goal
 pub returns : goal.returns
 returns c = record {
   weights = c.in_ok-weights.ensures;
+  binds = c.in_ok-binds.ensures;
   into = λ contents number bytes is. (
       let f = c.args.file.now in
       let x = c.args.index.now in

@@ -49,5 +49,5 @@ returns c = λ indexes are named. (
     of_indexes (docs_of contents) (λ (xs : List Index). IsFileDraft (docs_of contents) xs c.args.k c.put_file.new.draft) c.indexes-indexes.result.now c.indexes-indexes.ensures
     (file_draft contents files c.indexes-indexes.result.now c.args.k c.index-files-k.result x c.files-files.ensures c.indexes-indexes.ensures at c.index-files-k.is c.index-indexes-k.is c.put_file.new.draft
     (λ bytes is. subst (λ (n : ℕ). IsDraft (docs_of contents) x.starts.top n c.put_file.new.draft) count
-    (c.in_ok-put_file.ensures contents bytes is named x.starts.top 0 (omega arith) (c.nothing-draft.ensures (docs_of contents) x.starts.top))))
+    (c.in_ok-put_file.ensures contents bytes is named x.starts.top 0 (omega arith) (c.in_ok-draft.ensures.nothing (docs_of contents) x.starts.top))))
     indexes are)

@@ -100,4 +100,4 @@ returns c = λ named t there. (
     (own_draft w is c.args.k s got f x (slice_get-get_or w.files.now s.file c.index-work-file.result (file_low w is c.args.k s got))
     (slice_get-get_or w.indexes.now s.file c.index-work-file-2.result (index_low w is c.args.k s got)) draft
     (λ bytes among. subst (λ (n : ℕ). IsDraft (docs_of contents) from n draft) none
-    (c.in_ok-put_tops.ensures contents bytes among named from 0 (omega arith) (c.nothing-draft.ensures (docs_of contents) from)))))
+    (c.in_ok-put_tops.ensures contents bytes among named from 0 (omega arith) (c.in_ok-draft.ensures.nothing (docs_of contents) from)))))

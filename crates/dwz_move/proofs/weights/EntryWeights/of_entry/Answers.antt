@@ -3,7 +3,9 @@ use Rattle.dwz_def_reading.specs.Units.{entries_in}
 use Rattle.dwz_unit.specs.Declarations.{AreOf}
 use Rattle.dwz_unit.specs.Rows.{Source, rows_of, units_of}
 use Rattle.dwz_unit.proofs.DeclarationLemmas.{numbers_length}
-use Rattle.dwz_move.proofs.FormWeights.{declared_weight, entry_weighs}
+use Rattle.dwz_move.specs.Weights.{pairs_weight}
+use Rattle.dwz_move.proofs.DeclaredItems.{by_declaration}
+use Rattle.dwz_move.proofs.FormWeights.{entry_weighs}
 use Rattle.dwz_move.proofs.weights.EntryWeights.of_entry.Goals as goal
 
 pub number-requires : goal.number-requires
@@ -18,6 +20,6 @@ returns-in-Some c = λ s numbers row d name m. (
     let n = c.number.result in
     let own = c.self.inside.declarations in
     let are = subst (λ (x : Source). AreOf (rows_of (units_of x)) own) c.self.view_is c.self.invariant.0 in
-    let is = declared_weight (rows_of raw) own are c.self.inside.declared.items c.self.invariant.1 c.args.i n row c.number.ensures.number m.found c.index.result.now c.index.ensures in
+    let is = by_declaration pairs_weight (rows_of raw) own are c.self.inside.declared.items c.self.invariant.1 c.args.i n row c.number.ensures.number m.found c.index.result.now c.index.ensures in
     let found = subst (λ (x : Source). slice_get (rows_of (units_of x)) c.args.i ≡ Some row) (sym c.self.view_is) m.found in
     entry_weighs raw s name numbers c.args.i row d c.weight_alone.result c.in-Some.weight c.add_weights.result m (sym is ∙ c.in-Some.is) (c.weight_alone.ensures row found) c.add_weights.ensures)

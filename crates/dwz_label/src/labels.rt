@@ -56,12 +56,8 @@ impl Labels {
         }
     }
 
-    // None yet, with room for so many, and for so many bytes.
-    pub(crate) fn with_capacity(
-        alloc: Global,
-        count: usize,
-        size: usize,
-    ) -> Result<Labels, NoMemory>
+    /// None yet, with room for so many, and for so many bytes.
+    pub fn with_capacity(alloc: Global, count: usize, size: usize) -> Result<Labels, NoMemory>
         ensures { IfOk result (λ labels. labels ≡ []) }
     {
         Ok(Labels {

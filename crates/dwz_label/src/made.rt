@@ -33,7 +33,7 @@ pub fn nodes(
     requires few { length firsts.now < 2 ^ 32 - 1 }
     ensures { IfOk result (λ nodes. AreMadeOf firsts.now movable.now targets.now nodes) }
 {
-    let mut nodes = Nodes::new(alloc);
+    let mut nodes = Nodes::with_capacity(alloc, firsts.len(), targets.items().len())?;
     for (n, first) in firsts.iter().enumerate() {
         nodes.push(*first, targets_of(targets, movable[n], n))?;
     }

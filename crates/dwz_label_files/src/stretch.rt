@@ -20,6 +20,9 @@ use dwz_label_marks::Names;
 use dwz_label_words::FileNames;
 use dwz_model::NoMemory;
 
+// For how many bytes of a label there is room at once.
+const LABEL_ROOM: usize = 16;
+
 /// Labels of tops, with the names by which they tell marks.
 #[derive(Drop)]
 pub(crate) struct Stretch {
@@ -55,10 +58,10 @@ fn put_nth(
         return Ok(());
     }
     let entry = entry_of(run, file, n);
-    let row = rows[entry.unit as usize];
-    let here = place_of(run, file, &entry, &row, names, room, *place)?;
+    let row = &rows[entry.unit as usize];
+    let here = place_of(run, file, &entry, row, names, room, *place)?;
     *place = Some(here);
-    put_marks_of(run, file, &entry, &row, &here, names, room, out)
+    put_marks_of(run, file, &entry, row, &here, names, room, out)
 }
 
 // Appends labels of the tops of a file from number `first` to before `end`: of one that may move its marks, of another no bytes.
@@ -146,7 +149,8 @@ pub(crate) fn stretch_of(
     ensures { IfOk result (IsStretch (units_of (docs_of run.now.graph.now.given)) movable.now first end) }
 {
     let mut names = Names::new(run.alloc);
-    let mut labels = Labels::new(run.alloc);
+    let count = end - first;
+    let mut labels = Labels::with_capacity(run.alloc, count, count.saturating_mul(LABEL_ROOM))?;
     let mut room = MarkRoom::new(run.alloc);
     let mut at = first;
     'files: while at < end {

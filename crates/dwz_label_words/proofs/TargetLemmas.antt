@@ -1,5 +1,5 @@
 -- What is told of an entry that is named.
-use Rattle.std.proofs.Common.{◌≡◌, ℕ, suc, [], ◌∷◌, length, map, Some, None, refl}
+use Rattle.std.proofs.Common.{◌≡◌, ℕ, suc, List, [], ◌∷◌, length, map, Some, None, refl, ap, ◌∙◌}
 use Rattle.dwz_def_tops.specs.Spots.{EntryName, Import, InChain, InType, PartialOf, PartialRoot, RootOf, SpaceAt, UnitOf, Within}
 use Rattle.dwz_graph.specs.Names.{path_in, top_in}
 use Rattle.dwz_label_marks.specs.Marks.{Plainly, target_marks}
@@ -25,3 +25,7 @@ some_path (PartialOf m) n e = absurd cc
 some_path (PartialRoot m) n e = absurd cc
 some_path (InChain part chain depth) n e = absurd cc
 some_path (Import unit part) n e = absurd cc
+
+-- an entry that is a top itself has an empty path
+pub top_marks : (s : EntryName) (top : ℕ) → top_in s ≡ Some top → path_in s ≡ [] → target_marks s ≡ Plainly 1 ∷ []
+top_marks s top e none = some_path s top e ∙ ap (λ (path : List ℕ). Plainly (suc (length path)) ∷ map Plainly path) none

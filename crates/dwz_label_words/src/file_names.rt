@@ -93,7 +93,7 @@ impl<'s, 'a> FileNames<'s, 'a> {
     {
         let texts = room_for(strs.len() / 8, TEXTS);
         let paths = room_for(tables.len().saturating_mul(64), PATHS);
-        let shapes = room_for(declarations.len().saturating_mul(2), SHAPES);
+        let shapes = room_for(declarations.len(), SHAPES);
         Ok(FileNames {
             strs,
             tables,

@@ -54,6 +54,12 @@ pub(crate) fn put_target(
 {
     match index.top_of(entry) {
         None => put_plainly(out, 0),
-        Some(_) => put_way(out, index, entry, path),
+        Some(_) => {
+            if index.is_outermost(entry) {
+                put_plainly(out, 1)
+            } else {
+                put_way(out, index, entry, path)
+            }
+        }
     }
 }

@@ -8,8 +8,8 @@ use Rattle.dwz_label_files.proofs.stretch.stretch_of.Goals as goal
 pub files-init : goal.files-init
 files-init c = record {
   to = omega (arith, c.requires.within.0);
-  len = (let none = ap (λ (w : List (List ℕ)). length w) c.new-labels.ensures in omega arith);
-  told = λ flags. from_none (units_of (docs_of c.args.run.now.graph.now.given)) c.new-names.result c.args.first c.new-labels.result c.new-labels.ensures;
+  len = (let none = ap (λ (w : List (List ℕ)). length w) c.in_ok-labels.ensures in omega arith);
+  told = λ flags. from_none (units_of (docs_of c.args.run.now.graph.now.given)) c.new-names.result c.args.first c.in_ok-labels.labels c.in_ok-labels.ensures;
 }
 
 pub file_of-file-requires-clause-there : goal.file_of-file-requires-clause-there

@@ -1,10 +1,11 @@
 -- What is appended of the values of an entry, by the way of each.
 use Rattle.std.proofs.Common.{◌≡◌, ℕ, ◌+◌, ◌-◌, ◌<◌, ◌≤◌, List, [], ◌∷◌, ◌++◌, get_or, length, slice_index, Some, None, Result, Ok, Err, refl, sym, ap, subst, ◌∙◌, append_assoc, append-nil}
-use Rattle.std.specs.Prelude.{OnOk}
+use Rattle.std.specs.Prelude.{IfOk, OnOk}
 use Rattle.dwz_bytes.specs.Input.{Input}
 use Rattle.dwz_bytes.specs.Spelling.{le_bytes, uleb}
 use Rattle.dwz_def_reading.specs.Entries.{RawAttr}
 use Rattle.dwz_def_reading.specs.Values.{Raw, value_at, value_bytes, written_rows}
+use Rattle.dwz_model.specs.declared.fault.Fault.{Fault}
 use Rattle.dwz_model.specs.declared.place.Pair.{Pair}
 use Rattle.dwz_def_reading.specs.declared.exprs.Operand.{Operand}
 use Rattle.dwz_def_reading.specs.Documents.{Part}
@@ -24,7 +25,7 @@ use Rattle.dwz_layout.specs.Attributes.{operand_numbers, out_attr, out_by, parts
 use Rattle.dwz_layout.specs.Known.{HasValues, firsts_of, owner_of, row_at}
 use Rattle.dwz_layout.specs.Stored.{values_bytes}
 use Rattle.dwz_layout.specs.Ways.{rewrite_of}
-use Rattle.dwz_layout.proofs.LeftLemmas.{LeftOf, left_end, left_next, left_start, no_attrs, no_values, one_value, values_more}
+use Rattle.dwz_layout.proofs.LeftLemmas.{LeftOf, left_end, left_next, left_start, left_value, no_attrs, no_values, one_value, values_more}
 use Rattle.dwz_layout.proofs.NumberLemmas.{line_bytes, number_bytes, ref_bytes, text_bytes}
 use Rattle.dwz_layout.proofs.PartLemmas.{expr_len}
 use Rattle.dwz_layout.proofs.SizeLemmas.{expr_bytes_are}
@@ -127,20 +128,29 @@ module _ (n : Numbers) (k : EntryTable) (here : WritingContext) (r : Row) (pairs
   pub so_far_none : (at : Input) → HasValues k r pairs at → PutSoFar n k here r pairs 0 at (firsts_of k r) old old
   so_far_none at has = record { done = []; left = left_start k here r pairs at has; put = put_none n old }
 
-  pub so_far_more : (j : ℕ) (d : Pair) (at place : Input) (next : ValueCounts) (out : List ℕ) → PutSoFar n k here r pairs j at next old out → j < length pairs → (raw : Raw)
-      → value_at written_rows (get_or pairs j d) at ≡ Ok (raw, place)
-      → (new : ValueCounts) (more : List ℕ) (end : ℕ) → end ≡ place.at → new ≡ after here next (value_read end (get_or pairs j d) raw)
-      → Put n out more (out_attr k r.file here next (value_read end (get_or pairs j d) raw)) → PutSoFar n k here r pairs (j + 1) place new old more
-  so_far_more j d at place next out m lt raw value new more end same step put =
-      let a = value_read place.at (get_or pairs j d) raw in
-      let attrs = out_attr k r.file here next a in
-      let behind : new ≡ after here next a = step ∙ ap (λ (e : ℕ). after here next (value_read e (get_or pairs j d) raw)) same in
-      let added : Put n out more attrs = put ∙ ap (λ (e : ℕ). out ++ values_bytes (stored_all n (out_attr k r.file here next (value_read e (get_or pairs j d) raw)))) same in
+  -- what the value that is read at a place added, behind which is another one
+  abbrev pub PutNext : Result (Raw × Input) Fault → Pair → Input → ValueCounts → List ℕ → ValueCounts → List ℕ → Type 0
+  PutNext read pair place next out new more =
+      (IfOk read (λ x. place ≡ x.1))
+      × (IfOk read (λ x. new ≡ after here next (value_read x.1.at pair x.0)))
+      × (IfOk read (λ x. Put n out more (out_attr k r.file here next (value_read x.1.at pair x.0))))
+
+  pub so_far_more : (j : ℕ) (d : Pair) (at place : Input) (next : ValueCounts) (out : List ℕ) → PutSoFar n k here r pairs j at next old out → j < length pairs
+      → (new : ValueCounts) (more : List ℕ) → PutNext (value_at written_rows (get_or pairs j d) at) (get_or pairs j d) place next out new more
+      → PutSoFar n k here r pairs (j + 1) place new old more
+  so_far_more j d at place next out m lt new more put =
+      let pair = get_or pairs j d in
+      let v = left_value k here r pairs j d at next m.done m.left lt in
+      let attrs = out_attr k r.file here next (value_read v.place.at pair v.raw) in
+      let x = subst (λ (read : Result (Raw × Input) Fault). PutNext read pair place next out new more) v.value put in
+      let left = left_next k here r pairs j d at next m.done m.left lt v.place v.raw v.value in
       record {
         done = m.done ++ attrs;
-        left = subst (λ (f : ValueCounts). LeftOf k here r pairs (j + 1) place f (m.done ++ attrs)) (sym behind) (left_next k here r pairs j d at next m.done m.left lt place raw value);
+        left =
+            subst (λ (i : Input). LeftOf k here r pairs (j + 1) i new (m.done ++ attrs)) (sym x.0)
+            (subst (λ (f : ValueCounts). LeftOf k here r pairs (j + 1) v.place f (m.done ++ attrs)) (sym x.1) left);
         put =
-            added
+            x.2
             ∙ ap (λ (w : List ℕ). w ++ values_bytes (stored_all n attrs)) m.put
             ∙ append_assoc old (values_bytes (stored_all n m.done)) (values_bytes (stored_all n attrs))
             ∙ ap (λ (w : List ℕ). old ++ w) (sym (values_more n m.done attrs));

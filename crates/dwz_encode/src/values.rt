@@ -1,8 +1,8 @@
 //! What the attributes of an entry store.
 
-ghost use Rattle.std.specs.Prelude.{◌≡◌, ◌-◌, ◌++◌, ◌∷◌, [], ℕ, OnOk, length};
+ghost use Rattle.std.specs.Prelude.{◌≡◌, ◌-◌, ◌++◌, ◌∷◌, [], ℕ, IfOk, IsOk, OnOk, length};
 ghost use Rattle.dwz_bytes.specs.Spelling.{le_bytes, uleb};
-ghost use Rattle.dwz_def_reading.specs.Values.{HasSpelling, value_bytes};
+ghost use Rattle.dwz_def_reading.specs.Values.{HasSpelling, value_at, value_bytes, written_rows};
 ghost use Rattle.dwz_def_reading.specs.Exprs.{parts_from};
 ghost use Rattle.dwz_def_reading.specs.Patching.{filled};
 ghost use Rattle.dwz_forms.specs.RawValues.{raw_view};
@@ -18,8 +18,11 @@ ghost use Rattle.dwz_encode.specs.Views.{numbers_view};
 
 use crate::numbers::{Numbers, number_by_form, put_four};
 use crate::parts::put_parts;
-use dwz_bytes::put_uleb;
-use dwz_codes::DW_AT_NAME;
+use dwz_bytes::{Cursor, put_uleb};
+use dwz_codes::{
+    DW_AT_NAME, DW_FORM_ADDR, DW_FORM_DATA1, DW_FORM_DATA2, DW_FORM_EXPRLOC, DW_FORM_FLAG_PRESENT,
+    DW_FORM_IMPLICIT_CONST, DW_FORM_REF4, DW_FORM_SEC_OFFSET, DW_FORM_STRP,
+};
 use dwz_def_reading::Operand;
 use dwz_forms::{Raw, write_value};
 use dwz_layout::{
@@ -143,6 +146,71 @@ fn put_value(
     }
 }
 
+// Appends what is written of the next value, which is passed over.
+#[inline(always)]
+fn put_next(
+    out: &mut Vec<u8>,
+    room: &mut Vec<Operand>,
+    known: &EntryTable,
+    file: u32,
+    here: WritingContext,
+    numbers: Numbers,
+    next: &mut ValueCounts,
+    pair: &Pair,
+    cursor: &mut Cursor,
+) -> Result<(), NoMemory>
+    requires { IsOk (value_at written_rows pair.now cursor.old) }
+    ensures read { IfOk (value_at written_rows pair.now cursor.old) (λ x. OnOk result (cursor.new ≡ x.1)) }
+    ensures bytes { IfOk (value_at written_rows pair.now cursor.old) (λ x. OnOk result (out.new.items ≡ out.old.items
+        ++ values_bytes (stored_all (numbers_view numbers.entry)
+        (out_attr known.now file (here_view here) next.old (value_read x.1.at pair.now x.0))))) }
+    ensures next { IfOk (value_at written_rows pair.now cursor.old) (λ x. OnOk result
+        (next.new ≡ after (here_view here) next.old (value_read x.1.at pair.now x.0))) }
+{
+    let raw = known_value(cursor, pair);
+    let end = cursor.at() as u64;
+    put_value(out, room, known, file, here, numbers, next, pair, &raw, end)
+}
+
+// The same, where each form that most values have is a case of its own: so how it is read and written is decided once.
+#[inline(always)]
+fn put_by_form(
+    out: &mut Vec<u8>,
+    room: &mut Vec<Operand>,
+    known: &EntryTable,
+    file: u32,
+    here: WritingContext,
+    numbers: Numbers,
+    next: &mut ValueCounts,
+    pair: &Pair,
+    cursor: &mut Cursor,
+) -> Result<(), NoMemory>
+    requires { IsOk (value_at written_rows pair.now cursor.old) }
+    ensures read { IfOk (value_at written_rows pair.now cursor.old) (λ x. OnOk result (cursor.new ≡ x.1)) }
+    ensures bytes { IfOk (value_at written_rows pair.now cursor.old) (λ x. OnOk result (out.new.items ≡ out.old.items
+        ++ values_bytes (stored_all (numbers_view numbers.entry)
+        (out_attr known.now file (here_view here) next.old (value_read x.1.at pair.now x.0))))) }
+    ensures next { IfOk (value_at written_rows pair.now cursor.old) (λ x. OnOk result
+        (next.new ≡ after (here_view here) next.old (value_read x.1.at pair.now x.0))) }
+{
+    match pair.form {
+        DW_FORM_STRP => put_next(out, room, known, file, here, numbers, next, pair, cursor),
+        DW_FORM_REF4 => put_next(out, room, known, file, here, numbers, next, pair, cursor),
+        DW_FORM_DATA1 => put_next(out, room, known, file, here, numbers, next, pair, cursor),
+        DW_FORM_DATA2 => put_next(out, room, known, file, here, numbers, next, pair, cursor),
+        DW_FORM_IMPLICIT_CONST => {
+            put_next(out, room, known, file, here, numbers, next, pair, cursor)
+        }
+        DW_FORM_FLAG_PRESENT => {
+            put_next(out, room, known, file, here, numbers, next, pair, cursor)
+        }
+        DW_FORM_SEC_OFFSET => put_next(out, room, known, file, here, numbers, next, pair, cursor),
+        DW_FORM_EXPRLOC => put_next(out, room, known, file, here, numbers, next, pair, cursor),
+        DW_FORM_ADDR => put_next(out, room, known, file, here, numbers, next, pair, cursor),
+        _ => put_next(out, room, known, file, here, numbers, next, pair, cursor),
+    }
+}
+
 // Appends the values of an entry that was read.
 fn put_row(
     out: &mut Vec<u8>,
@@ -160,10 +228,16 @@ fn put_row(
     };
     let mut next = known.firsts(row);
     for pair in pairs {
-        let raw = known_value(&mut cursor, pair);
-        let end = cursor.at() as u64;
-        put_value(
-            out, room, known, row.file, here, numbers, &mut next, pair, &raw, end,
+        put_by_form(
+            out,
+            room,
+            known,
+            row.file,
+            here,
+            numbers,
+            &mut next,
+            pair,
+            &mut cursor,
         )?;
     }
     Ok(())

@@ -1,6 +1,6 @@
 -- A loop over the values of an entry: what is done and what is left are all its attributes.
-use Rattle.std.proofs.Common.{◌≡◌, ℕ, ◌+◌, ◌<◌, ◌≤◌, List, [], ◌∷◌, ◌++◌, drop, get_or, length, Option, Some, None, slice_get, Ok, refl, sym, ap, subst, ◌∙◌, append_assoc, append-nil, arith}
-use Rattle.std.specs.Prelude.{IsOk}
+use Rattle.std.proofs.Common.{◌≡◌, ℕ, ◌+◌, ◌<◌, ◌≤◌, List, [], ◌∷◌, ◌++◌, drop, get_or, length, Option, Some, None, slice_get, Result, Ok, refl, sym, ap, subst, ◌∙◌, append_assoc, append-nil, arith}
+use Rattle.std.specs.Prelude.{IfOk, IsOk}
 use Rattle.std.specs.Option.{option_map_or}
 use Rattle.std.proofs.lemmas.List.{drop_all, length-append, map-append}
 use Rattle.dwz_def_reading.specs.Input.{Input}
@@ -8,10 +8,11 @@ use Rattle.dwz_def_reading.specs.Entries.{RawAttr}
 use Rattle.dwz_def_reading.specs.Values.{Raw, value_at, value_bytes, written_rows}
 use Rattle.dwz_def_reading.proofs.PartLemmas.{same_input, same_value}
 use Rattle.dwz_def_reading.proofs.ListFacts.{drop_here}
+use Rattle.dwz_model.specs.declared.fault.Fault.{Fault}
 use Rattle.dwz_model.specs.declared.place.Pair.{Pair}
 use Rattle.dwz_unit.specs.Rows.{EntryRow}
 use Rattle.dwz_unit.specs.Values.{Reads}
-use Rattle.dwz_unit.proofs.ReadsLemmas.{reads_count, reads_next}
+use Rattle.dwz_unit.proofs.ReadsLemmas.{Next, reads_count, reads_next}
 use Rattle.dwz_layout.specs.declared.known.ValueCounts.{ValueCounts}
 use Rattle.dwz_layout.specs.declared.known.EntryTable.{EntryTable}
 use Rattle.dwz_layout.specs.declared.known.Row.{Row}
@@ -47,6 +48,12 @@ pub one_value : (x : StoredAttr) → values_bytes (x ∷ []) ≡ value_bytes x.p
 unfolding values_bytes
 one_value x = append-nil (value_bytes x.pair.form x.raw)
 
+-- ---- values that are read
+
+-- what holds of a value that ends there holds of the one that is read
+pub if_read : (r : Result (Raw × Input) Fault) (raw : Raw) (place : Input) (end : ℕ) → r ≡ Ok (raw, place) → end ≡ place.at → (P : ℕ → Raw → Type 0) → P end raw → IfOk r (λ x. P x.1.at x.0)
+if_read r raw place end read same P p = subst (λ (q : Result (Raw × Input) Fault). IfOk q (λ x. P x.1.at x.0)) (sym read) (subst (λ (e : ℕ). P e raw) same p)
+
 -- ---- what is left of an entry
 
 pub record LeftOf (k : EntryTable) (here : WritingContext) (r : Row) (pairs : List Pair) (j : ℕ) (at : Input) (next : ValueCounts) (done : List OutAttr) : Type 0 where
@@ -67,10 +74,11 @@ module _ (k : EntryTable) (here : WritingContext) (r : Row) (pairs : List Pair) 
   }
 
   module _ (j : ℕ) (d : Pair) (at : Input) (next : ValueCounts) (done : List OutAttr) (left : LeftOf k here r pairs j at next done) (lt : j < length pairs) where
+    pub left_value : Next left.entry.entry.at pairs j (get_or pairs j d) at left.entry.entry.attrs
+    left_value = reads_next left.entry.entry.at pairs j d at left.entry.entry.attrs lt left.reads
+
     pub left_readable : IsOk (value_at written_rows (get_or pairs j d) at)
-    left_readable =
-        let x = reads_next left.entry.entry.at pairs j d at left.entry.entry.attrs lt left.reads in
-        subst IsOk (sym x.value) refl
+    left_readable = subst IsOk (sym left_value.value) refl
 
     pub left_next : (place : Input) (raw : Raw) → value_at written_rows (get_or pairs j d) at ≡ Ok (raw, place)
         → LeftOf k here r pairs (j + 1) place (after here next (value_read place.at (get_or pairs j d) raw)) (done ++ out_attr k r.file here next (value_read place.at (get_or pairs j d) raw))
@@ -78,7 +86,7 @@ module _ (k : EntryTable) (here : WritingContext) (r : Row) (pairs : List Pair) 
     left_next place raw value =
         let pair = get_or pairs j d in
         let attrs = left.entry.entry.attrs in
-        let x = reads_next left.entry.entry.at pairs j d at attrs lt left.reads in
+        let x = left_value in
         let same_raw = same_value x.raw raw x.place place (value_at written_rows pair at) x.value value in
         let same_place = same_input x.raw raw x.place place (value_at written_rows pair at) x.value value in
         let a : RawAttr = record { at = at.at; end = place.at; pair = pair; raw = raw } in

@@ -8,6 +8,7 @@ use Rattle.dwz_def_reading.specs.Entries.{RawAttr}
 use Rattle.dwz_def_reading.specs.Input.{Input}
 use Rattle.dwz_def_reading.specs.Abbrevs.{IsPlainPair}
 use Rattle.dwz_def_reading.specs.Values.{Bytes, Number, Raw, value_at, value_bytes, written_rows}
+use Rattle.dwz_model.specs.declared.fault.Fault.{Fault}
 use Rattle.dwz_model.specs.declared.place.Pair.{Pair}
 use Rattle.dwz_def_reading.specs.declared.exprs.Operand.{Operand}
 use Rattle.dwz_def_reading.specs.Exprs.{any_operands, expr_at, parts_from}
@@ -27,7 +28,7 @@ use Rattle.dwz_layout.specs.Attributes.{no_numbers, operand_count, operand_numbe
 use Rattle.dwz_layout.specs.Known.{HasValues, firsts_of, row_at}
 use Rattle.dwz_layout.specs.Stored.{pairs_of, values_bytes}
 use Rattle.dwz_layout.specs.Ways.{rewrite_of}
-use Rattle.dwz_layout.proofs.LeftLemmas.{LeftOf, left_end, left_next, left_start, length_more, no_attrs, no_values, one_value, pairs_more}
+use Rattle.dwz_layout.proofs.LeftLemmas.{LeftOf, left_end, left_next, left_start, left_value, length_more, no_attrs, no_values, one_value, pairs_more}
 use Rattle.dwz_layout.proofs.NumberLemmas.{line_len, number_bytes, ref_len, text_len}
 use Rattle.dwz_layout.proofs.PartLemmas.{count_from, expr_len}
 use Rattle.dwz_layout.proofs.PlainLemmas.{plain_none}
@@ -122,26 +123,32 @@ module _ (k : EntryTable) (here : WritingContext) (r : Row) (pairs : List Pair) 
   pub measured_none : (at : Input) (room : List Pair) → HasValues k r pairs at → room ≡ [] → Measured k here r pairs 0 at (firsts_of k r) room 0
   measured_none at room has none = record { done = []; left = left_start k here r pairs at has; names = none; sized = none_sized no_numbers; plain = plain_none room none }
 
-  -- what a value added, which ends at a place
-  abbrev pub Added : ValueCounts → List Pair → Pair → Raw → ValueCounts → List Pair → ℕ → ℕ → Type 0
-  Added next room pair raw new names one end =
-      (new ≡ after here next (value_read end pair raw))
-      × (names ≡ room ++ pairs_of (stored_all no_numbers (out_attr k r.file here next (value_read end pair raw))))
-      × (one ≡ length (values_bytes (stored_all no_numbers (out_attr k r.file here next (value_read end pair raw)))))
+  -- what the value that is read at a place added, behind which is another one
+  abbrev pub Added : Result (Raw × Input) Fault → Pair → Input → ValueCounts → List Pair → ValueCounts → List Pair → ℕ → Type 0
+  Added read pair place next room new names one =
+      (IfOk read (λ x. place ≡ x.1))
+      × (IfOk read (λ x. new ≡ after here next (value_read x.1.at pair x.0)))
+      × (IfOk read (λ x. names ≡ room ++ pairs_of (stored_all no_numbers (out_attr k r.file here next (value_read x.1.at pair x.0)))))
+      × (IfOk read (λ x. one ≡ length (values_bytes (stored_all no_numbers (out_attr k r.file here next (value_read x.1.at pair x.0))))))
 
-  pub measured_more : (j : ℕ) (d : Pair) (at place : Input) (next : ValueCounts) (room : List Pair) (size : ℕ) → Measured k here r pairs j at next room size → j < length pairs → (raw : Raw)
-      → value_at written_rows (get_or pairs j d) at ≡ Ok (raw, place)
-      → (new : ValueCounts) (names : List Pair) (one sum end : ℕ) → Added next room (get_or pairs j d) raw new names one end → end ≡ place.at → sum ≡ size + one → All IsPlainPair names
-      → Measured k here r pairs (j + 1) place new names sum
-  measured_more j d at place next room size m lt raw value new names one sum end added same add plain =
-      let a = value_read place.at (get_or pairs j d) raw in
+  pub measured_more : (j : ℕ) (d : Pair) (at place : Input) (next : ValueCounts) (room : List Pair) (size : ℕ) → Measured k here r pairs j at next room size → j < length pairs
+      → (new : ValueCounts) (names : List Pair) (one sum : ℕ) → Added (value_at written_rows (get_or pairs j d) at) (get_or pairs j d) place next room new names one → sum ≡ size + one
+      → All IsPlainPair names → Measured k here r pairs (j + 1) place new names sum
+  measured_more j d at place next room size m lt new names one sum added add plain =
+      let pair = get_or pairs j d in
+      let v = left_value k here r pairs j d at next m.done m.left lt in
+      let a = value_read v.place.at pair v.raw in
       let attrs = out_attr k r.file here next a in
-      let x = subst (Added next room (get_or pairs j d) raw new names one) same added in
-      let sized = x.2 in
+      let x = subst (λ (read : Result (Raw × Input) Fault). Added read pair place next room new names one) v.value added in
+      let left = left_next k here r pairs j d at next m.done m.left lt v.place v.raw v.value in
+      let named = x.2 in
+      let sized = x.3 in
       record {
         done = m.done ++ attrs;
-        left = subst (λ (f : ValueCounts). LeftOf k here r pairs (j + 1) place f (m.done ++ attrs)) (sym x.0) (left_next k here r pairs j d at next m.done m.left lt place raw value);
-        names = x.1 ∙ ap (λ (w : List Pair). w ++ pairs_of (stored_all no_numbers attrs)) m.names ∙ sym (pairs_more no_numbers m.done attrs);
+        left =
+            subst (λ (i : Input). LeftOf k here r pairs (j + 1) i new (m.done ++ attrs)) (sym x.0)
+            (subst (λ (f : ValueCounts). LeftOf k here r pairs (j + 1) v.place f (m.done ++ attrs)) (sym x.1) left);
+        names = named ∙ ap (λ (w : List Pair). w ++ pairs_of (stored_all no_numbers attrs)) m.names ∙ sym (pairs_more no_numbers m.done attrs);
         sized = omega (arith, add, sized, m.sized, length_more no_numbers m.done attrs);
         plain = plain;
       }

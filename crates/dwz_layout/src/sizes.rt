@@ -1,9 +1,9 @@
 //! How many bytes entries have, and their names and forms.
 
-ghost use Rattle.std.specs.Prelude.{◌≡◌, ◌+◌, ◌<◌, ◌++◌, ◌∷◌, [], ℕ, All, IfOk, OnOk, length};
+ghost use Rattle.std.specs.Prelude.{◌≡◌, ◌+◌, ◌<◌, ◌++◌, ◌∷◌, [], ℕ, All, IfOk, IsOk, OnOk, length};
 ghost use Rattle.dwz_def_reading.specs.Spelling.{uleb};
 ghost use Rattle.dwz_def_reading.specs.Abbrevs.{IsPlainPair};
-ghost use Rattle.dwz_def_reading.specs.Values.{HasSpelling};
+ghost use Rattle.dwz_def_reading.specs.Values.{HasSpelling, value_at, written_rows};
 ghost use Rattle.dwz_forms.specs.RawValues.{raw_view};
 ghost use Rattle.dwz_def_reading.specs.Meanings.{bytes_of};
 ghost use Rattle.dwz_layout.specs.declared.walk.Origin.TheVariants.{Read};
@@ -20,8 +20,11 @@ use crate::pairs::{entry_pair, expr_pair, file_pair, import_pair, line_pair, tex
 use crate::recent::Recent;
 use crate::walk::Origin;
 use crate::ways::{Rewrite, UnitRole, WritingContext, way_of};
+use dwz_bytes::Cursor;
 use dwz_codes::{
-    DW_AT_NAME, DW_FORM_UDATA, DW_TAG_IMPORTED_UNIT, DW_TAG_NAMESPACE, DW_TAG_PARTIAL_UNIT,
+    DW_AT_NAME, DW_FORM_ADDR, DW_FORM_DATA1, DW_FORM_DATA2, DW_FORM_EXPRLOC, DW_FORM_FLAG_PRESENT,
+    DW_FORM_IMPLICIT_CONST, DW_FORM_REF4, DW_FORM_SEC_OFFSET, DW_FORM_STRP, DW_FORM_UDATA,
+    DW_TAG_IMPORTED_UNIT, DW_TAG_NAMESPACE, DW_TAG_PARTIAL_UNIT,
 };
 use dwz_def_reading::Operand;
 use dwz_forms::{Raw, size_of_value};
@@ -159,6 +162,71 @@ fn measure_value(
     }
 }
 
+// The same of the next value, which is passed over.
+#[inline(always)]
+fn measure_next(
+    room: &mut Scratch,
+    known: &EntryTable,
+    file: u32,
+    here: WritingContext,
+    next: &mut ValueCounts,
+    pair: &Pair,
+    cursor: &mut Cursor,
+) -> Result<u64, NoMemory>
+    requires read { IsOk (value_at written_rows pair.now cursor.old) }
+    requires plain { IsPlainPair pair.now }
+    requires room { All IsPlainPair room.old.pairs.items }
+    ensures read { IfOk (value_at written_rows pair.now cursor.old) (λ x. OnOk result (cursor.new ≡ x.1)) }
+    ensures pairs { IfOk (value_at written_rows pair.now cursor.old) (λ x. OnOk result (room.new.pairs.items ≡ room.old.pairs.items
+        ++ pairs_of (stored_all no_numbers (out_attr known.now file (here_view here) next.old (value_read x.1.at pair.now x.0))))) }
+    ensures size { IfOk (value_at written_rows pair.now cursor.old) (λ x. IfOk result (λ size. size ≡ length
+        (values_bytes (stored_all no_numbers (out_attr known.now file (here_view here) next.old (value_read x.1.at pair.now x.0)))))) }
+    ensures next { IfOk (value_at written_rows pair.now cursor.old) (λ x. OnOk result
+        (next.new ≡ after (here_view here) next.old (value_read x.1.at pair.now x.0))) }
+    ensures plain { OnOk result (All IsPlainPair room.new.pairs.items) }
+{
+    let raw = known_value(cursor, pair);
+    let end = cursor.at() as u64;
+    measure_value(room, known, file, here, next, pair, &raw, end)
+}
+
+// The same, where each form that most values have is a case of its own: so how it is read and written is decided once.
+#[inline(always)]
+fn measure_by_form(
+    room: &mut Scratch,
+    known: &EntryTable,
+    file: u32,
+    here: WritingContext,
+    next: &mut ValueCounts,
+    pair: &Pair,
+    cursor: &mut Cursor,
+) -> Result<u64, NoMemory>
+    requires read { IsOk (value_at written_rows pair.now cursor.old) }
+    requires plain { IsPlainPair pair.now }
+    requires room { All IsPlainPair room.old.pairs.items }
+    ensures read { IfOk (value_at written_rows pair.now cursor.old) (λ x. OnOk result (cursor.new ≡ x.1)) }
+    ensures pairs { IfOk (value_at written_rows pair.now cursor.old) (λ x. OnOk result (room.new.pairs.items ≡ room.old.pairs.items
+        ++ pairs_of (stored_all no_numbers (out_attr known.now file (here_view here) next.old (value_read x.1.at pair.now x.0))))) }
+    ensures size { IfOk (value_at written_rows pair.now cursor.old) (λ x. IfOk result (λ size. size ≡ length
+        (values_bytes (stored_all no_numbers (out_attr known.now file (here_view here) next.old (value_read x.1.at pair.now x.0)))))) }
+    ensures next { IfOk (value_at written_rows pair.now cursor.old) (λ x. OnOk result
+        (next.new ≡ after (here_view here) next.old (value_read x.1.at pair.now x.0))) }
+    ensures plain { OnOk result (All IsPlainPair room.new.pairs.items) }
+{
+    match pair.form {
+        DW_FORM_STRP => measure_next(room, known, file, here, next, pair, cursor),
+        DW_FORM_REF4 => measure_next(room, known, file, here, next, pair, cursor),
+        DW_FORM_DATA1 => measure_next(room, known, file, here, next, pair, cursor),
+        DW_FORM_DATA2 => measure_next(room, known, file, here, next, pair, cursor),
+        DW_FORM_IMPLICIT_CONST => measure_next(room, known, file, here, next, pair, cursor),
+        DW_FORM_FLAG_PRESENT => measure_next(room, known, file, here, next, pair, cursor),
+        DW_FORM_SEC_OFFSET => measure_next(room, known, file, here, next, pair, cursor),
+        DW_FORM_EXPRLOC => measure_next(room, known, file, here, next, pair, cursor),
+        DW_FORM_ADDR => measure_next(room, known, file, here, next, pair, cursor),
+        _ => measure_next(room, known, file, here, next, pair, cursor),
+    }
+}
+
 // Puts the names and forms of what is written of an entry that was read into the room. The answer is how many bytes its values have.
 fn measure_row(
     room: &mut Scratch,
@@ -178,9 +246,7 @@ fn measure_row(
     let mut next = known.firsts(row);
     let mut size = 0;
     for pair in pairs {
-        let raw = known_value(&mut cursor, pair);
-        let end = cursor.at() as u64;
-        let one = measure_value(room, known, row.file, here, &mut next, pair, &raw, end)?;
+        let one = measure_by_form(room, known, row.file, here, &mut next, pair, &mut cursor)?;
         size = more(size, one)?;
     }
     Ok(size)

@@ -1,5 +1,4 @@
 use Rattle.std.proofs.Common.{[], pos, subst, sym}
-use Rattle.dwz_forms.specs.RawValues.{raw_view}
 use Rattle.dwz_model.specs.declared.place.Pair.{Pair}
 use Rattle.dwz_layout.specs.declared.known.ValueCounts.{ValueCounts}
 use Rattle.dwz_layout.specs.Attributes.{here_view}
@@ -24,17 +23,17 @@ loop-pair-init c =
     subst (λ (f : ValueCounts). PutSoFar n k here c.args.row pairs 0 c.in-Some.field-0.cursor f old old) (sym c.firsts-next.ensures)
     (so_far_none n k here c.args.row pairs old c.in-Some.field-0.cursor c.in-Some.ensures.values)
 
-pub known_value-raw-requires : goal.known_value-raw-requires
-known_value-raw-requires c =
+pub put_by_form-requires : goal.put_by_form-requires
+put_by_form-requires c =
     let m = c.loop-pair.invariant in
     left_readable c.args.known.now (here_view c.args.here) c.args.row c.in-Some.field-0.pairs.now c.loop-pair.pair-index no_pair c.loop-pair.cursor c.loop-pair.next m.done m.left c.loop-pair-test.true
 
 pub loop-pair-preserved : goal.loop-pair-preserved
 loop-pair-preserved c =
+    let x = c.in_ok-put_by_form.ensures in
     so_far_more (numbers_view c.args.numbers) c.args.known.now (here_view c.args.here) c.args.row c.in-Some.field-0.pairs.now c.args.out.now.items c.loop-pair.pair-index no_pair c.loop-pair.cursor
-    c.known_value-raw.new.cursor c.loop-pair.next c.loop-pair.out.items
-    c.loop-pair.invariant c.loop-pair-test.true (raw_view c.known_value-raw.result) c.known_value-raw.ensures.value c.put_value.new.next c.put_value.new.out.items c.at-end.result c.at-end.ensures
-    c.in_ok-put_value.ensures.next c.in_ok-put_value.ensures.bytes
+    c.put_by_form.new.cursor c.loop-pair.next c.loop-pair.out.items
+    c.loop-pair.invariant c.loop-pair-test.true c.put_by_form.new.next c.put_by_form.new.out.items (x.read, x.next, x.bytes)
 
 pub returns : goal.returns
 returns c =

@@ -1,5 +1,4 @@
 use Rattle.std.proofs.Common.{[], pos, subst, sym}
-use Rattle.dwz_forms.specs.RawValues.{raw_view}
 use Rattle.dwz_model.specs.declared.place.Pair.{Pair}
 use Rattle.dwz_layout.specs.declared.known.ValueCounts.{ValueCounts}
 use Rattle.dwz_layout.specs.Attributes.{here_view}
@@ -28,24 +27,24 @@ loop-pair-init c =
     subst (λ (f : ValueCounts). Measured k here c.args.row pairs 0 c.in-Some.field-0.cursor f c.args.room.now.pairs.items 0) (sym c.firsts-next.ensures)
     (measured_none k here c.args.row pairs c.in-Some.field-0.cursor c.args.room.now.pairs.items c.in-Some.ensures.values c.requires)
 
-pub known_value-raw-requires : goal.known_value-raw-requires
-known_value-raw-requires c =
+pub measure_by_form-requires-clause-read : goal.measure_by_form-requires-clause-read
+measure_by_form-requires-clause-read c =
     let m = c.loop-pair.invariant in
     left_readable c.args.known.now (here_view c.args.here) c.args.row c.in-Some.field-0.pairs.now c.loop-pair.pair-index no_pair c.loop-pair.cursor c.loop-pair.next m.done m.left c.loop-pair-test.true
 
-pub measure_value-requires-clause-plain : goal.measure_value-requires-clause-plain
-measure_value-requires-clause-plain c = c.in-Some.ensures.plain c.loop-pair.pair-index no_pair c.loop-pair-test.true
+pub measure_by_form-requires-clause-plain : goal.measure_by_form-requires-clause-plain
+measure_by_form-requires-clause-plain c = c.in-Some.ensures.plain c.loop-pair.pair-index no_pair c.loop-pair-test.true
 
-pub measure_value-requires-clause-room : goal.measure_value-requires-clause-room
-measure_value-requires-clause-room c = c.loop-pair.invariant.plain
+pub measure_by_form-requires-clause-room : goal.measure_by_form-requires-clause-room
+measure_by_form-requires-clause-room c = c.loop-pair.invariant.plain
 
 pub loop-pair-preserved : goal.loop-pair-preserved
 loop-pair-preserved c =
-    measured_more c.args.known.now (here_view c.args.here) c.args.row c.in-Some.field-0.pairs.now c.loop-pair.pair-index no_pair c.loop-pair.cursor c.known_value-raw.new.cursor c.loop-pair.next
+    let x = c.in_ok-one.ensures in
+    measured_more c.args.known.now (here_view c.args.here) c.args.row c.in-Some.field-0.pairs.now c.loop-pair.pair-index no_pair c.loop-pair.cursor c.measure_by_form.new.cursor c.loop-pair.next
     c.loop-pair.room.pairs.items c.loop-pair.size
-    c.loop-pair.invariant c.loop-pair-test.true (raw_view c.known_value-raw.result) c.known_value-raw.ensures.value c.measure_value.new.next c.measure_value.new.room.pairs.items c.in_ok-one.one
-    c.in_ok-size.size c.at-end.result
-    (c.in_ok-one.ensures.next, c.in_ok-one.ensures.pairs, c.in_ok-one.ensures.size) c.at-end.ensures c.in_ok-size.ensures c.in_ok-one.ensures.plain
+    c.loop-pair.invariant c.loop-pair-test.true c.measure_by_form.new.next c.measure_by_form.new.room.pairs.items c.in_ok-one.one c.in_ok-size.size
+    (x.read, x.next, x.pairs, x.size) c.in_ok-size.ensures x.plain
 
 pub returns-clause-pairs : goal.returns-clause-pairs
 returns-clause-pairs c =

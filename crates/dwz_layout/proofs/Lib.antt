@@ -2,6 +2,7 @@ pub mod CodedLemmas
 pub mod KeyLemmas
 pub mod MapLemmas
 pub mod ShapeLemmas
+pub mod SlotLemmas
 pub mod TableLemmas
 pub mod NumberLemmas
 pub mod PlainLemmas

@@ -1,6 +1,7 @@
 pub mod Keys
 pub mod Maps
 pub mod Shapes
+pub mod Slots
 pub mod Tables
 pub mod Stored
 pub mod Known

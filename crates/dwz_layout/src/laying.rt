@@ -67,13 +67,9 @@ impl Laying {
     {
         let values = measure(room, known, here, entry.origin)?;
         let tag = tag_of(known, entry.origin);
-        let code = self.shapes.code_by(
-            alloc,
-            tag,
-            entry.children,
-            &mut room.pairs,
-            &mut room.recent,
-        )?;
+        let code = self
+            .shapes
+            .code_for(alloc, tag, entry.children, &mut room.pairs)?;
         self.codes.push(kept_code(code)?)?;
         note(known, entry.origin, self.at, places);
         let coded = more(uleb_len(code), values)?;
@@ -102,7 +98,17 @@ fn codes_room(alloc: Global, room: &mut Scratch) -> Vec<u32>
     codes
 }
 
-/// Lays the unit with a number, which begins at a place. The codes stand in the room that is lent.
+// The room for shapes, with none in it.
+#[inline(always)]
+fn shapes_room(alloc: Global, room: &mut Scratch) -> Shapes
+    ensures { result ≡ [] }
+{
+    let mut shapes = mem::replace(&mut room.shapes, Shapes::new(alloc));
+    shapes.clear(alloc);
+    shapes
+}
+
+/// Lays the unit with a number, which begins at a place. The codes and the shapes stand in the room that is lent.
 pub(crate) fn lay(
     alloc: Global,
     room: &mut Scratch,
@@ -115,7 +121,7 @@ pub(crate) fn lay(
     ensures { IfOk result (λ laying. laying_of laying places.new ≡ laid_unit known.now here at places.old unit.now) }
 {
     let mut laying = Laying {
-        shapes: Shapes::new(alloc),
+        shapes: shapes_room(alloc, room),
         at: more(at, header_size(unit.sort))?,
         codes: codes_room(alloc, room),
     };

@@ -7,7 +7,7 @@ use crate::Tables;
 use crate::known::EntryTable;
 use crate::laying::{Laying, header_size, lay};
 use crate::order::{FileItems, UnitItems};
-use crate::recent::Recent;
+use crate::shapes::Shapes;
 use crate::sizes::{Scratch, more};
 use crate::standing::{standing_places, standing_roots};
 use dwz_model::{DwzList, NoMemory};
@@ -114,6 +114,7 @@ impl FileLayout {
             codes: DwzList::new(Vec::from_slice(alloc, codes.as_slice())?),
         })?;
         room.codes = codes;
+        room.shapes = shapes;
         spots.roots.push(more(at, header_size(unit.sort))?)?;
         self.end = end;
         Ok(())
@@ -155,7 +156,7 @@ fn lay_files(
         pairs: Vec::new(alloc),
         operands: Vec::new(alloc),
         codes: Vec::new(alloc),
-        recent: Recent::new(alloc)?,
+        shapes: Shapes::with_slots(alloc)?,
     };
     let mut laid = Vec::new(alloc);
     let mut first = behind(0, spots.roots.len())?;

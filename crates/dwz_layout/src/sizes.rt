@@ -17,7 +17,7 @@ ghost use Rattle.dwz_layout.specs.Stored.{pairs_of, values_bytes};
 use crate::exprs::read_operands;
 use crate::known::{EntryTable, Row, SpaceRow, TextAt, ValueCounts};
 use crate::pairs::{entry_pair, expr_pair, file_pair, import_pair, line_pair, text_pair};
-use crate::recent::Recent;
+use crate::shapes::Shapes;
 use crate::walk::Origin;
 use crate::ways::{Rewrite, UnitRole, WritingContext, way_of};
 use dwz_bytes::Cursor;
@@ -35,14 +35,13 @@ use std::alloc::AllocError;
 // How many bytes the number of an entry or the offset of a text has.
 const OFFSET: u64 = 4;
 
-/// Room for the names and forms of an entry, for the operands of an expression, and for the codes of a unit's entries; and where shapes
-/// stood lately.
+/// Room for the names and forms of an entry, for the operands of an expression, and for the codes and the shapes of a unit's entries.
 #[derive(Drop)]
 pub(crate) struct Scratch {
     pub(crate) pairs: Vec<Pair>,
     pub(crate) operands: Vec<Operand>,
     pub(crate) codes: Vec<u32>,
-    pub(crate) recent: Recent,
+    pub(crate) shapes: Shapes,
 }
 
 /// So many bytes more. More than can be counted count as memory that there isn't.

@@ -9,7 +9,7 @@ pub loop-entry-init : goal.loop-entry-init
 loop-entry-init c =
     let at : c.in_ok-more.field-0 ≡ c.args.at + header_size c.args.unit.now.sort = c.in_ok-more.ensures ∙ ap (λ (n : ℕ). c.args.at + n) c.header_size.ensures in
     (λ i. with_entries c.args.known.now (here_of c.args.known.now c.args.here c.args.unit.now.sort) (entries_of (c.new-walk.ensures i))
-    (let l : Laying = record { shapes = c.new.ensures i; at = at i; codes = c.codes_room.ensures i; places = c.args.places.now } in l))
+    (let l : Laying = record { shapes = c.shapes_room.ensures i; at = at i; codes = c.codes_room.ensures i; places = c.args.places.now } in l))
 
 pub loop-entry-smaller : goal.loop-entry-smaller
 loop-entry-smaller c = walk_smaller c.in-Some.entry c.loop-entry.walk c.next.new.self c.in-Some.ensures

@@ -24,6 +24,12 @@ left_next all i start x h lt e = record { room = (let c = left_count all i start
 pub left_room : (all : List Index) (i start : ℕ) (x : Index) → Left all i start → i < length all → x ≡ get_or all i x → entry_count all < 2 ^ 32 → start + length x.steps < 2 ^ 32
 left_room all i start x h lt e few = let c = left_count all i start x h lt e in omega (arith, c, few)
 
+pub left_end : (all : List Index) (i start : ℕ) → Left all i start → length all ≤ i → start ≡ entry_count all
+unfolding entry_count
+left_end all i start h le =
+    let e : entry_count all ≡ start + 0 = h.room ∙ ap (λ (w : List Index). start + entry_count w) (drop_all i all le) in
+    omega (arith, e)
+
 -- ---- the first entries
 
 pub record Starts (all : List Index) (i start : ℕ) (starts : List ℕ) : Type 0 where

@@ -1,5 +1,5 @@
 -- The owner of one entry, and those of entries one after the other.
-use Rattle.std.proofs.Common.{◌≡◌, ℕ, zero, suc, ◌+◌, ◌<◌, ◌≤◌, List, [], ◌∷◌, ◌++◌, length, map, get_or, take, Some, None, slice_get, sym, ap, subst, ◌∙◌, arith}
+use Rattle.std.proofs.Common.{◌≡◌, ℕ, zero, suc, ◌+◌, ◌<◌, ◌≤◌, List, [], ◌∷◌, ◌++◌, length, map, get_or, take, Option, Some, slice_get, sym, ap, subst, ◌∙◌, arith}
 use Rattle.std.specs.Prelude.{slice_index_or}
 use Rattle.std.proofs.lemmas.List.{append-nil, append_assoc, map-append, take_all, take_more}
 use Rattle.dwz_def_reading.specs.Units.{RawUnit, entries_in}
@@ -10,9 +10,10 @@ use Rattle.dwz_unit.proofs.RowsFound.{row_is, rows-length}
 use Rattle.dwz_def_tops.specs.Spots.{EntryName}
 use Rattle.dwz_graph.specs.Index.{Index, IsIndex}
 use Rattle.dwz_graph.specs.Names.{top_in}
-use Rattle.dwz_plan.specs.declared.plan.Home.TheVariants.{Stay}
 use Rattle.dwz_plan.specs.Planned.{Planned}
-use Rattle.dwz_layout_numbers.specs.Owners.{AddsOwners, AreOwners, owner_at, owner_by}
+use Rattle.dwz_layout_numbers.specs.declared.owners.Owned.{Owned}
+use Rattle.dwz_layout_numbers.specs.Owned.{IsOwned}
+use Rattle.dwz_layout_numbers.specs.Owners.{AddsOwners, AreOwners, owner_by}
 
 pub got_or : (xs : List ℕ) (i n d : ℕ) → slice_get xs i ≡ Some n → slice_index_or xs i d ≡ n
 got_or [] i n d e = absurd cc
@@ -21,19 +22,13 @@ got_or (x ∷ xs) (suc i) n d e = got_or xs i n d e
 
 -- ---- one entry
 
-pub kept_is : (raw : List RawUnit) (olds : List ℕ) (unit i : ℕ) (x : EntryOfCode) (row : EntryRow) (kept v : ℕ) → slice_get (shown_entries raw) i ≡ Some x
-    → slice_get (rows_of raw) i ≡ Some row → slice_get olds (unit + row.unit) ≡ Some kept → v ≡ slice_index_or olds (unit + x.unit) 0
-    → v ≡ kept
-kept_is raw olds unit i x row kept v shown got old is =
-    let same : row.unit ≡ x.unit = ap (λ (w : EntryOfCode). w.unit) (row_is raw i x row shown got) in
-    is ∙ got_or olds (unit + x.unit) kept 0 (ap (λ (n : ℕ). slice_get olds (unit + n)) (sym same) ∙ old)
-
-pub owner_none : (plan : Planned) (parts : List ℕ) (s : EntryName) (v kept : ℕ) → None ≡ top_in s → v ≡ kept → v ≡ owner_by plan parts kept (top_in s)
-owner_none plan parts s v kept e is = is ∙ ap (owner_by plan parts kept) e
-
-pub owner_some : (plan : Planned) (parts : List ℕ) (s : EntryName) (top r v kept : ℕ) → Some top ≡ top_in s → r ≡ owner_at parts v (slice_index_or plan.homes top Stay) → v ≡ kept
-    → r ≡ owner_by plan parts kept (top_in s)
-owner_some plan parts s top r v kept e is same = is ∙ ap (λ (n : ℕ). owner_at parts n (slice_index_or plan.homes top Stay)) same ∙ ap (owner_by plan parts kept) e
+-- that of its unit and its top
+pub owned_is : (plan : Planned) (parts olds : List ℕ) (first : ℕ) (raw : List RawUnit) (i : ℕ) (x : EntryOfCode) (o : Owned) (s : EntryName) (row : EntryRow) (kept : ℕ) (top : Option ℕ)
+    → IsOwned plan parts olds first o → o.unit ≡ x.unit → o.top ≡ top → slice_get (shown_entries raw) i ≡ Some x → top ≡ top_in s → slice_get (rows_of raw) i ≡ Some row
+    → slice_get olds (first + row.unit) ≡ Some kept → o.number ≡ owner_by plan parts kept (top_in s)
+owned_is plan parts olds first raw i x o s row kept top is unit tops shown in_top got old =
+    let same : row.unit ≡ o.unit = ap (λ (w : EntryOfCode). w.unit) (row_is raw i x row shown got) ∙ sym unit in
+    is kept (ap (λ (n : ℕ). slice_get olds (first + n)) (sym same) ∙ old) ∙ ap (owner_by plan parts kept) (tops ∙ in_top)
 
 -- ---- one after the other
 

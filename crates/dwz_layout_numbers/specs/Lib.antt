@@ -1,5 +1,6 @@
 pub mod Images
 pub mod Owners
+pub mod Owned
 pub mod Numbering
 pub mod Whole
 pub mod Laws

@@ -2,10 +2,10 @@
 //!
 //! All is over any move of the tops of files, also where what stands for a top is one of a finished common file, which is numbered behind.
 //!
-//! `starts` and `tops` count the entries of all files; `references` gives for each reference of a file the number of what stands for its
-//! target after (`image`: two look-ups and one difference, since alike tops have trees of one shape); `befores` counts texts and numbers of
-//! files. `UnitNumbers::make` numbers the units that are written, the common file's first; `owner` and `put_owners` say in which of them an
-//! entry is written, and `put_own_units` of those of a finished common file.
+//! `starts` and `tops` number the entries of all files, `count_entries` and `count_tops` count them; `references` gives for each reference
+//! of a file the number of what stands for its target after (`image`: two look-ups and one difference, since alike tops have trees of one
+//! shape); `befores` counts texts and numbers of files. `UnitNumbers::make` numbers the units that are written, the common file's
+//! first; `put_owners` says in which of them entries are written, and `put_own_units` of those of a finished common file.
 //!
 //! Laws: `count_laws`, `image_laws`, `owner_laws`, `reach_laws`, `plan_laws`, `over_laws`.
 //!
@@ -19,9 +19,9 @@ mod laws;
 mod numbers;
 mod owners;
 
-pub use counted::{starts, tops};
+pub use counted::{count_entries, count_tops, starts, tops};
 pub use firsts::{CountsBefore, befores};
 pub use images::{image, references};
 pub use laws::{count_laws, image_laws, over_laws, owner_laws, plan_laws, reach_laws};
 pub use numbers::UnitNumbers;
-pub use owners::{owner, put_own_units, put_owners};
+pub use owners::{put_own_units, put_owners};

@@ -1,13 +1,13 @@
 //! The units in which entries are written.
 
-ghost use Rattle.std.specs.Prelude.{◌≡◌, ℕ, ◌+◌, ◌<◌, ◌++◌, List, Some, length, map, slice_get, slice_index_or, OnOk};
+ghost use Rattle.std.specs.Prelude.{◌≡◌, ◌++◌, List, length, map, slice_index_or, OnOk};
 ghost use Rattle.dwz_def_tops.specs.Spots.{EntryName};
 ghost use Rattle.dwz_def_reading.specs.Units.{entries_in};
 ghost use Rattle.dwz_graph.specs.Index.{IsIndex};
-ghost use Rattle.dwz_graph.specs.Names.{top_in};
+ghost use Rattle.dwz_layout_numbers.specs.Owned.{IsOwned};
 ghost use Rattle.dwz_layout_numbers.specs.Owners.{AddsOwners, owner_at, owner_by};
 ghost use Rattle.dwz_plan.specs.declared.plan.Home.TheVariants.{Stay};
-ghost use Rattle.dwz_unit.specs.Rows.{EntryRow, rows_of, units_of};
+ghost use Rattle.dwz_unit.specs.Rows.{rows_of, units_of};
 
 use crate::numbers::UnitNumbers;
 use dwz_graph::Index;
@@ -31,33 +31,69 @@ fn of_top(plan: &Plan, tops: &[u32], parts: &[u32], top: u32, kept: u32) -> u32
     }
 }
 
-/// The unit in which an entry is written, where it stands for itself. `tops` has for each top the number of its entry.
-#[inline(always)]
-pub fn owner(
-    units: &Units,
-    index: &Index,
-    plan: &Plan,
-    tops: &[u32],
-    numbers: &UnitNumbers,
-    entry: u32,
-) -> u32
-    requires there { entry < entries_in (units_of units.now) }
-    requires index { length index.now.steps ≡ entries_in (units_of units.now) }
-    requires plan { length plan.now.homes ≡ length tops.now }
-    ensures { (names : List EntryName) (s : EntryName) (row : EntryRow) (kept : ℕ) → IsIndex names index.now
-        → slice_get names entry ≡ Some s
-        → slice_get (rows_of (units_of units.now)) entry ≡ Some row → slice_get numbers.now.olds.items (index.now.starts.unit + row.unit)
-        ≡ Some kept → result ≡ owner_by plan.now numbers.now.parts.items kept (top_in s) }
+// Of entries of a top, or of such as are in none.
+fn number_of(plan: &Plan, tops: &[u32], parts: &[u32], top: Option<u32>, kept: u32) -> u32
+    requires { length plan.now.homes ≡ length tops.now }
+    ensures { result ≡ owner_by plan.now parts.now kept top }
 {
-    let unit = index.starts().unit as usize + units.entry(entry).unit as usize;
-    let kept = at_or(numbers.olds.as_slice(), unit, 0);
-    match index.top_of(entry) {
-        Some(top) => of_top(plan, tops, numbers.parts.as_slice(), top, kept),
+    match top {
+        Some(top) => of_top(plan, tops, parts, top, kept),
         None => kept,
     }
 }
 
-/// Adds the units in which the entries of a file are written, in order.
+// The unit in which entries are written that stand for themselves: those of a unit that are in one top, or in none.
+#[derive(Clone, Copy)]
+struct Owned {
+    unit: u32,
+    top: Option<u32>,
+    number: u32,
+}
+
+// That of a unit of a file whose first unit has that number.
+fn owned_of(
+    plan: &Plan,
+    tops: &[u32],
+    numbers: &UnitNumbers,
+    first: u32,
+    unit: u32,
+    top: Option<u32>,
+) -> Owned
+    requires { length plan.now.homes ≡ length tops.now }
+    ensures unit { result.unit ≡ unit }
+    ensures top { result.top ≡ top }
+    ensures number { IsOwned plan.now numbers.now.parts.items numbers.now.olds.items first result }
+{
+    let kept = at_or(numbers.olds.as_slice(), first as usize + unit as usize, 0);
+    let number = number_of(plan, tops, numbers.parts.as_slice(), top, kept);
+    Owned { unit, top, number }
+}
+
+// The same where that of the entry before is known.
+#[inline(always)]
+fn owned_behind(
+    before: Owned,
+    plan: &Plan,
+    tops: &[u32],
+    numbers: &UnitNumbers,
+    first: u32,
+    unit: u32,
+    top: Option<u32>,
+) -> Owned
+    requires plan { length plan.now.homes ≡ length tops.now }
+    requires before { IsOwned plan.now numbers.now.parts.items numbers.now.olds.items first before }
+    ensures unit { result.unit ≡ unit }
+    ensures top { result.top ≡ top }
+    ensures number { IsOwned plan.now numbers.now.parts.items numbers.now.olds.items first result }
+{
+    if before.unit == unit && before.top == top {
+        return before;
+    }
+    owned_of(plan, tops, numbers, first, unit, top)
+}
+
+/// Adds the units in which the entries of a file are written, where they stand for themselves, in order. `tops` has for each top the
+/// number of its entry.
 pub fn put_owners(
     owners: &mut Vec<u32>,
     units: &Units,
@@ -72,8 +108,13 @@ pub fn put_owners(
         → OnOk result (AddsOwners plan.now numbers.now.parts.items numbers.now.olds.items index.now.starts.unit
         (rows_of (units_of units.now)) names owners.old.items owners.new.items) }
 {
+    let first = index.starts().unit;
+    let mut owned = owned_of(plan, tops, numbers, first, 0, None);
     for entry in 0..units.entries() {
-        owners.push(owner(units, index, plan, tops, numbers, entry))?;
+        let unit = units.entry(entry).unit;
+        let top = index.top_of(entry);
+        owned = owned_behind(owned, plan, tops, numbers, first, unit, top);
+        owners.push(owned.number)?;
     }
     Ok(())
 }

@@ -5,7 +5,7 @@ use Rattle.dwz_layout_numbers.proofs.CountLemmas.{Tops, inside_at, left_room, to
 use Rattle.dwz_layout_numbers.proofs.counted.tops.Goals as goal
 
 pub loop-index-init : goal.loop-index-init
-loop-index-init c = subst (λ (w : List ℕ). Tops c.args.indexes.now 0 0 w) (sym c.new-tops.ensures.items) (tops_first c.args.indexes.now)
+loop-index-init c = subst (λ (w : List ℕ). Tops c.args.indexes.now 0 0 w) (sym c.in_ok-tops.ensures.items) (tops_first c.args.indexes.now)
 
 pub add_tops-requires : goal.add_tops-requires
 add_tops-requires c =

@@ -26,6 +26,7 @@ pub mod ComparedAgain
 pub mod SecondReused
 pub mod SecondAlone
 pub mod FilesReused
+pub mod RunGiven
 mod JobsDone
 mod ByNumber
 mod OneJob

@@ -8,3 +8,4 @@ pub mod BatchLaws
 pub mod SecondCall
 pub mod SecondOver
 pub mod Batching
+pub mod Given

@@ -5,8 +5,7 @@ ghost use Rattle.dwz_gen.specs.Demo.{demo_files};
 ghost use Rattle.dwz_def_run.specs.Yields.{Yields};
 ghost use Rattle.dwz_words.specs.Lawful.{word_bytes};
 
-use crate::work::FileWork;
-use crate::written::written_files;
+use crate::work::{FileWork, given_files};
 use dwz_gate::Gate;
 use dwz_outside::{Console, Files};
 use dwz_run_course::{Status, run_course};
@@ -62,6 +61,6 @@ pub fn run<Rt: Threads + Sync, F: Files, C: Console, G: Gate>(
         files,
         console,
         &FileWork,
-        &|alloc, options, contents| written_files(rt, alloc, options, contents, gate),
+        &|alloc, options, contents| given_files(rt, alloc, options, contents, gate),
     )
 }
